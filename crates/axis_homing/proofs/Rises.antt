@@ -21,7 +21,7 @@ use Rattle.trigger_group.specs.declared.order.End.{End}
 use Rattle.trigger_group.specs.declared.seen.Seen.{Seen}
 use Rattle.trigger_group.specs.declared.round.Phase.{Phase}
 use Rattle.trigger_group.specs.declared.round.Phase.TheVariants.{Sends, Goes, Rests}
-use Rattle.trigger_group.specs.Group.{GroupState, came, hears, hears_from, unseen, new_group, after_in, phase, all_fired}
+use Rattle.trigger_group.specs.Group.{GroupState, came, member_hears, hears_from, unseen, new_group, after_in, phase, all_fired}
 use Rattle.trigger_group.specs.Kept.{BoardsRise, may_be}
 use Rattle.axis_homing.specs.declared.homing.Homing.{Homing}
 use Rattle.axis_homing.specs.Homing.{moving_on, members_from, homing_with, homing_of, came_at, hears_answer, hears_news, hears_state, hears_states, hears_all, answer_in, goes_on_homing, homing_after}
@@ -34,7 +34,7 @@ hears-member false x y s h i = i
 
 from-member : (board tick turn : ℕ) (t : TrigState) (s : Seen) → (hears_from board t tick turn s).member ≡ s.member
 from-member board tick turn t s =
-    hears-member (s.member.board == board) (hears t tick turn s) s s (hears-member t.can _ _ s refl refl) refl
+    hears-member (s.member.board == board) (member_hears t tick turn s) s s (hears-member t.can _ _ s refl refl) refl
 
 members-kept : (board tick turn : ℕ) (t : TrigState) (ss : List Seen) → map (λ (s : Seen). s.member) (map (hears_from board t tick turn) ss) ≡ map (λ (s : Seen). s.member) ss
 members-kept board tick turn t [] = refl

@@ -27,7 +27,7 @@ use Rattle.trigger_group.specs.declared.round.Round.{Round}
 use Rattle.trigger_group.specs.declared.round.Round.TheVariants.{Resets, Starts, Homes, Timeouts, Relays}
 use Rattle.trigger_group.specs.declared.round.Phase.{Phase}
 use Rattle.trigger_group.specs.declared.round.Phase.TheVariants.{Sends, Goes, Rests}
-use Rattle.trigger_group.specs.Group.{GroupState, bits, first_timeout, steppers, to_board, reset, stop, unless_fired, orders_to, round_of, limit, relay_in, relays_in, all_fired, goes, orders_in, orders, phase}
+use Rattle.trigger_group.specs.Group.{GroupState, bits, first_timeout, steppers, to_board, reset, stop, unless_fired, orders_to, round_of, limit, relay_in, relays_in, all_fired, goes, orders_of_group, orders, phase}
 use Rattle.board_asking.specs.Machine.{trigger_of, steppers_on, endstop_pins, pins_of, is_among}
 use Rattle.board_asking.specs.Drift.{bytes_of}
 use Rattle.axis_homing.specs.Homing.{low, place_from, order_command, command_to, commands_to}
@@ -402,7 +402,7 @@ most-fits (Timeouts turn) = omega arith
 most-fits Relays = omega arith
 
 phase-cost : (p : Phase) (m : Machine) (clocks : Clocks) (b start : ℕ) (axis : AxisDef) (g : GroupState) (turn : ℕ) → IsValidMachine m → OneOn b g.members
-    → Cost m clocks b start axis (orders_in p g turn) ≤ 42
+    → Cost m clocks b start axis (orders_of_group p g turn) ≤ 42
 phase-cost (Sends round) m clocks b start axis g turn v o = let h = round-cost m clocks b start axis round g.members v o in let f = most-fits round in omega arith
 phase-cost Goes m clocks b start axis g turn v o =
     let h = goes-cost m clocks b start axis g turn v o in
@@ -433,7 +433,7 @@ fits m clocks b start axis g turn v r = phase-cost (phase g.start g.last turn) m
 -- a phase that is none of the three that may fill a control leaves room
 left-room : (X : Type 0) (r0 r1 r2 starts homes now : Bool) (m : Machine) (clocks : Clocks) (b start : ℕ) (axis : AxisDef) (g : GroupState) (turn first : ℕ) → IsValidMachine m → OneOn b g.members
     → (r0 ≡ true → X) → (r1 ≡ true → X) → (starts ≡ true → X)
-    → (Cost m clocks b start axis (orders_in (cond r0 (Sends (Resets 0)) (cond r1 (Sends (Resets 1)) (cond r2 (Sends (Resets 2)) (cond starts (Sends (Starts first)) (cond homes (Sends Homes) (cond now Goes Rests)))))) g turn) < 42) ⊎ X
+    → (Cost m clocks b start axis (orders_of_group (cond r0 (Sends (Resets 0)) (cond r1 (Sends (Resets 1)) (cond r2 (Sends (Resets 2)) (cond starts (Sends (Starts first)) (cond homes (Sends Homes) (cond now Goes Rests)))))) g turn) < 42) ⊎ X
 left-room X true r1 r2 starts homes now m clocks b start axis g turn first v o f h i = inr (f refl)
 left-room X false true r2 starts homes now m clocks b start axis g turn first v o f h i = inr (h refl)
 left-room X false false true starts homes now m clocks b start axis g turn first v o f h i = inl (let c = round-cost m clocks b start axis (Resets 2) g.members v o in omega arith)

@@ -23,7 +23,7 @@ use Rattle.trigger_group.specs.declared.order.Order.{Order}
 use Rattle.trigger_group.specs.declared.order.Order.TheVariants as order
 use Rattle.trigger_group.specs.declared.order.End.{End}
 use Rattle.trigger_group.specs.declared.order.End.TheVariants as end
-use Rattle.trigger_group.specs.Group.{GroupState, came, ended, orders, after, by_host, by_switch, by_timeout}
+use Rattle.trigger_group.specs.Group.{GroupState, came, ended, orders, turned_group, by_host, by_switch, by_timeout}
 use Rattle.trigger_group.specs.Kept.{group_where}
 use Rattle.axis_homing.specs.declared.homing.Homing.{Homing}
 use Rattle.axis_homing.specs.declared.homing.HomingTurn.{HomingTurn}
@@ -170,7 +170,7 @@ by_answer k h (Some (end.Expired b turn)) =
 -- the homing section behind a turn, by the group's answer: while it has none, the group as it is after the
 -- turn
 abbrev pub goes_on_homing : ℕ → Homing → Option End → Option Homing
-goes_on_homing k h None = Some (record h { group = after h.group k })
+goes_on_homing k h None = Some (record h { group = turned_group h.group k })
 goes_on_homing k h (Some end) = None
 
 -- a section's group behind the boards' states

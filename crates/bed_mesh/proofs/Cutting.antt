@@ -8,7 +8,7 @@ use Rattle.std.specs.Int.Signed.{lt_z}
 use Rattle.std.proofs.Math.Nat.{mul-lt-mul_of_pos_right}
 use Rattle.bed_mesh.specs.declared.mesh.Grid.{Grid}
 use Rattle.bed_mesh.specs.Cuts.{between, distances, placed, rungs, scaled, united}
-use Rattle.bed_mesh.specs.Lines.{first, least, passed, IsFirst}
+use Rattle.bed_mesh.specs.Lines.{first_number, least, passed, IsFirstNumber}
 
 -- a line that isn't ahead of the start is not crossed
 at_first : (span step count b : ℕ) → between span (rungs (pos 0 -ℤ pos b) step (suc count)) ≡ between span (rungs ((pos 0 -ℤ pos b) +ℤ pos step) step count)
@@ -82,19 +82,19 @@ crossed_one span step count d some inside =
     rw (a, b) refl
 
 -- the next line, where there is one
-pub none_left : (parts span step left d : ℕ) → left ≤ 0 → first (scaled parts (between span (rungs (pos d) step left))) ≡ None
+pub none_left : (parts span step left d : ℕ) → left ≤ 0 → first_number (scaled parts (between span (rungs (pos d) step left))) ≡ None
 none_left parts span step zero d h = refl
 none_left parts span step (suc left) d h = absurd (omega arith)
 
-pub none_more : (parts span step left d : ℕ) → span ≤ d → first (scaled parts (between span (rungs (pos d) step left))) ≡ None
-none_more parts span step left d h = ap (λ (l : List ℕ). first (scaled parts l)) (over span step left d h)
+pub none_more : (parts span step left d : ℕ) → span ≤ d → first_number (scaled parts (between span (rungs (pos d) step left))) ≡ None
+none_more parts span step left d h = ap (λ (l : List ℕ). first_number (scaled parts l)) (over span step left d h)
 
 pub one_more : (parts span step left d : ℕ) → 0 < left → 0 < d → d < span → scaled parts (between span (rungs (pos d) step left)) ≡ d * parts ∷ scaled parts (between span (rungs (pos (d + step)) step (left - 1)))
 one_more parts span step zero d some ahead inside = absurd (omega arith)
 one_more parts span step (suc left) d some ahead inside = let e : suc left - 1 ≡ left = omega arith in rw e (ap (scaled parts) (crossed_one span step left d ahead inside))
 
-pub first_more : (parts span step left d : ℕ) → 0 < left → 0 < d → d < span → first (scaled parts (between span (rungs (pos d) step left))) ≡ Some (d * parts)
-first_more parts span step left d some ahead inside = ap first (one_more parts span step left d some ahead inside)
+pub first_more : (parts span step left d : ℕ) → 0 < left → 0 < d → d < span → first_number (scaled parts (between span (rungs (pos d) step left))) ≡ Some (d * parts)
+first_more parts span step left d some ahead inside = ap first_number (one_more parts span step left d some ahead inside)
 
 -- they rise
 above_ahead : (parts span step left low d : ℕ) → 0 < parts → low < d → AreAbove (low * parts) (scaled parts (between span (rungs (pos d) step left)))
@@ -163,7 +163,7 @@ abbrev pub passed_if : Option ℕ → List ℕ → List ℕ
 passed_if None us = us
 passed_if (Some n) us = passed n us
 
-pub first_of_both : (ts us : List ℕ) → Rise ts → Rise us → IsFirst (least (first ts) (first us)) (united ts us) (united (passed_if (least (first ts) (first us)) ts) (passed_if (least (first ts) (first us)) us))
+pub first_of_both : (ts us : List ℕ) → Rise ts → Rise us → IsFirstNumber (least (first_number ts) (first_number us)) (united ts us) (united (passed_if (least (first_number ts) (first_number us)) ts) (passed_if (least (first_number ts) (first_number us)) us))
 first_of_both [] [] a b = refl
 first_of_both [] (u ∷ us) a b = rw (same_passed u us) refl
 first_of_both (t ∷ ts) [] a b = rw (same_passed t ts) (united_first t ts [] a.0 tt)
@@ -186,7 +186,7 @@ is_there None = Unit {0}
 is_there (Some n) = ⊥
 
 -- the line that is gone past
-pub gone_past : (parts span step left d number : ℕ) (next : Option ℕ) → 0 < d → next ≡ first (scaled parts (between span (rungs (pos d) step left))) → next ≡ Some number
+pub gone_past : (parts span step left d number : ℕ) (next : Option ℕ) → 0 < d → next ≡ first_number (scaled parts (between span (rungs (pos d) step left))) → next ≡ Some number
     → (scaled parts (between span (rungs (pos (d + step)) step (left - 1))) ≡ passed number (scaled parts (between span (rungs (pos d) step left)))) × (0 < left)
 gone_past parts span step left d number next ahead is it =
     by_lt 0 left
@@ -203,14 +203,14 @@ gone_past parts span step left d number next ahead is it =
     none_such : {X : Type 0} → None ≡ Some number → X
     none_such e = absurd (subst (λ (o : Option ℕ). is_there o) e tt)
 
-at_some : (o : Option ℕ) (n : ℕ) (ts us : List ℕ) → o ≡ Some n → IsFirst o (united ts us) (united (passed_if o ts) (passed_if o us)) → united ts us ≡ n ∷ united (passed n ts) (passed n us)
-at_some o n ts us e = subst (λ (p : Option ℕ). IsFirst p (united ts us) (united (passed_if p ts) (passed_if p us)) → united ts us ≡ n ∷ united (passed n ts) (passed n us)) (sym e) (λ h. h)
+at_some : (o : Option ℕ) (n : ℕ) (ts us : List ℕ) → o ≡ Some n → IsFirstNumber o (united ts us) (united (passed_if o ts) (passed_if o us)) → united ts us ≡ n ∷ united (passed n ts) (passed n us)
+at_some o n ts us e = subst (λ (p : Option ℕ). IsFirstNumber p (united ts us) (united (passed_if p ts) (passed_if p us)) → united ts us ≡ n ∷ united (passed n ts) (passed n us)) (sym e) (λ h. h)
 
 -- the next of both lists is gone past
-pub first_gone : (ts us ts' us' : List ℕ) (x y o : Option ℕ) (n : ℕ) → Rise ts → Rise us → x ≡ first ts → y ≡ first us → o ≡ least x y → o ≡ Some n → ts' ≡ passed n ts → us' ≡ passed n us → united ts us ≡ n ∷ united ts' us'
+pub first_gone : (ts us ts' us' : List ℕ) (x y o : Option ℕ) (n : ℕ) → Rise ts → Rise us → x ≡ first_number ts → y ≡ first_number us → o ≡ least x y → o ≡ Some n → ts' ≡ passed n ts → us' ≡ passed n us → united ts us ≡ n ∷ united ts' us'
 first_gone ts us ts' us' x y o n a b xs ys os is t u =
-    let l : least (first ts) (first us) ≡ Some n = ap (λ (z : Option ℕ). least z (first us)) (sym xs) ∙ ap (least x) (sym ys) ∙ sym os ∙ is in
-    rw (t, u) (at_some (least (first ts) (first us)) n ts us l (first_of_both ts us a b))
+    let l : least (first_number ts) (first_number us) ≡ Some n = ap (λ (z : Option ℕ). least z (first_number us)) (sym xs) ∙ ap (least x) (sym ys) ∙ sym os ∙ is in
+    rw (t, u) (at_some (least (first_number ts) (first_number us)) n ts us l (first_of_both ts us a b))
 
 -- one cut more
 pub cut_more : (f : ℕ → List ℤ) (places new all : List (List ℤ)) (place : List ℤ) (n : ℕ) (ns rest : List ℕ) → new ≡ places ++ place ∷ [] → place ≡ f n → ns ≡ n ∷ rest → places ++ map f ns ≡ all → new ++ map f rest ≡ all

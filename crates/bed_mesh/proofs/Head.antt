@@ -4,27 +4,27 @@ use Rattle.std.proofs.Common.{sym}
 use Rattle.std.specs.Prelude.{Result, MatchResult}
 use Rattle.plan_types.specs.declared.cause.LineKind.{LineKind}
 use Rattle.text_core.specs.Numbers.{value_of}
-use Rattle.gcode_text.specs.Commands.{entry_of, head_of, unnumbered}
-use Rattle.gcode_text.specs.Lines.{no_words, reading, words_of}
+use Rattle.gcode_text.specs.Commands.{table_entry, head_of, unnumbered}
+use Rattle.gcode_text.specs.Lines.{no_words, reading, given_words}
 use Rattle.gcode_text.specs.declared.word.Word.TheVariants as words
 use Rattle.gcode_text.specs.declared.word.Command.TheVariants as names
 use Rattle.gcode_state.specs.declared.state.State.{State}
 use Rattle.gcode_program.specs.Readings.{applied_line, line_result}
-use Rattle.bed_mesh.specs.Files.{accepted}
+use Rattle.bed_mesh.specs.Files.{accepted_state}
 
 pub absolute : reading (codes "G90") ≡ Ok (words.Command names.G90 no_words)
-unfolding reading head_of unnumbered entry_of words_of value_of
+unfolding reading head_of unnumbered table_entry given_words value_of
 absolute = refl
 
 pub relative : reading (codes "M83") ≡ Ok (words.Command names.M83 no_words)
-unfolding reading head_of unnumbered entry_of words_of value_of
+unfolding reading head_of unnumbered table_entry given_words value_of
 relative = refl
 
-pub after_absolute : (s : State) → accepted 0 s (codes "G90" ∷ []) ≡ Ok (record s { relative = false })
+pub after_absolute : (s : State) → accepted_state 0 s (codes "G90" ∷ []) ≡ Ok (record s { relative = false })
 unfolding line_result applied_line
 after_absolute s = rw absolute refl
 
-pub after_relative : (s : State) → accepted 4 s (codes "M83" ∷ []) ≡ Ok (record s { relative_e = true })
+pub after_relative : (s : State) → accepted_state 4 s (codes "M83" ∷ []) ≡ Ok (record s { relative_e = true })
 unfolding line_result applied_line
 after_relative s = rw relative refl
 

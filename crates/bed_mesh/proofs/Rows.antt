@@ -8,7 +8,7 @@ use Rattle.plan_types.specs.declared.cause.MeshKind.{MeshKind}
 use Rattle.bed_mesh.specs.declared.mesh.Grid.{Grid}
 use Rattle.bed_mesh.specs.declared.table.Grids.{Grids}
 use Rattle.bed_mesh.specs.declared.fault.MeshFault.{MeshFault}
-use Rattle.bed_mesh.specs.Tables.{chosen, grids_of, six_grids, row_of, rows_of, with_front, before_numbers, numbers_of, word_number, word_numbers}
+use Rattle.bed_mesh.specs.Tables.{chosen, grids_of, six_grids, height_row, rows_of, heights_behind, before_numbers, numbers_of, word_number, word_numbers}
 use Rattle.bed_mesh.specs.Taken.{IsSoFar, before_all}
 
 joined : (front : List ℤ) (n : ℤ) (o : Option (List ℤ)) → before_all (front ++ n ∷ []) o ≡ before_all front (before_numbers (Some n) o)
@@ -80,13 +80,13 @@ all_there words count old new left all is none so =
     let numbers : word_numbers words ≡ Some (so.front ++ []) = sym so.numbers ∙ ap (λ (l : List Text). before_all so.front (word_numbers l)) is in
     (so.front, rw (yes, numbers, append-nil) refl, so.added)
 
-fronts : (front row : List ℤ) (r : Result (List ℤ) MeshFault) → with_front (front ++ row) r ≡ with_front front (with_front row r)
+fronts : (front row : List ℤ) (r : Result (List ℤ) MeshFault) → heights_behind (front ++ row) r ≡ heights_behind front (heights_behind row r)
 fronts front row (Ok heights) = ap (λ (l : List ℤ). Ok l) (append_assoc front row heights)
 fronts front row (Err fault) = refl
 
 -- one row more
-pub row_more : (count left fewer number : ℕ) (front new row : List ℤ) (ws : List Text) (lines later : List (ℕ × List Text)) → left ≡ fewer + 1 → row_of count ws ≡ Ok row → new ≡ front ++ row → lines ≡ (number, ws) ∷ later
-    → with_front new (rows_of count fewer later) ≡ with_front front (rows_of count left lines)
+pub row_more : (count left fewer number : ℕ) (front new row : List ℤ) (ws : List Text) (lines later : List (ℕ × List Text)) → left ≡ fewer + 1 → height_row count ws ≡ Ok row → new ≡ front ++ row → lines ≡ (number, ws) ∷ later
+    → heights_behind new (rows_of count fewer later) ≡ heights_behind front (rows_of count left lines)
 row_more count left fewer number front new row ws lines later less is add lines_are =
     let one : left ≡ suc fewer = omega arith in
     rw (add, lines_are, one, is) (fronts front row (rows_of count fewer later))

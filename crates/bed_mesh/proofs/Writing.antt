@@ -10,7 +10,7 @@ use Rattle.plan_types.specs.declared.cause.LineKind.{LineKind}
 use Rattle.gcode_state.specs.declared.state.State.{State}
 use Rattle.gcode_state.specs.declared.state.Action.{Action}
 use Rattle.gcode_program.specs.Readings.{line_result}
-use Rattle.bed_mesh.specs.Files.{accepted, on_accepted}
+use Rattle.bed_mesh.specs.Files.{accepted_state, on_accepted}
 use Rattle.std.specs.List.{All}
 use Rattle.std.proofs.Common.{suc, ◌*◌}
 use Rattle.std.specs.Prelude.{pos, ◌-ℤ◌}
@@ -22,15 +22,15 @@ use Rattle.bed_mesh.specs.Cuts.{IsOnTheWay}
 use Rattle.bed_mesh.specs.declared.back.Halt.{Halt}
 use Rattle.bed_mesh.specs.declared.back.Halt.TheVariants.{Memory, Refused}
 use Rattle.bed_mesh.specs.declared.mesh.Mesh.{Mesh}
-use Rattle.bed_mesh.specs.BentLines.{at, move_line, move_lines, text_of}
-use Rattle.bed_mesh.specs.Room.{AreWritten, HasRoom, IsNearPlace, IsWhy}
+use Rattle.bed_mesh.specs.BentLines.{at, move_line, move_lines, joined_lines}
+use Rattle.bed_mesh.specs.Room.{AreWritten, HasLineRoom, IsNearPlace, IsWhy}
 
 -- one line, and those behind it
-pub then_accepted : (start : ℕ) (s t : State) (line : List ℕ) (lines : List (List ℕ)) → accepted start s (line ∷ []) ≡ Ok t → accepted start s (line ∷ lines) ≡ accepted (start + (length line + 1)) t lines
+pub then_accepted : (start : ℕ) (s t : State) (line : List ℕ) (lines : List (List ℕ)) → accepted_state start s (line ∷ []) ≡ Ok t → accepted_state start s (line ∷ lines) ≡ accepted_state (start + (length line + 1)) t lines
 then_accepted start s t line lines h = go (line_result _ start s line) h
   where
-    go : (r : Result (State × Action) LineKind) → on_accepted r (λ u. Ok u) ≡ Ok t → on_accepted r (λ u. accepted (start + (length line + 1)) u lines) ≡ accepted (start + (length line + 1)) t lines
-    go (Ok next) e = (let f : next.0 ≡ t = cc in ap (λ u. accepted (start + (length line + 1)) u lines) f)
+    go : (r : Result (State × Action) LineKind) → on_accepted r (λ u. Ok u) ≡ Ok t → on_accepted r (λ u. accepted_state (start + (length line + 1)) u lines) ≡ accepted_state (start + (length line + 1)) t lines
+    go (Ok next) e = (let f : next.0 ≡ t = cc in ap (λ u. accepted_state (start + (length line + 1)) u lines) f)
     go (Err kind) e = absurd cc
 
 pub near_same : (z : ℤ) → unsigned_abs z < 2 ^ 63 → to_z w64 (of_z w64 z) ≡ z
@@ -41,19 +41,19 @@ pub five_words : (t t1 t2 t3 t4 t5 a b c d e : List ℕ) (v w x y z v' w' x' y' 
 five_words t t1 t2 t3 t4 t5 a b c d e v w x y z v' w' x' y' z' f g h i j k l m n o =
     rw (j, i, h, g, f, k, l, m, n, o) (append_assoc _ (word d y) (word e z) ∙ append_assoc _ (word c x) (word d y ++ word e z) ∙ append_assoc _ (word b w) (word c x ++ (word d y ++ word e z)) ∙ append_assoc t (word a v) (word b w ++ (word c x ++ (word d y ++ word e z))))
 
-size_of : (text text' line : List ℕ) → text' ≡ text ++ text_of (line ∷ []) → length text' ≡ length text + (length line + 1)
+size_of : (text text' line : List ℕ) → text' ≡ text ++ joined_lines (line ∷ []) → length text' ≡ length text + (length line + 1)
 size_of text text' line e = ap length e ∙ length-append text (line ++ 10 ∷ []) ∙ ap (λ (n : ℕ). length text + n) (length-append line (10 ∷ []))
 
 -- one line more was written
-pub line_more : (start : ℕ) (s t : State) (text text' line : List ℕ) (lines : List (List ℕ)) (all : Result State LineKind) → AreWritten start s text (line ∷ []) t text' → accepted (start + length text) s (line ∷ lines) ≡ all
-    → accepted (start + length text') t lines ≡ all
+pub line_more : (start : ℕ) (s t : State) (text text' line : List ℕ) (lines : List (List ℕ)) (all : Result State LineKind) → AreWritten start s text (line ∷ []) t text' → accepted_state (start + length text) s (line ∷ lines) ≡ all
+    → accepted_state (start + length text') t lines ≡ all
 line_more start s t text text' line lines all w is =
     let n = size_of text text' line w.text in
     let e : start + length text' ≡ start + length text + (length line + 1) = omega arith in
     rw e (sym (then_accepted (start + length text) s t line lines w.accepted_is) ∙ is)
 
-pub text_more : (text text' line all : List ℕ) (lines : List (List ℕ)) → text' ≡ text ++ text_of (line ∷ []) → text ++ text_of (line ∷ lines) ≡ all → text' ++ text_of lines ≡ all
-text_more text text' line all lines e is = rw e (append_assoc text (line ++ 10 ∷ []) (text_of lines) ∙ ap (λ (l : List ℕ). text ++ l) (append_assoc line (10 ∷ []) (text_of lines)) ∙ is)
+pub text_more : (text text' line all : List ℕ) (lines : List (List ℕ)) → text' ≡ text ++ joined_lines (line ∷ []) → text ++ joined_lines (line ∷ lines) ≡ all → text' ++ joined_lines lines ≡ all
+text_more text text' line all lines e is = rw e (append_assoc text (line ++ 10 ∷ []) (joined_lines lines) ∙ ap (λ (l : List ℕ). text ++ l) (append_assoc line (10 ∷ []) (joined_lines lines)) ∙ is)
 
 -- the places of a list, one by one
 pub near_first : (places others : List (List ℤ)) (place : List ℤ) → places ≡ place ∷ others → All IsNearPlace places → IsNearPlace place
@@ -62,13 +62,13 @@ near_first places others place e all = let h : All IsNearPlace (place ∷ others
 pub near_rest : (places others : List (List ℤ)) (place : List ℤ) → places ≡ place ∷ others → All IsNearPlace places → All IsNearPlace others
 near_rest places others place e all = let h : All IsNearPlace (place ∷ others) = subst (λ (l : List (List ℤ)). All IsNearPlace l) e all in λ k d less. h (suc k) d (omega arith)
 
-pub ends_more : (t : Mesh) (speed start : ℕ) (s : State) (from place : List ℤ) (places others : List (List ℤ)) (all : Result State LineKind) → places ≡ place ∷ others → accepted start s (move_lines t speed from places) ≡ all
-    → accepted start s (move_line t speed from place ∷ move_lines t speed place others) ≡ all
-ends_more t speed start s from place places others all e is = ap (λ (l : List (List ℤ)). accepted start s (move_lines t speed from l)) (sym e) ∙ is
+pub ends_more : (t : Mesh) (speed start : ℕ) (s : State) (from place : List ℤ) (places others : List (List ℤ)) (all : Result State LineKind) → places ≡ place ∷ others → accepted_state start s (move_lines t speed from places) ≡ all
+    → accepted_state start s (move_line t speed from place ∷ move_lines t speed place others) ≡ all
+ends_more t speed start s from place places others all e is = ap (λ (l : List (List ℤ)). accepted_state start s (move_lines t speed from l)) (sym e) ∙ is
 
-pub texts_more : (t : Mesh) (speed : ℕ) (text : List ℕ) (at_from at_place : List ℤ) (places others : List (List ℤ)) (all : List ℕ) → places ≡ at_place ∷ others → text ++ text_of (move_lines t speed at_from places) ≡ all
-    → text ++ text_of (move_line t speed at_from at_place ∷ move_lines t speed at_place others) ≡ all
-texts_more t speed text at_from at_place places others all e is = ap (λ (l : List (List ℤ)). text ++ text_of (move_lines t speed at_from l)) (sym e) ∙ is
+pub texts_more : (t : Mesh) (speed : ℕ) (text : List ℕ) (at_from at_place : List ℤ) (places others : List (List ℤ)) (all : List ℕ) → places ≡ at_place ∷ others → text ++ joined_lines (move_lines t speed at_from places) ≡ all
+    → text ++ joined_lines (move_line t speed at_from at_place ∷ move_lines t speed at_place others) ≡ all
+texts_more t speed text at_from at_place places others all e is = ap (λ (l : List (List ℤ)). text ++ joined_lines (move_lines t speed at_from l)) (sym e) ∙ is
 
 -- a place on the way of a move is near
 within : (b place from to : ℤ) (most : ℕ) → unsigned_abs (place -ℤ from) ≤ unsigned_abs (to -ℤ from) → unsigned_abs from ≤ most → unsigned_abs to ≤ most → unsigned_abs place ≤ 3 * most
@@ -95,46 +95,46 @@ pub near_ways : (m : Move) (places : List (List ℤ)) → IsValidMove m → IsRe
 near_ways m places v r all = λ k d h. near_way m _ v r (all k d h)
 
 -- two lots of lines, one behind the other
-pub both_ok : (a b : List (List ℕ)) (n : ℕ) (s t : State) → accepted n s a ≡ Ok t → accepted n s (a ++ b) ≡ accepted (n + length (text_of a)) t b
+pub both_ok : (a b : List (List ℕ)) (n : ℕ) (s t : State) → accepted_state n s a ≡ Ok t → accepted_state n s (a ++ b) ≡ accepted_state (n + length (joined_lines a)) t b
 both_ok [] b n s t e = let f : s ≡ t = cc in let g : n + 0 ≡ n = omega arith in rw (g, f) refl
 both_ok (line ∷ a) b n s t e =
-    let size : n + length (line ++ 10 ∷ text_of a) ≡ n + (length line + 1) + length (text_of a) = (let l = length-append line (10 ∷ text_of a) in omega arith) in
+    let size : n + length (line ++ 10 ∷ joined_lines a) ≡ n + (length line + 1) + length (joined_lines a) = (let l = length-append line (10 ∷ joined_lines a) in omega arith) in
     rw size (go (line_result _ n s line) e (λ u f. both_ok a b (n + (length line + 1)) u t f))
   where
-    go : (r : Result (State × Action) LineKind) → on_accepted r (λ u. accepted (n + (length line + 1)) u a) ≡ Ok t
-        → ((u : State) → accepted (n + (length line + 1)) u a ≡ Ok t → accepted (n + (length line + 1)) u (a ++ b) ≡ accepted (n + (length line + 1) + length (text_of a)) t b)
-        → on_accepted r (λ u. accepted (n + (length line + 1)) u (a ++ b)) ≡ accepted (n + (length line + 1) + length (text_of a)) t b
+    go : (r : Result (State × Action) LineKind) → on_accepted r (λ u. accepted_state (n + (length line + 1)) u a) ≡ Ok t
+        → ((u : State) → accepted_state (n + (length line + 1)) u a ≡ Ok t → accepted_state (n + (length line + 1)) u (a ++ b) ≡ accepted_state (n + (length line + 1) + length (joined_lines a)) t b)
+        → on_accepted r (λ u. accepted_state (n + (length line + 1)) u (a ++ b)) ≡ accepted_state (n + (length line + 1) + length (joined_lines a)) t b
     go (Ok next) f more = more next.0 f
     go (Err kind) f more = absurd cc
 
-pub both_err : (a b : List (List ℕ)) (n : ℕ) (s : State) (kind : LineKind) → accepted n s a ≡ Err kind → accepted n s (a ++ b) ≡ Err kind
+pub both_err : (a b : List (List ℕ)) (n : ℕ) (s : State) (kind : LineKind) → accepted_state n s a ≡ Err kind → accepted_state n s (a ++ b) ≡ Err kind
 both_err [] b n s kind e = absurd cc
 both_err (line ∷ a) b n s kind e = go (line_result _ n s line) e (λ u f. both_err a b (n + (length line + 1)) u kind f)
   where
-    go : (r : Result (State × Action) LineKind) → on_accepted r (λ u. accepted (n + (length line + 1)) u a) ≡ Err kind
-        → ((u : State) → accepted (n + (length line + 1)) u a ≡ Err kind → accepted (n + (length line + 1)) u (a ++ b) ≡ Err kind)
-        → on_accepted r (λ u. accepted (n + (length line + 1)) u (a ++ b)) ≡ Err kind
+    go : (r : Result (State × Action) LineKind) → on_accepted r (λ u. accepted_state (n + (length line + 1)) u a) ≡ Err kind
+        → ((u : State) → accepted_state (n + (length line + 1)) u a ≡ Err kind → accepted_state (n + (length line + 1)) u (a ++ b) ≡ Err kind)
+        → on_accepted r (λ u. accepted_state (n + (length line + 1)) u (a ++ b)) ≡ Err kind
     go (Ok next) f more = more next.0 f
     go (Err other) f more = f
 
-pub texts_both : (a b : List (List ℕ)) → text_of (a ++ b) ≡ text_of a ++ text_of b
+pub texts_both : (a b : List (List ℕ)) → joined_lines (a ++ b) ≡ joined_lines a ++ joined_lines b
 texts_both [] b = refl
-texts_both (line ∷ a) b = ap (λ (l : List ℕ). line ++ 10 ∷ l) (texts_both a b) ∙ sym (append_assoc line (10 ∷ text_of a) (text_of b))
+texts_both (line ∷ a) b = ap (λ (l : List ℕ). line ++ 10 ∷ l) (texts_both a b) ∙ sym (append_assoc line (10 ∷ joined_lines a) (joined_lines b))
 
-at_end : (start : ℕ) (text text' : List ℕ) (a : List (List ℕ)) → text' ≡ text ++ text_of a → start + length text' ≡ start + length text + length (text_of a)
-at_end start text text' a e = let l = ap length e ∙ length-append text (text_of a) in omega arith
+at_end : (start : ℕ) (text text' : List ℕ) (a : List (List ℕ)) → text' ≡ text ++ joined_lines a → start + length text' ≡ start + length text + length (joined_lines a)
+at_end start text text' a e = let l = ap length e ∙ length-append text (joined_lines a) in omega arith
 
 pub written_both : (start : ℕ) (s t u : State) (text mid end : List ℕ) (a b : List (List ℕ)) → AreWritten start s text a t mid → AreWritten start t mid b u end → AreWritten start s text (a ++ b) u end
 written_both start s t u text mid end a b one two = record {
-  accepted_is = both_ok a b (start + length text) s t one.accepted_is ∙ ap (λ (n : ℕ). accepted n t b) (sym (at_end start text mid a one.text)) ∙ two.accepted_is;
-  text = two.text ∙ ap (λ (l : List ℕ). l ++ text_of b) one.text ∙ append_assoc text (text_of a) (text_of b) ∙ ap (λ (l : List ℕ). text ++ l) (sym (texts_both a b));
+  accepted_is = both_ok a b (start + length text) s t one.accepted_is ∙ ap (λ (n : ℕ). accepted_state n t b) (sym (at_end start text mid a one.text)) ∙ two.accepted_is;
+  text = two.text ∙ ap (λ (l : List ℕ). l ++ joined_lines b) one.text ∙ append_assoc text (joined_lines a) (joined_lines b) ∙ ap (λ (l : List ℕ). text ++ l) (sym (texts_both a b));
   room = two.room;
 }
 
-pub why_first : (start : ℕ) (s : State) (text : List ℕ) (a b : List (List ℕ)) (h : Halt) → IsWhy h (accepted (start + length text) s a) → IsWhy h (accepted (start + length text) s (a ++ b))
+pub why_first : (start : ℕ) (s : State) (text : List ℕ) (a b : List (List ℕ)) (h : Halt) → IsWhy h (accepted_state (start + length text) s a) → IsWhy h (accepted_state (start + length text) s (a ++ b))
 why_first start s text a b Memory w = tt
 why_first start s text a b (Refused kind) w = both_err a b (start + length text) s kind w
 
-pub why_second : (start : ℕ) (s t : State) (text mid : List ℕ) (a b : List (List ℕ)) (h : Halt) → AreWritten start s text a t mid → IsWhy h (accepted (start + length mid) t b) → IsWhy h (accepted (start + length text) s (a ++ b))
+pub why_second : (start : ℕ) (s t : State) (text mid : List ℕ) (a b : List (List ℕ)) (h : Halt) → AreWritten start s text a t mid → IsWhy h (accepted_state (start + length mid) t b) → IsWhy h (accepted_state (start + length text) s (a ++ b))
 why_second start s t text mid a b Memory one w = tt
-why_second start s t text mid a b (Refused kind) one w = both_ok a b (start + length text) s t one.accepted_is ∙ ap (λ (n : ℕ). accepted n t b) (sym (at_end start text mid a one.text)) ∙ w
+why_second start s t text mid a b (Refused kind) one w = both_ok a b (start + length text) s t one.accepted_is ∙ ap (λ (n : ℕ). accepted_state n t b) (sym (at_end start text mid a one.text)) ∙ w

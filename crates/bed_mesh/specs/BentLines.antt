@@ -6,7 +6,7 @@ use Rattle.gcode_state.specs.declared.state.Action.{Action}
 use Rattle.gcode_state.specs.declared.state.Action.TheVariants as actions
 use Rattle.bed_mesh.specs.declared.mesh.Mesh.{Mesh}
 use Rattle.bed_mesh.specs.Grids.{height}
-use Rattle.bed_mesh.specs.Cuts.{ends}
+use Rattle.bed_mesh.specs.Cuts.{cut_ends}
 use Rattle.bed_mesh.specs.Numbers.{word}
 
 -- a coordinate of a place
@@ -39,7 +39,7 @@ new_acceleration last a = if a == last then [] else acceleration_line a ∷ []
 
 -- the lines of a move that is cut at the lines of a bed's mesh
 abbrev pub all_lines : Mesh → ℕ → Move → List (List ℕ)
-all_lines t last m = new_acceleration last m.a ++ move_lines t m.v m.from (ends t m)
+all_lines t last m = new_acceleration last m.a ++ move_lines t m.v m.from (cut_ends t m)
 
 -- the letter of an axis behind a blank, where it is homed
 abbrev pub letter_if : Bool → List ℕ → List ℕ
@@ -67,6 +67,6 @@ last_by last (actions.Move m) = m.a
 last_by last other = last
 
 -- lines as a text: each with its LF
-abbrev pub text_of : List (List ℕ) → List ℕ
-text_of [] = []
-text_of (line ∷ lines) = line ++ 10 ∷ text_of lines
+abbrev pub joined_lines : List (List ℕ) → List ℕ
+joined_lines [] = []
+joined_lines (line ∷ lines) = line ++ 10 ∷ joined_lines lines

@@ -50,8 +50,8 @@ scaled parts = map (λ d. d * parts)
 -- Into how many parts a move is thought to be divided. The fraction of the move at which it crosses a line of
 -- x is a distance by the change of x, and likewise of y; in these parts both are whole numbers, and their
 -- order is that of the fractions.
-abbrev pub parts_of : Move → ℕ
-parts_of m = breadth m 0 * breadth m 1
+abbrev pub part_count : Move → ℕ
+part_count m = breadth m 0 * breadth m 1
 
 -- the numbers of parts at which a move crosses lines of x or y, rising, each once
 unfoldable pub cut_parts : Mesh → Move → List ℕ
@@ -61,7 +61,7 @@ cut_parts t m =
 
 -- a coordinate behind so many parts of a move: its change by then is rounded down
 abbrev pub coordinate_behind : Move → ℕ → ℕ → ℤ
-coordinate_behind m n k = slice_index_or m.from k (pos 0) +ℤ int_div_euclid (change m k *ℤ pos n) (pos (parts_of m))
+coordinate_behind m n k = slice_index_or m.from k (pos 0) +ℤ int_div_euclid (change m k *ℤ pos n) (pos (part_count m))
 
 -- where a move is behind so many parts; on a line that it crosses there, its coordinate is the line's
 unfoldable pub place_behind : Move → ℕ → List ℤ
@@ -70,8 +70,8 @@ place_behind m n =
 
 -- the ends of a move that is cut at each line of x or y strictly between its ends: its cuts in order, and
 -- then its target
-unfoldable pub ends : Mesh → Move → List (List ℤ)
-ends t m = map (place_behind m) (cut_parts t m) ++ m.to ∷ []
+unfoldable pub cut_ends : Mesh → Move → List (List ℤ)
+cut_ends t m = map (place_behind m) (cut_parts t m) ++ m.to ∷ []
 
 -- a place is no farther from a move's start than its target, along each coordinate
 pub record IsOnTheWay (m : Move) (place : List ℤ) : Type 0 where

@@ -13,7 +13,7 @@ use Rattle.gcode_state.specs.declared.state.Action.TheVariants as actions
 use Rattle.gcode_state.specs.Starts.{initial}
 use Rattle.gcode_program.specs.Readings.{is_passed, line_result}
 use Rattle.bed_mesh.specs.declared.mesh.Mesh.{Mesh}
-use Rattle.bed_mesh.specs.BentLines.{last_by, lines_by, text_of}
+use Rattle.bed_mesh.specs.BentLines.{last_by, lines_by, joined_lines}
 
 -- what goes on behind a line that is accepted; one that isn't ends it
 abbrev pub on_accepted : Result (State × Action) LineKind → (State → Result State LineKind) → Result State LineKind
@@ -22,11 +22,11 @@ on_accepted (Ok next) rest = rest next.0
 
 -- The state behind lines that are read behind this state, in a text in which so many bytes stand before them;
 -- or why the first one that is refused is so.
-abbrev pub accepted : ℕ → State → List (List ℕ) → Result State LineKind
-accepted start s [] = Ok s
-accepted start s (line ∷ lines) =
+abbrev pub accepted_state : ℕ → State → List (List ℕ) → Result State LineKind
+accepted_state start s [] = Ok s
+accepted_state start s (line ∷ lines) =
     on_accepted (line_result (start + (length line + 1)) start s line)
-    (λ t. accepted (start + (length line + 1)) t lines)
+    (λ t. accepted_state (start + (length line + 1)) t lines)
 
 -- how far what was written has come: how many bytes it has, the state behind it, and the acceleration that
 -- was written last
@@ -48,32 +48,33 @@ abbrev pub refused : ℕ → LineKind → Sheet
 refused number kind = record { code = []; lines = 0; passed = 0; stop = Refused number kind }
 
 -- a sheet with more before it
-abbrev pub with_front : List ℕ → ℕ → ℕ → Sheet → Sheet
-with_front front lines passed s =
+abbrev pub sheet_behind : List ℕ → ℕ → ℕ → Sheet → Sheet
+sheet_behind front lines passed s =
     record { code = front ++ s.code; lines = lines + s.lines; passed = passed + s.passed; stop = s.stop }
 
 -- a sheet behind a line that was read, by its action: a stop ends it
 abbrev pub behind_action : ℕ → Bool → List ℕ → Action → Sheet → Sheet
 behind_action number passed text actions.Stop rest =
     record { code = text; lines = 1; passed = one_if passed; stop = Stop number }
-behind_action number passed text action rest = with_front text 1 (one_if passed) rest
+behind_action number passed text action rest = sheet_behind text 1 (one_if passed) rest
 
 -- the pen behind what was written for an action
 abbrev pub moved_pen : Pen → List (List ℕ) → State → Action → Pen
 moved_pen p lines s action =
-    record { start = p.start + length (text_of lines); modes = s; last = last_by p.last action }
+    record { start = p.start + length (joined_lines lines); modes = s; last = last_by p.last action }
 
 -- Where the written lines are refused, the line for which they are written is.
 abbrev pub behind_lines : ℕ → Bool → Pen → List (List ℕ) → Action → Result State LineKind → (Pen → Sheet) → Sheet
 behind_lines number passed p lines action (Err kind) rest = refused number kind
 behind_lines number passed p lines action (Ok s) rest =
-    behind_action number passed (text_of lines) action (rest (moved_pen p lines s action))
+    behind_action number passed (joined_lines lines) action (rest (moved_pen p lines s action))
 
 -- a sheet behind a line, by its reading: what is written for it is read and applied as well
 abbrev pub behind_line : Mesh → ℕ → Bool → Pen → Result (State × Action) LineKind → (State → Pen → Sheet) → Sheet
 behind_line t number passed p (Err kind) rest = refused number kind
 behind_line t number passed p (Ok next) rest =
-    behind_lines number passed p (lines_by t p.last next.1) next.1 (accepted p.start p.modes (lines_by t p.last next.1))
+    behind_lines number passed p (lines_by t p.last next.1) next.1
+    (accepted_state p.start p.modes (lines_by t p.last next.1))
     (rest next.0)
 
 -- What is written for lines, line by line: for each one that is read and applies, as long as what is written

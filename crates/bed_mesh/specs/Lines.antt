@@ -30,9 +30,9 @@ pub record AreCuts (c : Cuts) : Type 0 where
   pub y_inside : c.y.span * c.y.parts ≤ c.whole
 
 -- a list's first number
-abbrev pub first : List ℕ → Option ℕ
-first [] = None
-first (n ∷ ns) = Some n
+abbrev pub first_number : List ℕ → Option ℕ
+first_number [] = None
+first_number (n ∷ ns) = Some n
 
 -- a list without its first number, where it is this one
 abbrev pub passed : ℕ → List ℕ → List ℕ
@@ -46,6 +46,6 @@ least (Some n) None = Some n
 least (Some n) (Some k) = Some (min n k)
 
 -- a list's first number, and what is behind it
-abbrev pub IsFirst : Option ℕ → List ℕ → List ℕ → Type 0
-IsFirst None numbers rest = numbers ≡ []
-IsFirst (Some n) numbers rest = numbers ≡ n ∷ rest
+abbrev pub IsFirstNumber : Option ℕ → List ℕ → List ℕ → Type 0
+IsFirstNumber None numbers rest = numbers ≡ []
+IsFirstNumber (Some n) numbers rest = numbers ≡ n ∷ rest

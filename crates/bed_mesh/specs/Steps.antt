@@ -7,8 +7,8 @@ use Rattle.bed_mesh.specs.declared.mesh.Mesh.{Mesh}
 use Rattle.bed_mesh.specs.declared.back.Halt.{Halt}
 use Rattle.bed_mesh.specs.declared.back.Halt.TheVariants.{Memory, Refused}
 use Rattle.bed_mesh.specs.declared.file.Writer.{Writer}
-use Rattle.bed_mesh.specs.Files.{Pen, Sheet, accepted, behind_action, behind_line, refused}
-use Rattle.bed_mesh.specs.BentLines.{last_by, lines_by, text_of}
+use Rattle.bed_mesh.specs.Files.{Pen, Sheet, accepted_state, behind_action, behind_line, refused}
+use Rattle.bed_mesh.specs.BentLines.{last_by, lines_by, joined_lines}
 
 -- how far a writer has come
 abbrev pub pen_of : Writer → Pen
@@ -21,8 +21,8 @@ pub record HasSpace (w : Writer) : Type 0 where
 
 -- a writer added the lines of an action, which were all accepted
 pub record IsAdded (t : Mesh) (old : Writer) (action : Action) (new : Writer) : Type 0 where
-  pub accepted_is : accepted (length old.code.items) old.modes (lines_by t old.last action) ≡ Ok new.modes
-  pub code : new.code.items ≡ old.code.items ++ text_of (lines_by t old.last action)
+  pub accepted_is : accepted_state (length old.code.items) old.modes (lines_by t old.last action) ≡ Ok new.modes
+  pub code : new.code.items ≡ old.code.items ++ joined_lines (lines_by t old.last action)
   pub last : new.last ≡ last_by old.last action
   pub space : HasSpace new
 
@@ -40,6 +40,6 @@ IsHalt t size start s line p (Refused kind) =
     behind_line t number passed p (line_result size start s line) rest ≡ refused number kind
 
 -- a line that is refused leaves what was written before it
-abbrev pub IsKept : Halt → Writer → Writer → Type 0
-IsKept Memory old new = ⊤
-IsKept (Refused kind) old new = new.code.items ≡ old.code.items
+abbrev pub LeavesWritten : Halt → Writer → Writer → Type 0
+LeavesWritten Memory old new = ⊤
+LeavesWritten (Refused kind) old new = new.code.items ≡ old.code.items

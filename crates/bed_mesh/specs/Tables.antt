@@ -95,17 +95,17 @@ limited None = Err BadLine
 limited (Some heights) = if list_all is_height heights then Ok heights else Err OutOfLimit
 
 -- a row of so many heights
-abbrev pub row_of : ℕ → List Text → Result (List ℤ) MeshKind
-row_of count words = limited (numbers_of count words)
+abbrev pub height_row : ℕ → List Text → Result (List ℤ) MeshKind
+height_row count words = limited (numbers_of count words)
 
 -- heights before others, where those are read
-abbrev pub with_front : List ℤ → Result (List ℤ) MeshFault → Result (List ℤ) MeshFault
-with_front front (Ok heights) = Ok (front ++ heights)
-with_front front (Err fault) = Err fault
+abbrev pub heights_behind : List ℤ → Result (List ℤ) MeshFault → Result (List ℤ) MeshFault
+heights_behind front (Ok heights) = Ok (front ++ heights)
+heights_behind front (Err fault) = Err fault
 
 -- a row of heights before the later rows, or the first fault
 abbrev pub before_rows : ℕ → Result (List ℤ) MeshKind → Result (List ℤ) MeshFault → Result (List ℤ) MeshFault
-before_rows number (Ok row) later = with_front row later
+before_rows number (Ok row) later = heights_behind row later
 before_rows number (Err kind) later = Err (At number kind)
 
 -- The heights of so many rows: each of the lines that have words is one, and there are no more of them.
@@ -113,7 +113,7 @@ abbrev pub rows_of : ℕ → ℕ → List (ℕ × List Text) → Result (List �
 rows_of count zero [] = Ok []
 rows_of count zero (line ∷ lines) = Err (At line.0 BadLine)
 rows_of count (suc rows) [] = Err (At 0 Missing)
-rows_of count (suc rows) (line ∷ lines) = before_rows line.0 (row_of count line.1) (rows_of count rows lines)
+rows_of count (suc rows) (line ∷ lines) = before_rows line.0 (height_row count line.1) (rows_of count rows lines)
 
 -- a bed with these grids and these heights, or the first fault
 abbrev pub with_heights : Grid × Grid → Result (List ℤ) MeshFault → Result Mesh MeshFault
@@ -131,15 +131,15 @@ table_of [] = Err (At 0 Missing)
 table_of (line ∷ lines) = below_head line.0 (head_of line.1) lines
 
 -- the mesh of a text, or its first fault; `#` begins a comment
-unfoldable pub reading : Text → Result Mesh MeshFault
-reading text =
+unfoldable pub mesh_of_text : Text → Result Mesh MeshFault
+mesh_of_text text =
     if nat_lt 1_048_576 (length text) then Err (At 0 TooLarge) else table_of (worded_lines 35 1 (lines_of text))
 
 -- a reader's answer is this, but for want of memory
-abbrev pub Answers : {A : Type 0} → Result A MeshFault → Result A MeshFault → Type 0
-Answers (Ok value) wanted = wanted ≡ Ok value
-Answers (Err Memory) wanted = ⊤
-Answers (Err (At line kind)) wanted = wanted ≡ Err (At line kind)
+abbrev pub AnswersMesh : {A : Type 0} → Result A MeshFault → Result A MeshFault → Type 0
+AnswersMesh (Ok value) wanted = wanted ≡ Ok value
+AnswersMesh (Err Memory) wanted = ⊤
+AnswersMesh (Err (At line kind)) wanted = wanted ≡ Err (At line kind)
 
 -- a line's fault is of this kind, but for want of memory
 abbrev pub IsFaultAt : {A : Type 0} → ℕ → Result A MeshKind → MeshFault → Type 0

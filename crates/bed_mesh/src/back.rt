@@ -2,8 +2,8 @@
 
 ghost use Rattle.std.specs.Prelude.{◌≡◌, ◌+◌, ◌≤◌, ◌∷◌, [], ◌++◌, drop, length, Result, Ok, Err, IfErr, IfOk, OnOk, MatchResult};
 ghost use Rattle.report_text.specs.Pieces.{pieces_text};
-ghost use Rattle.bed_mesh.specs.Files.{accepted};
-ghost use Rattle.bed_mesh.specs.Room.{AreWritten, HasRoom, IsWhy};
+ghost use Rattle.bed_mesh.specs.Files.{accepted_state};
+ghost use Rattle.bed_mesh.specs.Room.{AreWritten, HasLineRoom, IsWhy};
 
 use gcode_program::{Place, step_line};
 use gcode_state::Modes;
@@ -35,8 +35,8 @@ impl From<AllocError> for Halt {
 pub(crate) fn read_back(modes: &mut Modes, line: &[u8], start: usize) -> Result<(), LineKind>
     requires few { modes.old.lines ≤ start }
     requires near { start ≤ 1_073_741_825 }
-    ensures value { MatchResult result (λ _. accepted start modes.old (line.now ∷ []) ≡ Ok modes.new)
-        (λ kind. accepted start modes.old (line.now ∷ []) ≡ Err kind) }
+    ensures value { MatchResult result (λ _. accepted_state start modes.old (line.now ∷ []) ≡ Ok modes.new)
+        (λ kind. accepted_state start modes.old (line.now ∷ []) ≡ Err kind) }
     ensures lines { OnOk result (modes.new.lines ≤ modes.old.lines + 1) }
     ensures small { OnOk result (start + length line.now ≤ 1_073_741_824) }
 {
@@ -59,11 +59,12 @@ pub(crate) fn end_line(
     requires inside { from ≤ length text.old.items }
     requires few { modes.old.lines ≤ start + from }
     requires near { start + from ≤ 1_073_741_825 }
-    ensures accepted { OnOk result (accepted (start + from) modes.old (drop from text.old.items ∷ []) ≡ Ok modes.new) }
+    ensures accepted { OnOk result (accepted_state (start + from) modes.old (drop from text.old.items ∷ [])
+        ≡ Ok modes.new) }
     ensures text { OnOk result (text.new.items ≡ text.old.items ++ 10 ∷ []) }
-    ensures room { OnOk result (HasRoom start modes.new text.new.items) }
+    ensures room { OnOk result (HasLineRoom start modes.new text.new.items) }
     ensures why { IfErr result
-        (λ halt. IsWhy halt (accepted (start + from) modes.old (drop from text.old.items ∷ []))) }
+        (λ halt. IsWhy halt (accepted_state (start + from) modes.old (drop from text.old.items ∷ []))) }
 {
     match read_back(modes, &text[from..], start + from) {
         Ok(()) => {
@@ -81,11 +82,11 @@ pub(crate) fn put_line(
     start: usize,
     modes: &mut Modes,
 ) -> Result<(), Halt>
-    requires { HasRoom start modes.old text.old.items }
+    requires { HasLineRoom start modes.old text.old.items }
     ensures written { OnOk result
         (AreWritten start modes.old text.old.items (pieces_text pieces.now ∷ []) modes.new text.new.items) }
     ensures why { IfErr result
-        (λ halt. IsWhy halt (accepted (start + length text.old.items) modes.old (pieces_text pieces.now ∷ []))) }
+        (λ halt. IsWhy halt (accepted_state (start + length text.old.items) modes.old (pieces_text pieces.now ∷ []))) }
 {
     let from = text.len();
     put_pieces(text, pieces)?;

@@ -5,9 +5,9 @@ ghost use Rattle.std.specs.Int.{int_div_euclid};
 ghost use Rattle.plan_types.specs.Moves.{change};
 ghost use Rattle.plan_types.specs.Valid.{IsValidMove};
 ghost use Rattle.bed_mesh.specs.Cuts as specs;
-ghost use Rattle.bed_mesh.specs.Cuts.{IsOnTheWay, breadth, crossings, parts_of, place_behind, scaled};
+ghost use Rattle.bed_mesh.specs.Cuts.{IsOnTheWay, breadth, crossings, part_count, place_behind, scaled};
 ghost use Rattle.bed_mesh.specs.Grids.{IsValidGrid, IsValidMesh, extent};
-ghost use Rattle.bed_mesh.specs.Lines.{AreAhead, AreCuts, IsFirst, cut_numbers, first, least, numbers, passed};
+ghost use Rattle.bed_mesh.specs.Lines.{AreAhead, AreCuts, IsFirstNumber, cut_numbers, first_number, least, numbers, passed};
 
 use crate::mesh::{Grid, Mesh};
 use plan_types::Move;
@@ -98,7 +98,7 @@ fn lines_ahead(grid: &Grid, start: i64, end: i64, parts: u64) -> Ahead
 /// The number of parts behind which a move crosses the next line, if it comes to one.
 fn next_number(lines: &Ahead) -> Option<u64>
     requires { AreAhead lines.now }
-    ensures first { result ≡ first (numbers lines.now) }
+    ensures first { result ≡ first_number (numbers lines.now) }
     ensures inside { IfSome result (λ n. n ≤ lines.now.span * lines.now.parts) }
 {
     if lines.left > 0 && lines.next < lines.span {
@@ -111,7 +111,7 @@ fn next_number(lines: &Ahead) -> Option<u64>
 /// Goes past the next line, where a move crosses it behind so many parts.
 fn pass(lines: &mut Ahead, next: Option<u64>, number: u64)
     requires ahead { AreAhead lines.old }
-    requires next { next ≡ first (numbers lines.old) }
+    requires next { next ≡ first_number (numbers lines.old) }
     ensures numbers { numbers lines.new ≡ passed number (numbers lines.old) }
     ensures ahead { AreAhead lines.new }
     ensures span { lines.new.span ≡ lines.old.span }
@@ -149,7 +149,7 @@ struct Cuts {
 /// Goes on to the next cut. Answers behind how many parts of the move it is.
 fn next_cut(cuts: &mut Cuts) -> Option<u64>
     requires { AreCuts cuts.old }
-    ensures first { IsFirst result (cut_numbers cuts.old) (cut_numbers cuts.new) }
+    ensures first { IsFirstNumber result (cut_numbers cuts.old) (cut_numbers cuts.new) }
     ensures valid { AreCuts cuts.new }
     ensures inside { IfSome result (λ n. n ≤ cuts.old.whole) }
     ensures whole { cuts.new.whole ≡ cuts.old.whole }
@@ -212,7 +212,7 @@ fn part_way(start: i64, end: i64, number: u64, whole: u64) -> i64
 fn coordinate_behind(m: &Move, axis: usize, number: u64, whole: u64) -> i64
     requires valid { IsValidMove m.now }
     requires axis { axis < 4 }
-    requires whole { whole ≡ parts_of m.now }
+    requires whole { whole ≡ part_count m.now }
     requires part { number ≤ whole }
     requires few { whole ≤ 2 ^ 62 }
     requires some { 0 < whole }
@@ -228,7 +228,7 @@ fn coordinate_behind(m: &Move, axis: usize, number: u64, whole: u64) -> i64
 #[tactic(auto, unfolding(crate::specs::Cuts::place_behind))]
 fn place_behind(m: &Move, number: u64, whole: u64) -> [i64; 4]
     requires valid { IsValidMove m.now }
-    requires whole { whole ≡ parts_of m.now }
+    requires whole { whole ≡ part_count m.now }
     requires part { number ≤ whole }
     requires few { whole ≤ 2 ^ 62 }
     requires some { 0 < whole }
@@ -284,7 +284,7 @@ fn cuts_of(mesh: &Mesh, m: &Move) -> Cuts
     requires valid { IsValidMove m.now }
     ensures numbers { cut_numbers result ≡ specs.cut_parts mesh.now m.now }
     ensures valid { AreCuts result }
-    ensures whole { result.whole ≡ parts_of m.now }
+    ensures whole { result.whole ≡ part_count m.now }
     ensures part { result.whole ≤ 2 ^ 62 }
     ensures some { 0 < result.whole }
     ensures few { result.x.left + result.y.left ≤ 128 }
@@ -319,11 +319,11 @@ impl Mesh {
     /// # Errors
     ///
     /// Where memory is wanted.
-    #[tactic(auto, unfolding(crate::specs::Cuts::ends))]
+    #[tactic(auto, unfolding(crate::specs::Cuts::cut_ends))]
     pub fn cut(&self, alloc: Global, m: &Move) -> Result<Vec<[i64; 4]>, AllocError>
         requires mesh { IsValidMesh self.now }
         requires valid { IsValidMove m.now }
-        ensures ends { IfOk result (λ ends. ends.items ≡ specs.ends self.now m.now) }
+        ensures ends { IfOk result (λ ends. ends.items ≡ specs.cut_ends self.now m.now) }
         ensures near { IfOk result (λ ends. All (IsOnTheWay m.now) ends.items) }
         ensures few { IfOk result (λ ends. length ends.items ≤ 129) }
     {

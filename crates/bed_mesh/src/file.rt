@@ -5,10 +5,10 @@ ghost use Rattle.bed_mesh.specs.Grids.{IsValidMesh};
 ghost use Rattle.gcode_program.specs.Readings as readings;
 ghost use Rattle.plan_types.specs.Machines.{IsValidMachine};
 ghost use Rattle.gcode_state.specs.States.{IsValidAction, one_if};
-ghost use Rattle.bed_mesh.specs.Files.{accepted, begun, first_pen, head_text, mesh_code, mesh_end, with_absolute, with_relative_e};
+ghost use Rattle.bed_mesh.specs.Files.{accepted_state, begun, first_pen, head_text, mesh_code, mesh_end, with_absolute, with_relative_e};
 ghost use Rattle.bed_mesh.specs.BentLines.{lines_by};
 ghost use Rattle.bed_mesh.specs.Room.{IsWhy};
-ghost use Rattle.bed_mesh.specs.Steps.{HasSpace, IsAdded, IsHalt, IsKept, IsStep, pen_of};
+ghost use Rattle.bed_mesh.specs.Steps.{HasSpace, IsAdded, IsHalt, LeavesWritten, IsStep, pen_of};
 
 use crate::Mesh;
 use crate::back::{Halt, read_back};
@@ -92,9 +92,10 @@ fn write_action(
     requires valid { IsValidAction action.now }
     requires space { HasSpace writer.old }
     ensures written { OnOk result (IsAdded mesh.now writer.old action.now writer.new) }
-    ensures kept { IfErr result (λ halt. IsKept halt writer.old writer.new) }
+    ensures kept { IfErr result (λ halt. LeavesWritten halt writer.old writer.new) }
     ensures why { IfErr result (λ halt. IsWhy halt
-        (accepted (length writer.old.code.items) writer.old.modes (lines_by mesh.now writer.old.last action.now))) }
+        (accepted_state (length writer.old.code.items) writer.old.modes
+        (lines_by mesh.now writer.old.last action.now))) }
 {
     writer.aside.clear();
     let start = writer.code.len();
@@ -131,7 +132,7 @@ fn write_line(
     ensures passed { IfOk result (λ step. step.passed ≡ readings.is_passed line.now) }
     ensures lines { IfOk result (λ step. modes.new.lines ≤ modes.old.lines + 1) }
     ensures small { IfOk result (λ step. place.start + length line.now ≤ 1073741824) }
-    ensures kept { IfErr result (λ halt. IsKept halt writer.old writer.new) }
+    ensures kept { IfErr result (λ halt. LeavesWritten halt writer.old writer.new) }
     ensures halt { IfErr result
         (λ halt. IsHalt mesh.now place.size place.start modes.old line.now (pen_of writer.old) halt) }
 {

@@ -6,10 +6,10 @@ ghost use Rattle.bed_mesh.specs.Grids.{IsValidMesh, height};
 ghost use Rattle.gcode_state.specs.States.{IsValidAction};
 ghost use Rattle.plan_types.specs.Sections.{IsReachable};
 ghost use Rattle.plan_types.specs.Valid.{IsValidMove};
-ghost use Rattle.bed_mesh.specs.Files.{accepted};
+ghost use Rattle.bed_mesh.specs.Files.{accepted_state};
 ghost use Rattle.bed_mesh.specs.BentLines as specs;
 ghost use Rattle.bed_mesh.specs.BentLines.{acceleration_line, at, last_by, letter_if, lines_by, move_line, move_lines, new_acceleration};
-ghost use Rattle.bed_mesh.specs.Room.{AreWritten, HasRoom, IsNearPlace, IsWhy};
+ghost use Rattle.bed_mesh.specs.Room.{AreWritten, HasLineRoom, IsNearPlace, IsWhy};
 
 use crate::Mesh;
 use crate::back::{Halt, end_line, put_line};
@@ -83,11 +83,11 @@ fn put_end(
     requires speed { speed ≤ 1_000_000_000 }
     requires from { unsigned_abs (at from.now 3) ≤ 2 ^ 61 }
     requires near { IsNearPlace place.now }
-    requires room { HasRoom start modes.old text.old.items }
+    requires room { HasLineRoom start modes.old text.old.items }
     ensures written { OnOk result (AreWritten start modes.old text.old.items
         (move_line mesh.now speed from.now place.now ∷ []) modes.new text.new.items) }
     ensures why { IfErr result (λ halt. IsWhy halt
-        (accepted (start + length text.old.items) modes.old (move_line mesh.now speed from.now place.now ∷ []))) }
+        (accepted_state (start + length text.old.items) modes.old (move_line mesh.now speed from.now place.now ∷ []))) }
 {
     let behind = text.len();
     put_move(text, mesh, speed, from, place)?;
@@ -119,11 +119,11 @@ fn put_ends(
     requires speed { speed ≤ 1_000_000_000 }
     requires from { unsigned_abs (at from.now 3) ≤ 2 ^ 61 }
     requires near { All IsNearPlace places.now }
-    requires room { HasRoom start modes.old text.old.items }
+    requires room { HasLineRoom start modes.old text.old.items }
     ensures written { OnOk result (AreWritten start modes.old text.old.items
         (move_lines mesh.now speed from.now places.now) modes.new text.new.items) }
     ensures why { IfErr result (λ halt. IsWhy halt
-        (accepted (start + length text.old.items) modes.old (move_lines mesh.now speed from.now places.now))) }
+        (accepted_state (start + length text.old.items) modes.old (move_lines mesh.now speed from.now places.now))) }
 {
     let mut last = from;
     let mut rest = places;
@@ -144,11 +144,12 @@ fn put_acceleration(
     modes: &mut Modes,
 ) -> Result<(), Halt>
     requires small { acceleration ≤ 100_000_000_000 }
-    requires room { HasRoom start modes.old text.old.items }
+    requires room { HasLineRoom start modes.old text.old.items }
     ensures written { OnOk result
         (AreWritten start modes.old text.old.items (new_acceleration last acceleration) modes.new text.new.items) }
     ensures why { IfErr result
-        (λ halt. IsWhy halt (accepted (start + length text.old.items) modes.old (new_acceleration last acceleration))) }
+        (λ halt. IsWhy halt (accepted_state (start + length text.old.items) modes.old
+        (new_acceleration last acceleration))) }
 {
     if acceleration == last {
         return Ok(());
@@ -171,11 +172,11 @@ fn put_moves(
     requires mesh { IsValidMesh mesh.now }
     requires valid { IsValidMove m.now }
     requires reachable { IsReachable m.now }
-    requires room { HasRoom start modes.old text.old.items }
+    requires room { HasLineRoom start modes.old text.old.items }
     ensures written { OnOk result
         (AreWritten start modes.old text.old.items (specs.all_lines mesh.now last m.now) modes.new text.new.items) }
     ensures why { IfErr result (λ halt.
-        IsWhy halt (accepted (start + length text.old.items) modes.old (specs.all_lines mesh.now last m.now))) }
+        IsWhy halt (accepted_state (start + length text.old.items) modes.old (specs.all_lines mesh.now last m.now))) }
 {
     put_acceleration(text, last, m.a, start, modes)?;
     let ends = mesh.cut(alloc, m)?;
@@ -201,11 +202,12 @@ pub(crate) fn put_action(
 ) -> Result<(), Halt>
     requires mesh { IsValidMesh mesh.now }
     requires valid { IsValidAction action.now }
-    requires room { HasRoom start modes.old text.old.items }
+    requires room { HasLineRoom start modes.old text.old.items }
     ensures written { OnOk result
         (AreWritten start modes.old text.old.items (lines_by mesh.now last action.now) modes.new text.new.items) }
     ensures why { IfErr result
-        (λ halt. IsWhy halt (accepted (start + length text.old.items) modes.old (lines_by mesh.now last action.now))) }
+        (λ halt. IsWhy halt (accepted_state (start + length text.old.items) modes.old
+        (lines_by mesh.now last action.now))) }
 {
     match action {
         Action::None => Ok(()),

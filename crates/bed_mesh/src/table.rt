@@ -6,7 +6,7 @@ ghost use Rattle.text_core.specs.Lines.{lines_of};
 ghost use Rattle.text_core.specs.Words.{words_of, worded_lines};
 ghost use Rattle.bed_mesh.specs.Grids.{IsValidGrid, IsValidMesh};
 ghost use Rattle.bed_mesh.specs.Tables as specs;
-ghost use Rattle.bed_mesh.specs.Tables.{Answers, AnswersRows, IsFaultAt, chosen, grids_of, six_grids, head_of, numbers_of, reading, row_of, rows_of, word_number};
+ghost use Rattle.bed_mesh.specs.Tables.{AnswersMesh, AnswersRows, IsFaultAt, chosen, grids_of, six_grids, head_of, numbers_of, mesh_of_text, height_row, rows_of, word_number};
 
 use crate::fault::MeshFault;
 use crate::mesh::{Grid, Mesh};
@@ -198,9 +198,9 @@ fn are_heights(heights: &[i64]) -> bool
 
 /// Adds the heights of a row.
 fn push_row(heights: &mut Vec<i64>, line: &WordedLine, count: u64) -> Result<(), MeshFault>
-    ensures row { OnOk result ((row : List ℤ) × (row_of count (words_of line.now.words.now) ≡ Ok row)
+    ensures row { OnOk result ((row : List ℤ) × (height_row count (words_of line.now.words.now) ≡ Ok row)
         × (heights.new.items ≡ heights.old.items ++ row)) }
-    ensures fault { IfErr result (IsFaultAt line.now.number (row_of count (words_of line.now.words.now))) }
+    ensures fault { IfErr result (IsFaultAt line.now.number (height_row count (words_of line.now.words.now))) }
     ensures count { OnOk result (length heights.new.items ≡ length heights.old.items + count) }
     ensures limits { OnOk result (All (λ h. unsigned_abs h ≤ 5_000_000) heights.old.items →
         All (λ h. unsigned_abs h ≤ 5_000_000) heights.new.items) }
@@ -261,9 +261,9 @@ fn read_rows(alloc: Global, grids: &Grids, text: &[u8], number: u64) -> Result<V
 ///
 /// The first fault: `TooLarge` above 1,048,576 bytes, at line 0, before the others; then line by line `BadLine` before
 /// `OutOfLimit`; then `Missing` at line 0, where the first line or a row isn't there. `Memory` where memory is wanted.
-#[tactic(auto, unfolding(crate::specs::Tables::reading))]
+#[tactic(auto, unfolding(crate::specs::Tables::mesh_of_text))]
 pub fn read_mesh(alloc: Global, text: &[u8]) -> Result<Mesh, MeshFault>
-    ensures answer { Answers result (reading text.now) }
+    ensures answer { AnswersMesh result (mesh_of_text text.now) }
     ensures valid { IfOk result (λ mesh. IsValidMesh mesh) }
 {
     if text.len() > LIMIT {

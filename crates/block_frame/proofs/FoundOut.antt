@@ -15,7 +15,7 @@ use Rattle.block_frame.specs.Block.{block_text, checksum, covered, ending}
 use Rattle.block_frame.specs.Scan.{IsBlock, HasBlock, IsSkip, IsUndecided, IsBad, ToEnd, NoEnd}
 use Rattle.block_frame.specs.Scanned.{Drops, Finds, Scans}
 use Rattle.block_frame.specs.Stream.{Reads, blocks_in}
-use Rattle.block_frame.specs.Spoils.{IsOnlyBad, Spoils, are_few, are_only_bad, begins_block, begins_end, ends, is_found_out, to_end}
+use Rattle.block_frame.specs.Spoils.{IsOnlyBad, Spoils, are_few, are_only_bad, begins_block, begins_end, ending_bytes, is_found_out, to_end}
 use Rattle.block_frame.proofs.Pieces.{no_skip_there, decided_there, drops_behind}
 use Rattle.block_frame.proofs.Only.{Told, at_skip, at_bad, at_end, bad_takes, skip_takes}
 use Rattle.block_frame.proofs.Begin.{ends_length}
@@ -163,9 +163,9 @@ told (suc n) false bytes before h =
 -- the test is right
 pub found_out : (bytes : List ℕ) → Decides (is_found_out bytes) (Spoils bytes)
 unfolding is_found_out
-found_out bytes = told (length bytes + 65) false (bytes ++ ends) false (omega (arith, length-append bytes ends, ends_length))
+found_out bytes = told (length bytes + 65) false (bytes ++ ending_bytes) false (omega (arith, length-append bytes ending_bytes, ends_length))
 
-pub same_test : (bytes line : List ℕ) (d t : Bool) → d ≡ false → line ≡ bytes ++ ends → IsTrue t ↔ IsOnlyBad d line false → t ≡ is_found_out bytes
+pub same_test : (bytes line : List ℕ) (d t : Bool) → d ≡ false → line ≡ bytes ++ ending_bytes → IsTrue t ↔ IsOnlyBad d line false → t ≡ is_found_out bytes
 same_test bytes line d t e f told =
     let one = subst (λ (x : Bool). IsTrue t ↔ IsOnlyBad x line false) e told in
     let two = subst (λ (x : List ℕ). IsTrue t ↔ IsOnlyBad false x false) f one in

@@ -7,8 +7,8 @@ use Rattle.block_frame.specs.Block.{block_text}
 use Rattle.block_frame.specs.Stream.{Reads, blocks_in}
 
 -- what a line gives behind a changed block: 64 bytes that end a block, so that each scanner stands where a block begins
-unfoldable pub ends : List ℕ
-ends = replicate 64 126
+unfoldable pub ending_bytes : List ℕ
+ending_bytes = replicate 64 126
 
 -- what a scanner finds is bad bytes
 abbrev pub is_bad : Found → Bool
@@ -33,7 +33,7 @@ pub record IsOnlyBad (dropping : Bool) (bytes : List ℕ) (before : Bool) : Type
 
 -- a new scanner finds no block, and something bad, in these bytes with those behind them that end a block
 abbrev pub Spoils : List ℕ → Type 0
-Spoils bytes = IsOnlyBad false (bytes ++ ends) false
+Spoils bytes = IsOnlyBad false (bytes ++ ending_bytes) false
 
 -- bytes all of which end a block
 abbrev pub AreEnds : List ℕ → Type 0
@@ -77,4 +77,4 @@ are_only_bad (suc n) false bytes before =
 
 -- a block that was changed to these bytes is found out
 unfoldable pub is_found_out : List ℕ → Bool
-is_found_out bytes = are_only_bad (length bytes + 65) false (bytes ++ ends) false
+is_found_out bytes = are_only_bad (length bytes + 65) false (bytes ++ ending_bytes) false

@@ -237,11 +237,11 @@ pub fn pieces_have_the_same_blocks()
 {}
 
 ghost use Rattle.std.specs.Prelude.{replicate};
-ghost use Rattle.block_frame.specs.Spoils.{IsOnlyBad, Spoils, ends, is_found_out};
+ghost use Rattle.block_frame.specs.Spoils.{IsOnlyBad, Spoils, ending_bytes, is_found_out};
 
 /// What a line gives for a block that was changed on it: the block, and behind it 64 bytes `7E`.
 pub fn with_ends(b: &Block) -> ArrayVec<u8, 128>
-    ensures { result.items ≡ b.now.items ++ ends }
+    ensures { result.items ≡ b.now.items ++ ending_bytes }
 {
     let mut bytes = ArrayVec::new();
     for byte in b.as_slice() {
@@ -254,7 +254,7 @@ pub fn with_ends(b: &Block) -> ArrayVec<u8, 128>
 /// Puts 64 bytes `7E` behind the others.
 fn add_ends(bytes: &mut ArrayVec<u8, 128>)
     requires { length bytes.old.items ≤ 64 }
-    ensures { bytes.new.items ≡ bytes.old.items ++ ends }
+    ensures { bytes.new.items ≡ bytes.old.items ++ ending_bytes }
 {
     for _ in 0..64_usize {
         bytes.push(0x7e);
@@ -287,5 +287,5 @@ fn is_only_bad(scanner: &mut Scanner, bytes: &[u8], before: bool) -> bool
 /// The law of ends: behind them each scanner stands where a block begins, whatever came before them.
 pub fn ends_let_blocks_begin()
     ensures { (dropping drops : Bool) (bytes left : List ℕ) (found : List Found) →
-        Reads dropping (bytes ++ ends) found left drops → (left ≡ []) × (drops ≡ false) }
+        Reads dropping (bytes ++ ending_bytes) found left drops → (left ≡ []) × (drops ≡ false) }
 {}

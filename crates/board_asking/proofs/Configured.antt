@@ -8,7 +8,7 @@ use Rattle.msg_code.specs.declared.talk.State.{State}
 use Rattle.board_asking.specs.declared.asking.Asking.{Asking}
 use Rattle.board_asking.specs.declared.asking.Stage.{Stage}
 use Rattle.board_asking.specs.declared.asking.Stage.TheVariants.{Identify, Uptime, Configure, Config, Connected}
-use Rattle.board_asking.specs.Asking.{more, were_put, was_put, is_in_time, hears, listens, answered, or_else, is_connected, after_piece, after_clock, after_drift, sample_of, settled, tells_clock}
+use Rattle.board_asking.specs.Asking.{more, were_put, was_put, is_in_time, hears_first, listens, answered, or_asking, is_connected, after_piece, after_clock, after_drift, sample_of, settled, tells_clock}
 use Rattle.board_asking.specs.Laws.{SaysConfigured, WasConfigured}
 
 -- none of two stages is connected, whichever it is
@@ -161,11 +161,11 @@ later : (n : News) (news : List News) (b a : Asking) → Settles b a news → Se
 later n news b a (inl e) = inl e
 later n news b a (inr (s, f)) = inr (s, λ h. widened n news (is_connected a.stage ≡ true) (f h))
 
-heard : (turn : ℕ) (news : List News) (a : Asking) → Settles (hears turn news a) a news
+heard : (turn : ℕ) (news : List News) (a : Asking) → Settles (hears_first turn news a) a news
 heard turn [] a = inl refl
 heard turn (n ∷ news) a = elim (told turn a a.stage n.number n.answer) [
-  | inl none ↦ subst (λ (o : Option Asking). Settles (or_else o (hears turn news a)) a (n ∷ news)) (sym none) (later n news (hears turn news a) a (heard turn news a))
-  | inr (b, is, s, f) ↦ subst (λ (o : Option Asking). Settles (or_else o (hears turn news a)) a (n ∷ news)) (sym is) (inr (s, λ h. first n news (is_connected a.stage ≡ true) (f h)))
+  | inl none ↦ subst (λ (o : Option Asking). Settles (or_asking o (hears_first turn news a)) a (n ∷ news)) (sym none) (later n news (hears_first turn news a) a (heard turn news a))
+  | inr (b, is, s, f) ↦ subst (λ (o : Option Asking). Settles (or_asking o (hears_first turn news a)) a (n ∷ news)) (sym is) (inr (s, λ h. first n news (is_connected a.stage ≡ true) (f h)))
 ]
 
 -- what of an asking stays where no answer comes
@@ -196,7 +196,7 @@ either-listens false s b w a p h = inl p
 pub listened : (a : Asking) (s : State) → Listens (listens a s) a s
 listened a s =
     let w = were_put s.turn s.asked a in
-    either-listens (is_in_time s.turn w.since) s (hears s.turn s.news w) w a (put-stays s.turn s.asked a) (heard s.turn s.news w)
+    either-listens (is_in_time s.turn w.since) s (hears_first s.turn s.news w) w a (put-stays s.turn s.asked a) (heard s.turn s.news w)
 
 still : (b a : Asking) (s : State) → Listens b a s → is_connected b.stage ≡ true → (is_connected a.stage ≡ true) ⊎ WasConfigured s.news
 still b a s (inl p) h = inl (subst (λ (g : Stage). is_connected g ≡ true) p.stage h)

@@ -8,8 +8,8 @@ use Rattle.board_asking.specs.declared.asking.Asking.{Asking}
 use Rattle.board_asking.specs.declared.asking.Stage.{Stage}
 use Rattle.board_asking.specs.declared.asking.Stage.TheVariants.{Identify, Uptime, Configure, Config, Connected}
 use Rattle.board_asking.specs.declared.setup.Setup.{Setup}
-use Rattle.board_asking.specs.Asking.{more, listens, ready_stage, is_over, is_due, is_out, question, asks, asked, after_asks, gives_up, is_connected}
-use Rattle.board_asking.specs.Turns.{behind, heard, known, heard_at, AsksOf, WasAsked, IsOutBehind, AreUnanswered, OnceConfigured}
+use Rattle.board_asking.specs.Asking.{more, listens, ready_stage, is_over, is_question_due, is_out, question, asks, asked, after_asks, gives_up, is_connected}
+use Rattle.board_asking.specs.Turns.{asking_in_turn, heard, states_come, heard_at, AsksOf, WasAsked, IsOutBehind, AreUnanswered, OnceConfigured}
 use Rattle.board_asking.proofs.Configured.{Stays, listened, configured}
 use Rattle.std.specs.Prelude.{drop}
 
@@ -19,10 +19,10 @@ either-stage true x y e h = ap is_connected (sym e) ∙ h
 either-stage false x y e h = h
 
 asks-connect : (setups : List Setup) (k : ℕ) (a : Asking) (stage : Stage) → is_connected (after_asks setups k a stage).stage ≡ true → is_connected a.stage ≡ true
-asks-connect setups k a (Identify offset) h = either-stage (is_due k a.since) (asked k a) a refl h
-asks-connect setups k a Uptime h = either-stage (is_due k a.since) (asked k a) a refl h
+asks-connect setups k a (Identify offset) h = either-stage (is_question_due k a.since) (asked k a) a refl h
+asks-connect setups k a Uptime h = either-stage (is_question_due k a.since) (asked k a) a refl h
 asks-connect setups k a (Configure n) h = cc
-asks-connect setups k a Config h = either-stage (is_due k a.since) (asked k a) a refl h
+asks-connect setups k a Config h = either-stage (is_question_due k a.since) (asked k a) a refl h
 asks-connect setups k a Connected h = h
 
 none-of-two : (b : Bool) (n : ℕ) → is_connected (cond b Config (Configure n)) ≡ true → ⊥
@@ -40,41 +40,41 @@ pub once-configured : (setups : List Setup) (states : List State) → is_connect
 once-configured setups [] h = cc
 once-configured setups (s ∷ states) h =
     let a = heard setups states in
-    elim (configured (behind setups (length states) a) s (ready-connects setups _ h)) [
+    elim (configured (asking_in_turn setups (length states) a) s (ready-connects setups _ h)) [
       | inl before ↦ inr (once-configured setups states (asks-connect setups (length states) a a.stage before))
       | inr now ↦ inl now
     ]
 
 -- the states that have come
-known-all : (k : ℕ) (states : List State) → length states ≤ k → known k states ≡ states
+known-all : (k : ℕ) (states : List State) → length states ≤ k → states_come k states ≡ states
 known-all k [] h = refl
-known-all k (s ∷ states) h = ap (λ (b : Bool). cond b (known k states) (s ∷ states)) (lt-leb k (length states) (omega arith))
+known-all k (s ∷ states) h = ap (λ (b : Bool). cond b (states_come k states) (s ∷ states)) (lt-leb k (length states) (omega arith))
 
-known-before : (k : ℕ) (s : State) (states : List State) → k ≤ length states → known k (s ∷ states) ≡ known k states
-known-before k s states h = ap (λ (b : Bool). cond b (known k states) (s ∷ states)) (le-leb k (length states) h)
+known-before : (k : ℕ) (s : State) (states : List State) → k ≤ length states → states_come k (s ∷ states) ≡ states_come k states
+known-before k s states h = ap (λ (b : Bool). cond b (states_come k states) (s ∷ states)) (le-leb k (length states) h)
 
 -- what a turn makes of an asking: nothing; a part of the configuration, or nothing once connected; or it is asked
 abbrev Kept : ℕ → Asking → Asking → Type 0
-Kept k a c = (is_due k a.since ≡ false) × (c ≡ a)
+Kept k a c = (is_question_due k a.since ≡ false) × (c ≡ a)
 
 abbrev Quiet : Stage → Asking → Asking → Type 0
 Quiet stage a c = (AsksOf stage → ⊥) × (c.since ≡ a.since)
 
 abbrev Asks : ℕ → Asking → Stage → Asking → List Cmd → Type 0
-Asks k a stage c commands = AsksOf stage × (is_due k a.since ≡ true) × (c ≡ asked k a) × (commands ≡ question stage)
+Asks k a stage c commands = AsksOf stage × (is_question_due k a.since ≡ true) × (c ≡ asked k a) × (commands ≡ question stage)
 
 abbrev Behind : ℕ → Asking → Stage → Asking → List Cmd → Type 0
 Behind k a stage c commands = Kept k a c ⊎ Quiet stage a c ⊎ Asks k a stage c commands
 
-where-due : (k : ℕ) (a : Asking) (stage : Stage) (b : Bool) → AsksOf stage → is_due k a.since ≡ b → Behind k a stage (cond b (asked k a) a) (cond b (question stage) [])
+where-due : (k : ℕ) (a : Asking) (stage : Stage) (b : Bool) → AsksOf stage → is_question_due k a.since ≡ b → Behind k a stage (cond b (asked k a) a) (cond b (question stage) [])
 where-due k a stage true s e = inr (inr (s, e, refl, refl))
 where-due k a stage false s e = inl (e, refl)
 
 is-behind : (setups : List Setup) (k : ℕ) (a : Asking) (stage : Stage) → Behind k a stage (after_asks setups k a stage) (asks setups k a stage)
-is-behind setups k a (Identify offset) = where-due k a (Identify offset) (is_due k a.since) tt refl
-is-behind setups k a Uptime = where-due k a Uptime (is_due k a.since) tt refl
+is-behind setups k a (Identify offset) = where-due k a (Identify offset) (is_question_due k a.since) tt refl
+is-behind setups k a Uptime = where-due k a Uptime (is_question_due k a.since) tt refl
 is-behind setups k a (Configure n) = inr (inl (λ h. h, refl))
-is-behind setups k a Config = where-due k a Config (is_due k a.since) tt refl
+is-behind setups k a Config = where-due k a Config (is_question_due k a.since) tt refl
 is-behind setups k a Connected = inr (inl (λ h. h, refl))
 
 asks-ready : (setups : List Setup) (stage : Stage) → AsksOf stage → AsksOf (ready_stage setups stage)
@@ -147,20 +147,20 @@ grown setups s states first missed since g t m f row early late were old = inr (
   },
 )
 
-not-due : (k since : ℕ) → is_due k (Some since) ≡ false → k ≤ since + 3
+not-due : (k since : ℕ) → is_question_due k (Some since) ≡ false → k ≤ since + 3
 not-due k since e = let l = leb-false 4 (k - since) e in omega arith
 
-due : (k since : ℕ) → is_due k (Some since) ≡ true → since + 4 ≤ k
+due : (k since : ℕ) → is_question_due k (Some since) ≡ true → since + 4 ≤ k
 due k since e = let l = leb-true 4 (k - since) e in omega arith
 
 true-false : {A : Type 0} → true ≡ false → A
 true-false h = cc
 
-still-out : (setups : List Setup) (s : State) (states : List State) → Stays (listens (behind setups (length states) (heard setups states)) s) (heard setups states)
-    → is_due (length states) (heard setups states).since ≡ false → Row setups states → Row setups (s ∷ states)
-still-out setups s states p nd (inl none) = true-false (subst (λ (o : Option ℕ). is_due (length states) o ≡ false) none nd)
+still-out : (setups : List Setup) (s : State) (states : List State) → Stays (listens (asking_in_turn setups (length states) (heard setups states)) s) (heard setups states)
+    → is_question_due (length states) (heard setups states).since ≡ false → Row setups states → Row setups (s ∷ states)
+still-out setups s states p nd (inl none) = true-false (subst (λ (o : Option ℕ). is_question_due (length states) o ≡ false) none nd)
 still-out setups s states p nd (inr (first, missed, since, r)) =
-    let l = not-due (length states) since (subst (λ (o : Option ℕ). is_due (length states) o ≡ false) r.since nd) in
+    let l = not-due (length states) since (subst (λ (o : Option ℕ). is_question_due (length states) o ≡ false) r.since nd) in
     let row = r.row in
     let early = r.early in
     grown setups s states first missed since (asks-ready setups _ (subst AsksOf (sym p.stage) r.stage)) (p.since ∙ r.since) (p.missed ∙ r.missed) (p.first ∙ r.first)
@@ -169,7 +169,7 @@ still-out setups s states p nd (inr (first, missed, since, r)) =
 -- asked in this turn
 asked-here : (setups : List Setup) (s : State) (states : List State) → WasAsked setups (length states) (heard setups states) → WasAsked setups (length states) (heard_at setups (length states) (s ∷ states))
 asked-here setups s states w =
-    let e : known (length states) (s ∷ states) ≡ states = known-before (length states) s states (omega arith) ∙ known-all (length states) states (omega arith) in
+    let e : states_come (length states) (s ∷ states) ≡ states = known-before (length states) s states (omega arith) ∙ known-all (length states) states (omega arith) in
     subst (λ (l : List State). WasAsked setups (length states) (heard setups l)) (sym e) w
 
 were-by : (b : Bool) (setups : List Setup) (s : State) (states : List State) (first missed i : ℕ) → nat_le i missed ≡ b → i ≤ missed + 1 → length states ≡ first + 4 * (missed + 1)
@@ -192,9 +192,9 @@ more-is : (n : ℕ) → n < 2 ^ 59 → more n ≡ n + 1
 more-is n h = omega arith
 
 asked-anew : (setups : List Setup) (s : State) (states : List State) → length states < 2 ^ 59
-    → Stays (listens (behind setups (length states) (heard setups states)) s) (asked (length states) (heard setups states))
+    → Stays (listens (asking_in_turn setups (length states) (heard setups states)) s) (asked (length states) (heard setups states))
     → AsksOf (heard setups states).stage → asks setups (length states) (heard setups states) (heard setups states).stage ≡ question (heard setups states).stage
-    → is_due (length states) (heard setups states).since ≡ true → Row setups states → Row setups (s ∷ states)
+    → is_question_due (length states) (heard setups states).since ≡ true → Row setups states → Row setups (s ∷ states)
 asked-anew setups s states small p g commands d (inl none) =
     let k = length states in
     let a = heard setups states in
@@ -208,7 +208,7 @@ asked-anew setups s states small p g commands d (inr (first, missed, since, r)) 
     let k = length states in
     let a = heard setups states in
     let now = asked-here setups s states (record { stage = g; commands = commands }) in
-    let l = due k since (subst (λ (o : Option ℕ). is_due k o ≡ true) r.since d) in
+    let l = due k since (subst (λ (o : Option ℕ). is_question_due k o ≡ true) r.since d) in
     let late = r.late in
     let row = r.row in
     let early = r.early in
@@ -221,8 +221,8 @@ asked-anew setups s states small p g commands d (inr (first, missed, since, r)) 
     (λ i le. were-by (nat_le i missed) setups s states first missed i refl le at r.asked now)
     (λ i le. out-by-count (nat_le i missed) setups states first missed i refl le at r.out)
 
-quiet-turn : (setups : List Setup) (s : State) (states : List State) → Stays (listens (behind setups (length states) (heard setups states)) s) (behind setups (length states) (heard setups states))
-    → (AsksOf (heard setups states).stage → ⊥) → (behind setups (length states) (heard setups states)).since ≡ (heard setups states).since → Row setups states → Row setups (s ∷ states)
+quiet-turn : (setups : List Setup) (s : State) (states : List State) → Stays (listens (asking_in_turn setups (length states) (heard setups states)) s) (asking_in_turn setups (length states) (heard setups states))
+    → (AsksOf (heard setups states).stage → ⊥) → (asking_in_turn setups (length states) (heard setups states)).since ≡ (heard setups states).since → Row setups states → Row setups (s ∷ states)
 quiet-turn setups s states p q e (inl none) = inl (p.since ∙ e ∙ none)
 quiet-turn setups s states p q e (inr (first, missed, since, r)) = absurd (q r.stage)
 
@@ -230,12 +230,12 @@ one-more : (setups : List Setup) (s : State) (states : List State) → length st
 one-more setups s states small row =
     let k = length states in
     let a = heard setups states in
-    elim (listened (behind setups k a) s) [
+    elim (listened (asking_in_turn setups k a) s) [
       | inr (none, f) ↦ inl none
       | inl p ↦ elim (is-behind setups k a a.stage) [
-        | inl (nd, same) ↦ still-out setups s states (subst (λ (c : Asking). Stays (listens (behind setups k a) s) c) same p) nd row
+        | inl (nd, same) ↦ still-out setups s states (subst (λ (c : Asking). Stays (listens (asking_in_turn setups k a) s) c) same p) nd row
         | inr (inl (q, e)) ↦ quiet-turn setups s states p q e row
-        | inr (inr (g, d, same, commands)) ↦ asked-anew setups s states small (subst (λ (c : Asking). Stays (listens (behind setups k a) s) c) same p) g commands d row
+        | inr (inr (g, d, same, commands)) ↦ asked-anew setups s states small (subst (λ (c : Asking). Stays (listens (asking_in_turn setups k a) s) c) same p) g commands d row
       ]
     ]
 
@@ -261,9 +261,9 @@ unanswered setups states h (inl none) = no-out (heard setups states).since none 
 unanswered setups states h (inr (first, missed, since, r)) =
     let k = length states in
     let a = heard setups states in
-    let rest = both-second (is_out a.since) (is_due k a.since && nat_le 7 a.missed) h in
-    let d = due k since (subst (λ (o : Option ℕ). is_due k o ≡ true) r.since (both-first (is_due k a.since) (nat_le 7 a.missed) rest)) in
-    let seven : 7 ≤ missed = subst (λ (n : ℕ). 7 ≤ n) r.missed (leb-true 7 a.missed (both-second (is_due k a.since) (nat_le 7 a.missed) rest)) in
+    let rest = both-second (is_out a.since) (is_question_due k a.since && nat_le 7 a.missed) h in
+    let d = due k since (subst (λ (o : Option ℕ). is_question_due k o ≡ true) r.since (both-first (is_question_due k a.since) (nat_le 7 a.missed) rest)) in
+    let seven : 7 ≤ missed = subst (λ (n : ℕ). 7 ≤ n) r.missed (leb-true 7 a.missed (both-second (is_question_due k a.since) (nat_le 7 a.missed) rest)) in
     let late = r.late in
     let row = r.row in
     let until : first + 4 * (missed + 1) ≡ k = omega arith in

@@ -116,20 +116,20 @@ answered turn a Connected number (cmd.Uptime high clock) = if_drift turn a numbe
 answered turn a stage number answer = None
 
 -- an asking that was answered, else another one
-abbrev pub or_else : Option Asking → Asking → Asking
-or_else None a = a
-or_else (Some a) b = a
+abbrev pub or_asking : Option Asking → Asking → Asking
+or_asking None a = a
+or_asking (Some a) b = a
 
 -- the first of the news that answers
-abbrev pub hears : ℕ → List News → Asking → Asking
-hears turn [] a = a
-hears turn (n ∷ news) a = or_else (answered turn a a.stage n.number n.answer) (hears turn news a)
+abbrev pub hears_first : ℕ → List News → Asking → Asking
+hears_first turn [] a = a
+hears_first turn (n ∷ news) a = or_asking (answered turn a a.stage n.number n.answer) (hears_first turn news a)
 
 -- what the state of a turn makes of an asking
 abbrev pub listens : Asking → State → Asking
 listens a s =
     let b = were_put s.turn s.asked a in
-    (if is_in_time s.turn b.since then hears s.turn s.news b else b)
+    (if is_in_time s.turn b.since then hears_first s.turn s.news b else b)
 
 -- nothing of a configuration is left to be queued
 abbrev pub is_over : List Setup → Bool
@@ -146,9 +146,9 @@ abbrev pub ready : List Setup → Asking → Asking
 ready setups a = record a { stage = ready_stage setups a.stage }
 
 -- a board is asked where nothing is out, or what is out was queued four turns ago
-abbrev pub is_due : ℕ → Option ℕ → Bool
-is_due k None = true
-is_due k (Some since) = nat_le 4 (k - since)
+abbrev pub is_question_due : ℕ → Option ℕ → Bool
+is_question_due k None = true
+is_question_due k (Some since) = nat_le 4 (k - since)
 
 -- a question is out
 abbrev pub is_out : Option ℕ → Bool
@@ -171,7 +171,7 @@ asks_clock stage = false
 -- the commands to a board in turn k
 abbrev pub asks : List Setup → ℕ → Asking → Stage → List Cmd
 asks setups k a (Configure n) = map setup_command (fitting control_bytes (drop n setups))
-asks setups k a stage = if is_due k a.since then question stage else []
+asks setups k a stage = if is_question_due k a.since then question stage else []
 
 -- the board was asked in turn k: anew, or again
 abbrev pub asked : ℕ → Asking → Asking
@@ -187,11 +187,11 @@ abbrev pub after_asks : List Setup → ℕ → Asking → Stage → Asking
 after_asks setups k a (Configure n) =
     record a { stage = Configure (min (n + length (fitting control_bytes (drop n setups))) (2 ^ 64 - 1)) }
 after_asks setups k a Connected = a
-after_asks setups k a stage = if is_due k a.since then asked k a else a
+after_asks setups k a stage = if is_question_due k a.since then asked k a else a
 
 -- the eighth asking in a row is unanswered
 abbrev pub gives_up : ℕ → Asking → Bool
-gives_up k a = is_out a.since && (is_due k a.since && nat_le 7 a.missed)
+gives_up k a = is_out a.since && (is_question_due k a.since && nat_le 7 a.missed)
 
 -- a stage is the last one
 abbrev pub is_connected : Stage → Bool

@@ -71,9 +71,9 @@ board_lines m b [] = []
 board_lines m b (a ∷ askings) = board_line m b a ∷ board_lines m (b + 1) askings
 
 -- the clock lines of boards that told one each
-abbrev pub clocks_of : List Line → List Clocks
-clocks_of [] = []
-clocks_of (l ∷ lines) = one_line l ∷ clocks_of lines
+abbrev pub one_line_clocks : List Line → List Clocks
+one_line_clocks [] = []
+one_line_clocks (l ∷ lines) = one_line l ∷ one_line_clocks lines
 
 -- the tick at which a turn begins, as far as 64 bits go
 abbrev pub turn_tick : Line → ℕ → ℕ

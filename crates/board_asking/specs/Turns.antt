@@ -9,22 +9,22 @@ use Rattle.board_asking.specs.Asking.{new_asking, listens, ready, asks, after_as
 use Rattle.board_asking.specs.Laws.{WasConfigured}
 
 -- a board's asking behind turn k
-abbrev pub behind : List Setup → ℕ → Asking → Asking
-behind setups k a = after_asks setups k a a.stage
+abbrev pub asking_in_turn : List Setup → ℕ → Asking → Asking
+asking_in_turn setups k a = after_asks setups k a a.stage
 
 -- a board's asking as the next turn begins, by the states of the turns from 0 on, of which the latest stands first
 abbrev pub heard : List Setup → List State → Asking
 heard setups [] = ready setups new_asking
-heard setups (s ∷ states) = ready setups (listens (behind setups (length states) (heard setups states)) s)
+heard setups (s ∷ states) = ready setups (listens (asking_in_turn setups (length states) (heard setups states)) s)
 
 -- of these states those that have come as turn k begins
-abbrev pub known : ℕ → List State → List State
-known k [] = []
-known k (s ∷ states) = if nat_le k (length states) then known k states else s ∷ states
+abbrev pub states_come : ℕ → List State → List State
+states_come k [] = []
+states_come k (s ∷ states) = if nat_le k (length states) then states_come k states else s ∷ states
 
 -- the asking of a board as turn k begins
 abbrev pub heard_at : List Setup → ℕ → List State → Asking
-heard_at setups k states = heard setups (known k states)
+heard_at setups k states = heard setups (states_come k states)
 
 -- a board is asked in a turn: the commands to it are the question of its stage
 abbrev pub AsksOf : Stage → Type 0

@@ -4,7 +4,7 @@ ghost use Rattle.std.specs.Prelude.{◌≡◌, ◌+◌, ◌≤◌, ◌++◌, len
 ghost use Rattle.std.specs.Prelude.{IfSome, ◌<◌, ◌^◌};
 ghost use Rattle.clock_line.specs.Samples.{better as better_sample};
 ghost use Rattle.board_asking.specs.Kept.{IsEarly, IsPutEarly, IsSampleEarly};
-ghost use Rattle.board_asking.specs.Asking.{more, new_asking, was_put, were_put, is_in_time, tells_clock, put_turn, sample_of, best_of, settled, after_piece, after_clock, if_clock, if_drift, answered, hears, listens, ready_stage, ready, is_over, is_due, is_out, question, asks, asked, after_asks, gives_up, is_connected};
+ghost use Rattle.board_asking.specs.Asking.{more, new_asking, was_put, were_put, is_in_time, tells_clock, put_turn, sample_of, best_of, settled, after_piece, after_clock, if_clock, if_drift, answered, hears_first, listens, ready_stage, ready, is_over, is_question_due, is_out, question, asks, asked, after_asks, gives_up, is_connected};
 
 use crate::OutOfMemory;
 use crate::setup::{Setup, put_fitting};
@@ -280,7 +280,7 @@ fn answered(turn: u64, a: Asking, number: u64, answer: &Cmd) -> Option<Asking>
 /// What news make of an asking: the first that answers it.
 fn hears(turn: u64, news: &[News], a: Asking) -> Asking
     requires { IsEarly a }
-    ensures value { result ≡ hears turn news.now a }
+    ensures value { result ≡ hears_first turn news.now a }
     ensures early { IsEarly result }
 {
     let mut rest = news;
@@ -340,7 +340,7 @@ fn is_over(setups: &[Setup]) -> bool
 
 /// Whether a board is asked in turn k.
 fn is_due(k: u64, since: Option<u64>) -> bool
-    ensures { result ≡ is_due k since }
+    ensures { result ≡ is_question_due k since }
 {
     match since {
         None => true,

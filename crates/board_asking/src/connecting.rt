@@ -9,7 +9,7 @@ ghost use Rattle.plan_types.specs.Machines.{IsValidMachine, IsValidFreq};
 ghost use Rattle.board_asking.specs.Kept.{IsEarly, IsSampleEarly};
 ghost use Rattle.board_asking.specs.Machine.{configuration};
 ghost use Rattle.board_asking.specs.Asking.{asks, is_connected};
-ghost use Rattle.board_asking.specs.Connecting.{listen_all, ready_all, giving_up, all_connected, control, asking_controls, ask_all, sample_or_none, board_line, board_lines, clocks_of, turn_tick, connected_lines};
+ghost use Rattle.board_asking.specs.Connecting.{listen_all, ready_all, giving_up, all_connected, control, asking_controls, ask_all, sample_or_none, board_line, board_lines, one_line_clocks, turn_tick, connected_lines};
 
 use crate::OutOfMemory;
 use crate::asking::{Asking, Stage, ask, gives_up, listens, ready};
@@ -239,7 +239,7 @@ pub fn put_lines(
 /// Adds the clocks of boards that have one line each.
 pub fn put_clocks(alloc: Global, lines: &[Line], out: &mut AllClocks) -> Result<(), OutOfMemory>
     requires { All IsValidLine lines.now }
-    ensures { OnOk result (out.new ≡ out.old ++ clocks_of lines.now) }
+    ensures { OnOk result (out.new ≡ out.old ++ one_line_clocks lines.now) }
 {
     match lines {
         [] => {}

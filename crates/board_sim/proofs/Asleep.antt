@@ -10,7 +10,7 @@ use Rattle.board_trig.specs.Trigger as trig
 use Rattle.board_sim.specs.Board as board
 use Rattle.board_sim.specs.Asleep.{AllSleep, Sleeps}
 use Rattle.board_sim.specs.Places.{NoneBehind}
-use Rattle.board_sim.specs.Rig.{Rig, Slot, Passed, no_objects, moment_in, moment_of, earliest, rested, rests_to, goes_on, at_of, passes_by, happens, pass, passes, all_left}
+use Rattle.board_sim.specs.Rig.{Rig, Slot, Passed, no_objects, moment_in, moment_of, earliest_moment, rested, rests_to, goes_on, at_of, passes_by, happens_at, pass, passes, all_left}
 use Rattle.board_sim.proofs.Passing.{is_le}
 
 no_switch : (levels : List Level) (until : ℕ) (can : Bool) (s : Option Sampling) → s ≡ None → trig.switch_before levels until can s ≡ None
@@ -18,13 +18,13 @@ no_switch levels until false s e = refl
 no_switch levels until true None e = refl
 no_switch levels until true (Some s) e = absurd (cc)
 
-next_by : (e s r : Option ℕ) → e ≡ None → s ≡ None → r ≡ None → trig.earliest e s r ≡ Nothing
+next_by : (e s r : Option ℕ) → e ≡ None → s ≡ None → r ≡ None → trig.earliest_happening e s r ≡ Nothing
 next_by None None None a b c = refl
 next_by (Some e) s r a b c = absurd (cc)
 next_by None (Some s) r a b c = absurd (cc)
 next_by None None (Some r) a b c = absurd (cc)
 
-asleep_next : (levels : List Level) (until : ℕ) (t : Trigger) → trig.IsAsleep until t → trig.next levels until t ≡ Nothing
+asleep_next : (levels : List Level) (until : ℕ) (t : Trigger) → trig.IsAsleep until t → trig.next_happening levels until t ≡ Nothing
 asleep_next levels until t h =
     let no = no_switch levels until t.can t.sampling h.sampling in
     let first : trig.or_until until (trig.expiry_of until t) ≡ until = rw h.timeout refl in
@@ -35,7 +35,7 @@ asleep_moment : (r : Rig) (until : ℕ) (o : Option Slot) → Sleeps until o →
 asleep_moment r until None h = refl
 asleep_moment r until (Some s) h = ap (λ h. moment_of h) (asleep_next _ until s.trigger h)
 
-asleep_earliest : (r : Rig) (until oid : ℕ) (ss : List (Option Slot)) → AllSleep until ss → earliest r until oid ss ≡ None
+asleep_earliest : (r : Rig) (until oid : ℕ) (ss : List (Option Slot)) → AllSleep until ss → earliest_moment r until oid ss ≡ None
 asleep_earliest r until oid [] h = refl
 asleep_earliest r until oid (s ∷ ss) h = rw (asleep_moment r until s h.0) (asleep_earliest r until (oid + 1) ss h.1)
 

@@ -9,7 +9,7 @@ use Rattle.board_step.specs.Steps.{Pending}
 use Rattle.board_sim.specs.Board.{Controller, stepper_at, emptied}
 use Rattle.board_sim.specs.Rig.{halt, halts, with_steppers}
 use Rattle.board_sim.specs.RigRuns.{has}
-use Rattle.board_sim.specs.Fair.{only, pending_at, SlotRises, IsWhole, IsCut}
+use Rattle.board_sim.specs.Fair.{only, pending_at, SlotRises, MakesMeant, IsCut}
 use Rattle.board_sim.specs.Halted.{without, cut_at, cut_all, is_halted}
 use Rattle.board_sim.proofs.Bound.{same_or_not}
 use Rattle.board_sim.proofs.Steps.{only-append}
@@ -82,30 +82,30 @@ at_halted (x ∷ xs) (suc i) = at_halted xs i
 abbrev halt_one : ℕ → Controller → Controller
 halt_one i b = with_steppers b (set b.steppers i (emptied (get_or b.steppers i None)))
 
-one_same : (b : Controller) (i j : ℕ) (made meant : List Pulse) → IsWhole b made meant → (i ≡ j) ⊎ (i ≢ j) → only j made ++ pending_at j (stepper_at (halt_one i b) j) ≡ only j (cut_at i made meant)
+one_same : (b : Controller) (i j : ℕ) (made meant : List Pulse) → MakesMeant b made meant → (i ≡ j) ⊎ (i ≢ j) → only j made ++ pending_at j (stepper_at (halt_one i b) j) ≡ only j (cut_at i made meant)
 one_same b i j made meant w (inl e) =
     subst (λ (k : ℕ). only k made ++ pending_at k (stepper_at (halt_one i b) k) ≡ only k (cut_at i made meant)) e
     (ap (λ (o : Option Pending). only i made ++ pending_at i o) (at_halted b.steppers i) ∙ ap (λ (xs : List Pulse). only i made ++ xs) (none_pending i (get_or b.steppers i None)) ∙ append-nil (only i made) ∙ sym (cut_same i made meant))
 one_same b i j made meant w (inr d) =
     ap (λ (o : Option Pending). only j made ++ pending_at j o) (get_or-set_other b.steppers i j (emptied (get_or b.steppers i None)) None (λ e. d (sym e))) ∙ w.same j ∙ sym (cut_other i j made meant d)
 
-one_rises : (b : Controller) (i j : ℕ) (made meant : List Pulse) → IsWhole b made meant → (i ≡ j) ⊎ (i ≢ j) → SlotRises b.tick (stepper_at (halt_one i b) j)
+one_rises : (b : Controller) (i j : ℕ) (made meant : List Pulse) → MakesMeant b made meant → (i ≡ j) ⊎ (i ≢ j) → SlotRises b.tick (stepper_at (halt_one i b) j)
 one_rises b i j made meant w (inl e) =
     subst (λ (k : ℕ). SlotRises b.tick (stepper_at (halt_one i b) k)) e (subst (λ (o : Option Pending). SlotRises b.tick o) (sym (at_halted b.steppers i)) (none_rises b.tick (get_or b.steppers i None)))
 one_rises b i j made meant w (inr d) =
     subst (λ (o : Option Pending). SlotRises b.tick o) (sym (get_or-set_other b.steppers i j (emptied (get_or b.steppers i None)) None (λ e. d (sym e)))) (w.rises j)
 
-one_whole : (b : Controller) (i : ℕ) (made meant : List Pulse) → IsWhole b made meant → IsWhole (halt_one i b) made (cut_at i made meant)
+one_whole : (b : Controller) (i : ℕ) (made meant : List Pulse) → MakesMeant b made meant → MakesMeant (halt_one i b) made (cut_at i made meant)
 one_whole b i made meant w = record { same = λ j. one_same b i j made meant w (same_or_not i j); rises = λ j. one_rises b i j made meant w (same_or_not i j) }
 
-pub halt_whole : (is : List ℕ) (b : Controller) (made meant : List Pulse) → IsWhole b made meant → IsWhole (with_steppers b (halt is b.steppers)) made (cut_all is made meant)
+pub halt_whole : (is : List ℕ) (b : Controller) (made meant : List Pulse) → MakesMeant b made meant → MakesMeant (with_steppers b (halt is b.steppers)) made (cut_all is made meant)
 halt_whole [] b made meant w = w
 halt_whole (i ∷ is) b made meant w = halt_whole is (halt_one i b) made (cut_at i made meant) (one_whole b i made meant w)
 
 abbrev Prefix : List Pulse → List Pulse → Type 0
 Prefix xs ys = (rest : List Pulse) × (xs ++ rest ≡ ys)
 
-one_prefix : (b : Controller) (i j : ℕ) (made meant : List Pulse) → IsWhole b made meant → (i ≡ j) ⊎ (i ≢ j) → Prefix (only j (cut_at i made meant)) (only j meant)
+one_prefix : (b : Controller) (i j : ℕ) (made meant : List Pulse) → MakesMeant b made meant → (i ≡ j) ⊎ (i ≢ j) → Prefix (only j (cut_at i made meant)) (only j meant)
 one_prefix b i j made meant w (inl e) =
     subst (λ (k : ℕ). Prefix (only k (cut_at i made meant)) (only k meant)) e
     (pending_at i (stepper_at b i), ap (λ (xs : List Pulse). xs ++ pending_at i (stepper_at b i)) (cut_same i made meant) ∙ w.same i)
@@ -114,7 +114,7 @@ one_prefix b i j made meant w (inr d) = ([], append-nil (only j (cut_at i made m
 prefix_of : (xs ys zs : List Pulse) → Prefix xs ys → Prefix ys zs → Prefix xs zs
 prefix_of xs ys zs p q = (p.0 ++ q.0, sym (append_assoc xs p.0 q.0) ∙ ap (λ (vs : List Pulse). vs ++ q.0) p.1 ∙ q.1)
 
-pub halt_cuts : (is : List ℕ) (b : Controller) (made meant : List Pulse) → IsWhole b made meant → IsCut (cut_all is made meant) meant
+pub halt_cuts : (is : List ℕ) (b : Controller) (made meant : List Pulse) → MakesMeant b made meant → IsCut (cut_all is made meant) meant
 halt_cuts [] b made meant w oid = ([], append-nil (only oid meant))
 halt_cuts (i ∷ is) b made meant w oid =
     prefix_of (only oid (cut_all is made (cut_at i made meant))) (only oid (cut_at i made meant)) (only oid meant) (halt_cuts is (halt_one i b) made (cut_at i made meant) (one_whole b i made meant w) oid)
@@ -151,7 +151,7 @@ pub halt_free : (is : List ℕ) (xs : List (Option Pending)) (j : ℕ) → is_ha
 halt_free [] xs j h = h
 halt_free (i ∷ is) xs j h = free_one xs i j (same_or_not i j) (halt_free is (set xs i (emptied (get_or xs i None))) j h)
 
-one_loses : (b : Controller) (i j : ℕ) (made meant : List Pulse) → IsWhole b made meant → (i ≡ j) ⊎ (i ≢ j) → is_halted (stepper_at (halt_one i b) j) ≡ false → only j (cut_at i made meant) ≡ only j meant
+one_loses : (b : Controller) (i j : ℕ) (made meant : List Pulse) → MakesMeant b made meant → (i ≡ j) ⊎ (i ≢ j) → is_halted (stepper_at (halt_one i b) j) ≡ false → only j (cut_at i made meant) ≡ only j meant
 one_loses b i j made meant w (inl e) h =
     let here : is_halted (stepper_at (halt_one i b) i) ≡ false = subst (λ (k : ℕ). is_halted (stepper_at (halt_one i b) k) ≡ false) (sym e) h in
     let none : get_or b.steppers i None ≡ None = gone (get_or b.steppers i None) (ap is_halted (sym (at_halted b.steppers i)) ∙ here) in
@@ -159,7 +159,7 @@ one_loses b i j made meant w (inl e) h =
     (cut_same i made meant ∙ sym (append-nil (only i made)) ∙ ap (λ (o : Option Pending). only i made ++ pending_at i o) (sym none) ∙ w.same i)
 one_loses b i j made meant w (inr d) h = cut_other i j made meant d
 
-pub halt_loses : (is : List ℕ) (b : Controller) (made meant : List Pulse) → IsWhole b made meant → (j : ℕ) → is_halted (get_or (halt is b.steppers) j None) ≡ false → only j (cut_all is made meant) ≡ only j meant
+pub halt_loses : (is : List ℕ) (b : Controller) (made meant : List Pulse) → MakesMeant b made meant → (j : ℕ) → is_halted (get_or (halt is b.steppers) j None) ≡ false → only j (cut_all is made meant) ≡ only j meant
 halt_loses [] b made meant w j h = refl
 halt_loses (i ∷ is) b made meant w j h =
     halt_loses is (halt_one i b) made (cut_at i made meant) (one_whole b i made meant w) j h

@@ -16,9 +16,9 @@ use Rattle.plan_types.specs.declared.plan.Triple.{Triple}
 use Rattle.plan_types.specs.Board.{Group, steps_of}
 use Rattle.board_sim.specs.Board.{Controller, stepper_at, with_stepper, stop, is_none_pending, refusal, takes_triple, queue_step}
 use Rattle.board_sim.specs.Board as board
-use Rattle.board_sim.specs.Rig.{Rig, Slot, slot_at, becomes, make_trigger, make_endstop, start, expires_at_once, set_timeout, trigger, bind, home, acts, acts_running, takes, takes_all}
-use Rattle.board_sim.specs.Fair.{Meant, commands_of, only, pending_at, IsWhole, IsCut, IsKeptIn, IsKept, IsFairRunning, AreFair, steps_taken, meant_on, meant_by, meant_running}
-use Rattle.board_sim.specs.Halted.{cut_at, is_halted, left_by, left_running, meant_next, meant_behind, KeptPart}
+use Rattle.board_sim.specs.Rig.{Rig, Slot, slot_at, becomes, make_trigger, make_endstop, start_trigger, expires_at_once, set_timeout, trigger, bind, home, acts, acts_running, takes, takes_all}
+use Rattle.board_sim.specs.Fair.{Meant, commands_of, only, pending_at, MakesMeant, IsCut, IsKeptIn, IsFairSofar, IsFairRunning, AreFair, steps_taken, meant_on, meant_by, meant_running}
+use Rattle.board_sim.specs.Halted.{cut_at, is_halted, meant_left, left_running, meant_next, meant_behind, KeptPart}
 use Rattle.board_sim.proofs.Bound.{same_or_not}
 use Rattle.board_sim.proofs.Steps.{only-append, only_other}
 use Rattle.board_sim.proofs.Halted.{cut_same, cut_other}
@@ -27,7 +27,7 @@ use Rattle.board_sim.proofs.Keeps.{slot_set, renewed, rises_at, slot_is}
 use Rattle.board_sim.proofs.Keeps as one
 
 abbrev Keeps : Rig → List Pulse → List Pulse → Rig → Type 0
-Keeps r made meant q = IsKept r.controller made meant → KeptPart q.controller made meant × Goes r.controller q.controller
+Keeps r made meant q = IsFairSofar r.controller made meant → KeptPart q.controller made meant × Goes r.controller q.controller
 
 as_it_is : (r : Rig) (made meant : List Pulse) → Keeps r made meant r
 as_it_is r made meant k = (whole_part r.controller made meant k, goes_same r.controller)
@@ -43,7 +43,7 @@ endstop_keep : (r : Rig) (oid pin : ℕ) (o : Option ℕ) (made meant : List Pul
 endstop_keep r oid pin None made meant k = as_it_is r made meant k
 endstop_keep r oid pin (Some p) made meant k = as_it_is r made meant k
 
-start_keep : (r : Rig) (oid : ℕ) (o : Option Slot) (clock every reason : ℕ) (made meant : List Pulse) → Keeps r made meant (start r oid o clock every reason)
+start_keep : (r : Rig) (oid : ℕ) (o : Option Slot) (clock every reason : ℕ) (made meant : List Pulse) → Keeps r made meant (start_trigger r oid o clock every reason)
 start_keep r oid None clock every reason made meant k = as_it_is r made meant k
 start_keep r oid (Some s) clock every reason made meant k = becomes_keep r oid s (trig.started r.controller.tick clock every reason s.trigger) made meant k
 
@@ -164,7 +164,7 @@ more_cut : (o : BoardState) (b : Controller) (c : Cmd) (ticks : List ℕ) (made 
 more_cut Running b c ticks made meant k e = λ j. more_by (is_halted (stepper_at b j)) b made meant (meant_by b c ticks) k j e refl (λ h. none_means b c ticks j h)
 more_cut (Shut reason tick first) b c ticks made meant k e = rw (append-nil k.kept, append-nil meant) k.cut
 
-none_left : (b : Controller) (made meant : List Pulse) (c : Cmd) → IsNoReset c → left_by b made meant c ≡ meant
+none_left : (b : Controller) (made meant : List Pulse) (c : Cmd) → IsNoReset c → meant_left b made meant c ≡ meant
 none_left b made meant (cmd.ResetStepClock oid clock) n = absurd n
 none_left b made meant _ n = refl
 
@@ -205,15 +205,15 @@ abbrev clocked : Pending → ℕ → Pending
 clocked q clock = record q { last = clock; halted = false }
 
 -- one that had no steps
-same_made : (b : Controller) (oid : ℕ) (q : Pending) (made kept : List Pulse) → IsWhole b made kept → stepper_at b oid ≡ Some q → q.groups ≡ [] → only oid kept ≡ only oid made
+same_made : (b : Controller) (oid : ℕ) (q : Pending) (made kept : List Pulse) → MakesMeant b made kept → stepper_at b oid ≡ Some q → q.groups ≡ [] → only oid kept ≡ only oid made
 same_made b oid q made kept w at none =
     sym (w.same oid) ∙ ap (λ (o : Option Pending). only oid made ++ pending_at oid o) at ∙ ap (λ (gs : List Group). only oid made ++ pending_at oid (Some (record q { groups = gs }))) none ∙ append-nil (only oid made)
 
 free_other : (b : Controller) (oid j : ℕ) (q : Pending) → oid ≢ j → is_halted (stepper_at (with_stepper b oid q) j) ≡ false → is_halted (stepper_at b j) ≡ false
 free_other b oid j q d h = ap is_halted (sym (get_or-set_other b.steppers oid j (Some q) None (λ e. d (sym e)))) ∙ h
 
-clocked_part : (x : Bool) (b : Controller) (oid clock : ℕ) (q : Pending) (made meant : List Pulse) (k : KeptPart b made meant) → b.state ≡ Running → IsWhole b made k.kept → stepper_at b oid ≡ Some q → q.groups ≡ [] → q.halted ≡ x
-    → IsKept (with_stepper b oid (clocked q clock)) made k.kept → KeptPart (with_stepper b oid (clocked q clock)) made (left_at x oid made meant)
+clocked_part : (x : Bool) (b : Controller) (oid clock : ℕ) (q : Pending) (made meant : List Pulse) (k : KeptPart b made meant) → b.state ≡ Running → MakesMeant b made k.kept → stepper_at b oid ≡ Some q → q.groups ≡ [] → q.halted ≡ x
+    → IsFairSofar (with_stepper b oid (clocked q clock)) made k.kept → KeptPart (with_stepper b oid (clocked q clock)) made (left_at x oid made meant)
 clocked_part false b oid clock q made meant k e w at none h is =
     let goes : Goes b (with_stepper b oid (clocked q clock)) = set_go b oid (clocked q clock) (λ f. ap is_halted at ∙ h) in
     record { kept = k.kept; is = is; cut = k.cut; free = λ f j n. k.free (goes.ran f) j (goes.free f j n) }
@@ -235,8 +235,8 @@ clocked_part true b oid clock q made meant k e w at none h is =
 reset_by : (x : Bool) (b : Controller) (oid clock : ℕ) (q : Pending) (made meant : List Pulse) → KeptPart b made meant → b.state ≡ Running → stepper_at b oid ≡ Some q → is_none_pending q.groups ≡ x
     → KeptPart (if x then board.quiet (with_stepper b oid (clocked q clock)) else stop b board.stepper_active 0).board made (left_at q.halted oid made meant)
 reset_by true b oid clock q made meant k e at none =
-    let w : IsWhole b made k.kept = subst (λ (o : BoardState). IsKeptIn o b made k.kept) e k.is in
-    let is : IsKept (with_stepper b oid (clocked q clock)) made (k.kept ++ []) = renewed b oid (clocked q clock) made k.kept e w (slot_is b oid (Some q) at) (rises_at b oid q made k.kept w at) in
+    let w : MakesMeant b made k.kept = subst (λ (o : BoardState). IsKeptIn o b made k.kept) e k.is in
+    let is : IsFairSofar (with_stepper b oid (clocked q clock)) made (k.kept ++ []) = renewed b oid (clocked q clock) made k.kept e w (slot_is b oid (Some q) at) (rises_at b oid q made k.kept w at) in
     clocked_part q.halted b oid clock q made meant k e w at (no_groups q.groups none) refl (rw (append-nil k.kept) at is)
 reset_by false b oid clock q made meant k e at none = record {
   kept = made;
@@ -273,7 +273,7 @@ acts_keep : (r : Rig) (c : Cmd) (ticks : List ℕ) (made meant : List Pulse) →
 acts_keep r (cmd.ResetStepClock oid clock) ticks made meant k fair = reset_running r.controller.state r.controller oid clock ticks made meant refl k
 acts_keep r (cmd.ConfigTrsync oid) ticks made meant k fair = by_trigger r (make_trigger r oid (slot_at r oid)) (cmd.ConfigTrsync oid) ticks made meant tt refl (λ ms h. made_keep r oid (slot_at r oid) made ms h) k
 acts_keep r (cmd.TrsyncStart oid clock every reason) ticks made meant k fair =
-    by_trigger r (start r oid (slot_at r oid) clock every reason) (cmd.TrsyncStart oid clock every reason) ticks made meant tt refl (λ ms h. start_keep r oid (slot_at r oid) clock every reason made ms h) k
+    by_trigger r (start_trigger r oid (slot_at r oid) clock every reason) (cmd.TrsyncStart oid clock every reason) ticks made meant tt refl (λ ms h. start_keep r oid (slot_at r oid) clock every reason made ms h) k
 acts_keep r (cmd.TrsyncSetTimeout oid clock) ticks made meant k fair =
     by_trigger r (set_timeout r oid (slot_at r oid) clock).rig (cmd.TrsyncSetTimeout oid clock) ticks made meant tt refl (λ ms h. timeout_keep r oid (slot_at r oid) clock made ms h) k
 acts_keep r (cmd.TrsyncTrigger oid reason) ticks made meant k fair =

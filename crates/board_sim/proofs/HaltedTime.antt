@@ -8,8 +8,8 @@ use Rattle.board_step.specs.Steps.{Pending}
 use Rattle.board_trig.specs.Trigger as trig
 use Rattle.board_sim.specs.Board.{Controller, stepper_at, slot_to}
 use Rattle.board_sim.specs.Board as board
-use Rattle.board_sim.specs.Rig.{Rig, Slot, Passed, slot_at, levels_of, halt, halts, with_steppers, earliest, runs_to, rests_to, happens_to, happens, goes_on, at_of, passes_by, pass, passes, all_left}
-use Rattle.board_sim.specs.Fair.{only, pending_at, IsWhole, IsCut, IsKeptIn, IsKept}
+use Rattle.board_sim.specs.Rig.{Rig, Slot, Passed, slot_at, levels_of, halt, halts, with_steppers, earliest_moment, runs_to, rests_to, happens_to, happens_at, goes_on, at_of, passes_by, pass, passes, all_left}
+use Rattle.board_sim.specs.Fair.{only, pending_at, MakesMeant, IsCut, IsKeptIn, IsFairSofar}
 use Rattle.board_sim.specs.Halted.{cut_all, is_halted, KeptPart}
 use Rattle.board_sim.proofs.Halted.{halt_whole, halt_cuts, halt_free, halt_loses}
 use Rattle.board_sim.proofs.Keeps.{pass_keeps, slots_at, kept_cut}
@@ -40,7 +40,7 @@ part_of b c made new meant k goes p = record {
   free = λ e oid h. p.free e oid h ∙ k.free (goes.ran e) oid (goes.free e oid h);
 }
 
-pub whole_part : (b : Controller) (made meant : List Pulse) → IsKept b made meant → KeptPart b made meant
+pub whole_part : (b : Controller) (made meant : List Pulse) → IsFairSofar b made meant → KeptPart b made meant
 whole_part b made meant k = record { kept = meant; is = k; cut = all_kept meant; free = λ e oid h. refl }
 
 -- halts
@@ -56,7 +56,7 @@ halted_in Running bound b made meant e w =
 halted_in (Shut reason tick first) bound b made meant e c =
     whole_part (with_steppers b (halt bound b.steppers)) made meant (subst (λ (o : BoardState). IsKeptIn o (with_steppers b (halt bound b.steppers)) made meant) (sym e) c)
 
-pub halts_keep : (x : Bool) (bound : List ℕ) (b : Controller) (made meant : List Pulse) → IsKept b made meant → KeptPart (halts x bound b) made meant
+pub halts_keep : (x : Bool) (bound : List ℕ) (b : Controller) (made meant : List Pulse) → IsFairSofar b made meant → KeptPart (halts x bound b) made meant
 halts_keep false bound b made meant k = whole_part b made meant k
 halts_keep true bound b made meant k = halted_in b.state bound b made meant refl k
 
@@ -64,7 +64,7 @@ pub halts_go : (x : Bool) (bound : List ℕ) (b : Controller) → Goes b (halts 
 halts_go false bound b = goes_same b
 halts_go true bound b = record { ran = λ e. e; free = λ e oid h. halt_free bound b.steppers oid h }
 
-happens_keep : (r : Rig) (t oid : ℕ) (o : Option Slot) (made meant : List Pulse) → IsKept r.controller made meant → KeptPart (happens_to r t oid o).rig.controller made meant
+happens_keep : (r : Rig) (t oid : ℕ) (o : Option Slot) (made meant : List Pulse) → IsFairSofar r.controller made meant → KeptPart (happens_to r t oid o).rig.controller made meant
 happens_keep r t oid None made meant k = whole_part r.controller made meant k
 happens_keep r t oid (Some s) made meant k = halts_keep (s.trigger.can && not (trig.advanced (levels_of r s.pin) t s.trigger).trigger.can) s.bound r.controller made meant k
 
@@ -87,11 +87,11 @@ passes_go b t = elim (leb_tells b.tick t) [ inl p ↦ rw p.0 (on_goes b.state b 
 abbrev KeepsOn : List Pulse → List Pulse → Rig → Passed → Type 0
 KeepsOn made meant r p = KeptPart p.rig.controller (made ++ p.pulses) meant × Goes r.controller p.rig.controller
 
-runs_keep : (r : Rig) (t : ℕ) (made meant : List Pulse) → IsKept r.controller made meant → KeptPart (board.passes r.controller t).board (made ++ (board.passes r.controller t).pulses) meant
+runs_keep : (r : Rig) (t : ℕ) (made meant : List Pulse) → IsFairSofar r.controller made meant → KeptPart (board.passes r.controller t).board (made ++ (board.passes r.controller t).pulses) meant
 runs_keep r t made meant k = whole_part (board.passes r.controller t).board (made ++ (board.passes r.controller t).pulses) meant (pass_keeps r.controller t made meant k)
 
-goes_keep : (o : Option (ℕ × ℕ)) (r : Rig) (t : ℕ) (rest : Passed) (made meant : List Pulse) → IsKept r.controller made meant
-    → ((made' meant' : List Pulse) → IsKept (happens r t (at_of o)).rig.controller made' meant' → KeepsOn made' meant' (happens r t (at_of o)).rig rest) → KeepsOn made meant r (goes_on o (rests_to r t) (passes_by (happens r t (at_of o)) rest))
+goes_keep : (o : Option (ℕ × ℕ)) (r : Rig) (t : ℕ) (rest : Passed) (made meant : List Pulse) → IsFairSofar r.controller made meant
+    → ((made' meant' : List Pulse) → IsFairSofar (happens_at r t (at_of o)).rig.controller made' meant' → KeepsOn made' meant' (happens_at r t (at_of o)).rig rest) → KeepsOn made meant r (goes_on o (rests_to r t) (passes_by (happens_at r t (at_of o)) rest))
 goes_keep None r t rest made meant k more = (runs_keep r t made meant k, passes_go r.controller t)
 goes_keep (Some at) r t rest made meant k more =
     let ran = runs_to r (at.0 / 3) in
@@ -103,12 +103,12 @@ goes_keep (Some at) r t rest made meant k more =
       goes_both r.controller done.rig.controller rest.rig.controller (goes_both r.controller ran.rig.controller done.rig.controller (passes_go r.controller (at.0 / 3)) (happens_go ran.rig t at.1 (slot_at ran.rig at.1))) last.1,
     )
 
-steps_keep : (n : ℕ) (r : Rig) (t : ℕ) (made meant : List Pulse) → IsKept r.controller made meant → KeepsOn made meant r (pass n r t)
+steps_keep : (n : ℕ) (r : Rig) (t : ℕ) (made meant : List Pulse) → IsFairSofar r.controller made meant → KeepsOn made meant r (pass n r t)
 steps_keep zero r t made meant k = (subst (λ (ps : List Pulse). KeptPart r.controller ps meant) (sym (append-nil made)) (whole_part r.controller made meant k), goes_same r.controller)
 steps_keep (suc n) r t made meant k =
-    goes_keep (earliest r t 0 r.triggers) r t (pass n (happens r t (at_of (earliest r t 0 r.triggers))).rig t) made meant k (λ ps ms h. steps_keep n (happens r t (at_of (earliest r t 0 r.triggers))).rig t ps ms h)
+    goes_keep (earliest_moment r t 0 r.triggers) r t (pass n (happens_at r t (at_of (earliest_moment r t 0 r.triggers))).rig t) made meant k (λ ps ms h. steps_keep n (happens_at r t (at_of (earliest_moment r t 0 r.triggers))).rig t ps ms h)
 
-kept_keeps : (r : Rig) (t : ℕ) (made meant : List Pulse) → IsKept r.controller made meant → KeepsOn made meant r (passes r t)
+kept_keeps : (r : Rig) (t : ℕ) (made meant : List Pulse) → IsFairSofar r.controller made meant → KeepsOn made meant r (passes r t)
 kept_keeps r t made meant k =
     elim (leb_tells r.controller.tick t) [ inl p ↦ rw p.0 (steps_keep (all_left t r.triggers + 1) r t made meant k) | inr p ↦ rw p.0 (steps_keep 0 r t made meant k) ]
 
@@ -123,5 +123,5 @@ part_cut b made meant k = cut_of made k.kept meant (kept_cut b.state b made k.ke
 
 pub part_whole : (b : Controller) (made meant : List Pulse) → KeptPart b made meant → b.state ≡ Running → (oid : ℕ) → is_halted (stepper_at b oid) ≡ false → only oid made ++ pending_at oid (stepper_at b oid) ≡ only oid meant
 part_whole b made meant k e oid h =
-    let w : IsWhole b made k.kept = subst (λ (o : BoardState). IsKeptIn o b made k.kept) e k.is in
+    let w : MakesMeant b made k.kept = subst (λ (o : BoardState). IsKeptIn o b made k.kept) e k.is in
     w.same oid ∙ k.free e oid h

@@ -16,30 +16,30 @@ use Rattle.board_step.proofs.Whole.{whole}
 use Rattle.msg_code.specs.declared.cmd.Cmd.{Cmd}
 use Rattle.msg_code.specs.declared.cmd.Cmd.TheVariants as cmd
 use Rattle.board_sim.specs.Board.{Controller, Done, Passed, new_controller, places, stepper_at, with_stepper, quiet, stop, is_none_pending, first_of, refusal, takes_triple, queue_step, set_dir, reset, make_stepper, acts, acts_running, takes, takes_all, slot_to, slot_before, all_before, by_tick, passes_on, passes, zero_count, queue_overflow, timer_too_close, stepper_active, command_request}
-use Rattle.board_sim.specs.Turn.{Station, Heard, hears_all, accepted, turn}
-use Rattle.board_sim.specs.Fair.{Meant, commands_of, IsFairOn, IsFairCommand, IsFairRunning, steps_taken, meant_on, meant_by, meant_running, only, pending_at, RiseFrom, SlotRises, IsWhole, IsCut, IsKeptIn, IsKept}
+use Rattle.board_sim.specs.Turn.{Station, Heard, hears_all, accepted_commands, turn}
+use Rattle.board_sim.specs.Fair.{Meant, commands_of, IsFairOn, IsFairCommand, IsFairRunning, steps_taken, meant_on, meant_by, meant_running, only, pending_at, GroupsRiseFrom, SlotRises, MakesMeant, IsCut, IsKeptIn, IsFairSofar}
 use Rattle.board_sim.proofs.Sorted.{Up}
 use Rattle.board_sim.proofs.Steps.{only-append, only_same, only_other, pending_push, split_groups, rise_from, end_any, rise_push, rise_up, before_up, only_by_tick}
 use Rattle.board_sim.proofs.Heeding.{heeds_all}
 
 -- what a command keeps, where these steps are meant by it
 abbrev pub Keeps : List Pulse → List Pulse → Done → List Pulse → Type 0
-Keeps made meant d more = IsKept d.board made (meant ++ more)
+Keeps made meant d more = IsFairSofar d.board made (meant ++ more)
 
-pub cut_of : (b : Controller) (made meant : List Pulse) → IsWhole b made meant → IsCut made meant
+pub cut_of : (b : Controller) (made meant : List Pulse) → MakesMeant b made meant → IsCut made meant
 cut_of b made meant w oid = (pending_at oid (stepper_at b oid), w.same oid)
 
 pub kept_cut : (o : BoardState) (b : Controller) (made meant : List Pulse) → IsKeptIn o b made meant → IsCut made meant
 kept_cut Running b made meant k = cut_of b made meant k
 kept_cut (Shut reason tick first) b made meant k = k
 
-pub quiet_keeps : (b : Controller) (made meant : List Pulse) → IsKept b made meant → IsKept b made (meant ++ [])
+pub quiet_keeps : (b : Controller) (made meant : List Pulse) → IsFairSofar b made meant → IsFairSofar b made (meant ++ [])
 quiet_keeps b made meant k = rw (append-nil meant) k
 
-pub whole_kept : (b : Controller) (made meant : List Pulse) → b.state ≡ Running → IsWhole b made meant → IsKept b made meant
+pub whole_kept : (b : Controller) (made meant : List Pulse) → b.state ≡ Running → MakesMeant b made meant → IsFairSofar b made meant
 whole_kept b made meant e w = let At : BoardState → Type 0 = λ o. IsKeptIn o b made meant in subst At (sym e) w
 
-pub stop_keeps : (b : Controller) (reason first : ℕ) (made meant : List Pulse) → IsWhole b made meant → Keeps made meant (stop b reason first) []
+pub stop_keeps : (b : Controller) (reason first : ℕ) (made meant : List Pulse) → MakesMeant b made meant → Keeps made meant (stop b reason first) []
 stop_keeps b reason first made meant w = rw (append-nil meant) (cut_of b made meant w)
 
 slot_past : (xs : List (Option Pending)) (i j : ℕ) (v : Option Pending) → length xs ≤ j → get_or (set xs i v) j None ≡ get_or xs j None
@@ -59,10 +59,10 @@ slot_set xs i j v =
     ]
 
 -- a stepper is replaced by one at which more steps pend, which are those that are meant besides
-changed : (b : Controller) (oid : ℕ) (q : Pending) (made meant new : List Pulse) → IsWhole b made meant
+changed : (b : Controller) (oid : ℕ) (q : Pending) (made meant new : List Pulse) → MakesMeant b made meant
     → pending_at oid (stepper_at b oid) ++ new ≡ pending_at oid (Some q) → (stepper_at b oid ≡ None → new ≡ [])
-    → only oid new ≡ new → ((other : ℕ) → oid ≢ other → only other new ≡ []) → RiseFrom b.tick q.groups
-    → IsWhole (with_stepper b oid q) made (meant ++ new)
+    → only oid new ≡ new → ((other : ℕ) → oid ≢ other → only other new ≡ []) → GroupsRiseFrom b.tick q.groups
+    → MakesMeant (with_stepper b oid q) made (meant ++ new)
 changed b oid q made meant new w more none same other rises = record {
   same = λ o. elim (slot_set b.steppers oid o (Some q)) [
     | inl p ↦ rw (p.1, only-append o meant new)
@@ -85,17 +85,17 @@ changed b oid q made meant new w more none same other rises = record {
 }
 
 -- nothing more is meant
-pub renewed : (b : Controller) (oid : ℕ) (q : Pending) (made meant : List Pulse) → b.state ≡ Running → IsWhole b made meant
-    → pending_at oid (stepper_at b oid) ≡ pending_at oid (Some q) → RiseFrom b.tick q.groups → Keeps made meant (quiet (with_stepper b oid q)) []
+pub renewed : (b : Controller) (oid : ℕ) (q : Pending) (made meant : List Pulse) → b.state ≡ Running → MakesMeant b made meant
+    → pending_at oid (stepper_at b oid) ≡ pending_at oid (Some q) → GroupsRiseFrom b.tick q.groups → Keeps made meant (quiet (with_stepper b oid q)) []
 renewed b oid q made meant e w more rises =
     whole_kept (with_stepper b oid q) made (meant ++ []) e
     (changed b oid q made meant [] w (append-nil (pending_at oid (stepper_at b oid)) ∙ more) (λ none. refl) refl (λ other ne. refl) rises)
 
-pub rises_at : (b : Controller) (oid : ℕ) (q : Pending) (made meant : List Pulse) → IsWhole b made meant → stepper_at b oid ≡ Some q → RiseFrom b.tick q.groups
+pub rises_at : (b : Controller) (oid : ℕ) (q : Pending) (made meant : List Pulse) → MakesMeant b made meant → stepper_at b oid ≡ Some q → GroupsRiseFrom b.tick q.groups
 rises_at b oid q made meant w e = let At : Option Pending → Type 0 = λ o. SlotRises b.tick o in subst At e (w.rises oid)
 
 -- the ticks of a fair triple go on from those that pend
-goes_on : (now last : ℕ) (gs : List Group) (ticks : List ℕ) → RiseFrom now gs → Follows now last gs (slice_index ticks 0) → TicksRise ticks
+goes_on : (now last : ℕ) (gs : List Group) (ticks : List ℕ) → GroupsRiseFrom now gs → Follows now last gs (slice_index ticks 0) → TicksRise ticks
     → (gs ≡ [] → now ≤ slice_index ticks 0) → 0 < length ticks → UpFrom (end_of now gs) ticks
 goes_on now last gs [] r h rise at some = absurd (omega arith)
 goes_on now last [] (t ∷ ts) r h rise at some = rise_up now t ts rise (at refl)
@@ -108,9 +108,9 @@ not_none : (o : Option Pending) (q : Pending) (new : List Pulse) → o ≡ Some 
 not_none o q new e f = cc
 
 -- a triple that isn't refused
-push_whole : (b : Controller) (oid : ℕ) (q : Pending) (made meant : List Pulse) (t : Triple) (ticks : List ℕ) → IsWhole b made meant
+push_whole : (b : Controller) (oid : ℕ) (q : Pending) (made meant : List Pulse) (t : Triple) (ticks : List ℕ) → MakesMeant b made meant
     → stepper_at b oid ≡ Some q → t.interval < 2 ^ 32 → IsFair b.tick q t ticks → (q.groups ≡ [] → b.tick ≤ first_of b.tick q t)
-    → IsWhole (with_stepper b oid (with_ticks q (ticks_at (first_of b.tick q t) t))) made (meant ++ map (pulse_of oid) (steps_of q.up ticks))
+    → MakesMeant (with_stepper b oid (with_ticks q (ticks_at (first_of b.tick q t) t))) made (meant ++ map (pulse_of oid) (steps_of q.up ticks))
 push_whole b oid q made meant t ticks w at small fair late =
     let r = rises_at b oid q made meant w at in
     let same : ticks_at (first_of b.tick q t) t ≡ ticks = whole b.tick q t ticks small fair in
@@ -154,8 +154,8 @@ on_time now q t e none =
     (last_test (t.count == 0) (nat_le q.slots (length q.groups)) (is_none_pending q.groups && nat_lt (first_of now q t) now) (zero_count, 0) (queue_overflow, 0) (timer_too_close, first_of now q t) e)
     none
 
-taken_keeps : (r : Option (ℕ × ℕ)) (b : Controller) (oid : ℕ) (q : Pending) (made meant : List Pulse) (own ticks : List ℕ) → b.state ≡ Running → IsWhole b made meant
-    → (r ≡ None → IsWhole (with_stepper b oid (with_ticks q own)) made (meant ++ map (pulse_of oid) (steps_of q.up ticks)))
+taken_keeps : (r : Option (ℕ × ℕ)) (b : Controller) (oid : ℕ) (q : Pending) (made meant : List Pulse) (own ticks : List ℕ) → b.state ≡ Running → MakesMeant b made meant
+    → (r ≡ None → MakesMeant (with_stepper b oid (with_ticks q own)) made (meant ++ map (pulse_of oid) (steps_of q.up ticks)))
     → Keeps made meant (takes_triple r b oid q own) (steps_taken r oid q.up ticks)
 taken_keeps None b oid q made meant own ticks e w h = whole_kept (with_stepper b oid (with_ticks q own)) made (meant ++ map (pulse_of oid) (steps_of q.up ticks)) e (h refl)
 taken_keeps (Some r) b oid q made meant own ticks e w h = stop_keeps b r.0 r.1 made meant w
@@ -165,7 +165,7 @@ halted_or : (h : Bool) (b : Controller) (d : Done) (made meant more : List Pulse
 halted_or true b d made meant more k l = k
 halted_or false b d made meant more k l = l refl
 
-queue_step_keeps : (b : Controller) (oid : ℕ) (o : Option Pending) (made meant : List Pulse) (t : Triple) (ticks : List ℕ) → b.state ≡ Running → IsWhole b made meant
+queue_step_keeps : (b : Controller) (oid : ℕ) (o : Option Pending) (made meant : List Pulse) (t : Triple) (ticks : List ℕ) → b.state ≡ Running → MakesMeant b made meant
     → stepper_at b oid ≡ o → IsFairOn b.tick o t ticks → Keeps made meant (queue_step b oid o t) (meant_on b.tick oid o t ticks)
 queue_step_keeps b oid None made meant t ticks e w at fair = quiet_keeps b made meant (whole_kept b made meant e w)
 queue_step_keeps b oid (Some q) made meant t ticks e w at fair =
@@ -178,7 +178,7 @@ queue_step_keeps b oid (Some q) made meant t ticks e w at fair =
 pub slot_is : (b : Controller) (oid : ℕ) (o : Option Pending) → stepper_at b oid ≡ o → pending_at oid (stepper_at b oid) ≡ pending_at oid o
 slot_is b oid o e = ap (λ x. pending_at oid x) e
 
-set_dir_keeps : (b : Controller) (oid : ℕ) (o : Option Pending) (dir : ℕ) (made meant : List Pulse) → b.state ≡ Running → IsWhole b made meant → stepper_at b oid ≡ o
+set_dir_keeps : (b : Controller) (oid : ℕ) (o : Option Pending) (dir : ℕ) (made meant : List Pulse) → b.state ≡ Running → MakesMeant b made meant → stepper_at b oid ≡ o
     → Keeps made meant (set_dir b oid o dir) []
 set_dir_keeps b oid None dir made meant e w at = quiet_keeps b made meant (whole_kept b made meant e w)
 set_dir_keeps b oid (Some q) dir made meant e w at =
@@ -188,7 +188,7 @@ reset_or : (h : Bool) (d f : Done) (made meant : List Pulse) → Keeps made mean
 reset_or true d f made meant k l = k
 reset_or false d f made meant k l = l
 
-reset_keeps : (b : Controller) (oid : ℕ) (o : Option Pending) (clock : ℕ) (made meant : List Pulse) → b.state ≡ Running → IsWhole b made meant → stepper_at b oid ≡ o
+reset_keeps : (b : Controller) (oid : ℕ) (o : Option Pending) (clock : ℕ) (made meant : List Pulse) → b.state ≡ Running → MakesMeant b made meant → stepper_at b oid ≡ o
     → Keeps made meant (reset b oid o clock) []
 reset_keeps b oid None clock made meant e w at = quiet_keeps b made meant (whole_kept b made meant e w)
 reset_keeps b oid (Some q) clock made meant e w at =
@@ -196,19 +196,19 @@ reset_keeps b oid (Some q) clock made meant e w at =
     (renewed b oid (record q { last = clock; halted = false }) made meant e w (slot_is b oid (Some q) at) (rises_at b oid q made meant w at))
     (stop_keeps b stepper_active 0 made meant w)
 
-make_keeps : (b : Controller) (oid : ℕ) (o : Option Pending) (made meant : List Pulse) → b.state ≡ Running → IsWhole b made meant → stepper_at b oid ≡ o
+make_keeps : (b : Controller) (oid : ℕ) (o : Option Pending) (made meant : List Pulse) → b.state ≡ Running → MakesMeant b made meant → stepper_at b oid ≡ o
     → Keeps made meant (make_stepper b oid o) []
 make_keeps b oid None made meant e w at =
     renewed b oid (record { halted = false; up = false; last = 0; groups = []; slots = b.slots }) made meant e w (slot_is b oid None at) tt
 make_keeps b oid (Some q) made meant e w at = quiet_keeps b made meant (whole_kept b made meant e w)
 
 -- only the steppers, the tick and the state count
-noted_keeps : (b c : Controller) (made meant : List Pulse) → b.state ≡ Running → c.state ≡ b.state → c.steppers ≡ b.steppers → c.tick ≡ b.tick → IsWhole b made meant → Keeps made meant (quiet c) []
+noted_keeps : (b c : Controller) (made meant : List Pulse) → b.state ≡ Running → c.state ≡ b.state → c.steppers ≡ b.steppers → c.tick ≡ b.tick → MakesMeant b made meant → Keeps made meant (quiet c) []
 noted_keeps b c made meant e state steppers tick w =
     quiet_keeps c made meant
     (whole_kept c made meant (state ∙ e) (record { same = rw steppers w.same; rises = rw (steppers, tick) w.rises }))
 
-acts_keeps : (b : Controller) (c : Cmd) (ticks : List ℕ) (made meant : List Pulse) → b.state ≡ Running → IsWhole b made meant → IsFairCommand b c ticks → Keeps made meant (acts b c) (meant_by b c ticks)
+acts_keeps : (b : Controller) (c : Cmd) (ticks : List ℕ) (made meant : List Pulse) → b.state ≡ Running → MakesMeant b made meant → IsFairCommand b c ticks → Keeps made meant (acts b c) (meant_by b c ticks)
 acts_keeps b (cmd.AllocateOids count) ticks made meant e w fair = noted_keeps b (record b { oids = count }) made meant e refl refl refl w
 acts_keeps b (cmd.FinalizeConfig crc) ticks made meant e w fair = noted_keeps b (record b { complete = true; crc = crc }) made meant e refl refl refl w
 acts_keeps b cmd.EmergencyStop ticks made meant e w fair = stop_keeps b command_request 0 made meant w
@@ -219,7 +219,7 @@ acts_keeps b (cmd.SetNextStepDir oid dir) ticks made meant e w fair = set_dir_ke
 acts_keeps b (cmd.ResetStepClock oid clock) ticks made meant e w fair = reset_keeps b oid (stepper_at b oid) clock made meant e w refl
 acts_keeps b _ ticks made meant e w fair = quiet_keeps b made meant (whole_kept b made meant e w)
 
-running_keeps : (o : BoardState) (b : Controller) (c : Cmd) (ticks : List ℕ) (made meant : List Pulse) → b.state ≡ o → IsKept b made meant → IsFairRunning o b c ticks
+running_keeps : (o : BoardState) (b : Controller) (c : Cmd) (ticks : List ℕ) (made meant : List Pulse) → b.state ≡ o → IsFairSofar b made meant → IsFairRunning o b c ticks
     → Keeps made meant (acts_running o b c) (meant_running o b c ticks)
 running_keeps Running b c ticks made meant e k fair =
     let At : BoardState → Type 0 = λ o. IsKeptIn o b made meant in
@@ -230,10 +230,10 @@ none_meant : (o : BoardState) (b : Controller) (c : Cmd) (ticks : List ℕ) → 
 none_meant Running b c ticks e = e
 none_meant (Shut reason tick first) b c ticks e = refl
 
-question_keeps : (b : Controller) (c : Cmd) (ticks : List ℕ) (made meant : List Pulse) → meant_by b c ticks ≡ [] → IsKept b made meant → IsKept b made (meant ++ meant_running b.state b c ticks)
+question_keeps : (b : Controller) (c : Cmd) (ticks : List ℕ) (made meant : List Pulse) → meant_by b c ticks ≡ [] → IsFairSofar b made meant → IsFairSofar b made (meant ++ meant_running b.state b c ticks)
 question_keeps b c ticks made meant e k = rw (none_meant b.state b c ticks e) (quiet_keeps b made meant k)
 
-pub command_keeps : (b : Controller) (c : Cmd) (ticks : List ℕ) (made meant : List Pulse) → IsKept b made meant → IsFairRunning b.state b c ticks → Keeps made meant (takes b c) (meant_running b.state b c ticks)
+pub command_keeps : (b : Controller) (c : Cmd) (ticks : List ℕ) (made meant : List Pulse) → IsFairSofar b made meant → IsFairRunning b.state b c ticks → Keeps made meant (takes b c) (meant_running b.state b c ticks)
 command_keeps b (cmd.IdentifyResponse offset bytes) ticks made meant k fair = running_keeps b.state b (cmd.IdentifyResponse offset bytes) ticks made meant refl k fair
 command_keeps b (cmd.Identify offset count) ticks made meant k fair = question_keeps b (cmd.Identify offset count) ticks made meant refl k
 command_keeps b (cmd.AllocateOids count) ticks made meant k fair = running_keeps b.state b (cmd.AllocateOids count) ticks made meant refl k fair
@@ -312,8 +312,8 @@ made_at b t oid h =
     let here : only oid (all_before 0 t b.steppers) ≡ slot_before oid t (stepper_at b oid) = rw zero_oid at (all_at 0 oid t b.steppers) in
     only_by_tick oid b.tick (all_before 0 t b.steppers) (rw here (slot_up oid b.tick t (stepper_at b oid) h)) ∙ here
 
-passes_whole : (b : Controller) (t : ℕ) (made meant : List Pulse) → IsWhole b made meant
-    → IsWhole (record b { tick = t; steppers = map (slot_to t) b.steppers }) (made ++ by_tick (all_before 0 t b.steppers)) meant
+passes_whole : (b : Controller) (t : ℕ) (made meant : List Pulse) → MakesMeant b made meant
+    → MakesMeant (record b { tick = t; steppers = map (slot_to t) b.steppers }) (made ++ by_tick (all_before 0 t b.steppers)) meant
 passes_whole b t made meant w = record {
   same = λ oid.
       let slot = stepper_at b oid in
@@ -323,9 +323,9 @@ passes_whole b t made meant w = record {
 }
 
 abbrev pub KeepsTime : List Pulse → List Pulse → Passed → Type 0
-KeepsTime made meant p = IsKept p.board (made ++ p.pulses) meant
+KeepsTime made meant p = IsFairSofar p.board (made ++ p.pulses) meant
 
-on_keeps : (o : BoardState) (b : Controller) (t : ℕ) (made meant : List Pulse) → b.state ≡ o → IsKept b made meant → KeepsTime made meant (passes_on o b t)
+on_keeps : (o : BoardState) (b : Controller) (t : ℕ) (made meant : List Pulse) → b.state ≡ o → IsFairSofar b made meant → KeepsTime made meant (passes_on o b t)
 on_keeps Running b t made meant e k =
     let At : BoardState → Type 0 = λ o. IsKeptIn o b made meant in
     whole_kept (record b { tick = t; steppers = map (slot_to t) b.steppers }) (made ++ by_tick (all_before 0 t b.steppers)) meant e (passes_whole b t made meant (subst At e k))
@@ -335,7 +335,7 @@ on_keeps (Shut reason tick first) b t made meant e k =
     let cut : IsCut made meant = subst At e k in
     subst On (sym e) (rw (append-nil made) cut)
 
-pub pass_keeps : (b : Controller) (t : ℕ) (made meant : List Pulse) → IsKept b made meant → KeepsTime made meant (passes b t)
+pub pass_keeps : (b : Controller) (t : ℕ) (made meant : List Pulse) → IsFairSofar b made meant → KeepsTime made meant (passes b t)
 pass_keeps b t made meant k =
     elim (leb_tells b.tick t) [ inl p ↦ rw p.0 (on_keeps b.state b t made meant refl k) | inr p ↦ rw p.0 (rw (append-nil made) k) ]
 
@@ -344,7 +344,7 @@ none_at zero oid = refl
 none_at (suc n) zero = refl
 none_at (suc n) (suc oid) = none_at n oid
 
-pub first_kept : (b : BoardDef) → IsKept (new_controller b) [] []
+pub first_kept : (b : BoardDef) → IsFairSofar (new_controller b) [] []
 unfolding new_controller
 first_kept b = record {
   same = λ oid. ap (λ o. pending_at oid o) (none_at 256 oid);

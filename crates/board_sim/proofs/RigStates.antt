@@ -9,7 +9,7 @@ use Rattle.msg_code.specs.declared.cmd.Cmd.{Cmd}
 use Rattle.msg_code.specs.declared.cmd.Cmd.TheVariants as cmd
 use Rattle.board_sim.specs.Board.{Controller, stepper_at}
 use Rattle.board_sim.specs.Board as board
-use Rattle.board_sim.specs.Rig.{Rig, Slot, Passed, slot_at, levels_of, happens_to, acts, acts_running, takes, takes_all, earliest, runs_to, rests_to, happens, goes_on, at_of, passes_by, pass, passes, all_left}
+use Rattle.board_sim.specs.Rig.{Rig, Slot, Passed, slot_at, levels_of, happens_to, acts, acts_running, takes, takes_all, earliest_moment, runs_to, rests_to, happens_at, goes_on, at_of, passes_by, pass, passes, all_left}
 use Rattle.board_sim.proofs.Moments.{Is3, all_in}
 use Rattle.board_sim.proofs.RigShut.{made_state, endstop_state, start_state, timeout_state, trigger_state, bind_state, home_state, happens_state}
 use Rattle.board_sim.proofs.RigTicks.{takes_rig_tick}
@@ -68,14 +68,14 @@ on_state (Shut reason tick first) b t = refl
 run_state : (b : Controller) (t : ℕ) → (board.passes b t).board.state ≡ b.state
 run_state b t = elim (leb_tells b.tick t) [ inl p ↦ rw p.0 (on_state b.state b t) | inr p ↦ rw p.0 refl ]
 
-goes_state : (o : Option (ℕ × ℕ)) (r : Rig) (t : ℕ) (rest : Passed) → rest.rig.controller.state ≡ (happens r t (at_of o)).rig.controller.state
-    → (goes_on o (rests_to r t) (passes_by (happens r t (at_of o)) rest)).rig.controller.state ≡ r.controller.state
+goes_state : (o : Option (ℕ × ℕ)) (r : Rig) (t : ℕ) (rest : Passed) → rest.rig.controller.state ≡ (happens_at r t (at_of o)).rig.controller.state
+    → (goes_on o (rests_to r t) (passes_by (happens_at r t (at_of o)) rest)).rig.controller.state ≡ r.controller.state
 goes_state None r t rest e = run_state r.controller t
 goes_state (Some at) r t rest e = e ∙ happens_state (runs_to r (at.0 / 3)).rig t at.1 (slot_at (runs_to r (at.0 / 3)).rig at.1) ∙ run_state r.controller (at.0 / 3)
 
 steps_state : (n : ℕ) (r : Rig) (t : ℕ) → (pass n r t).rig.controller.state ≡ r.controller.state
 steps_state zero r t = refl
-steps_state (suc n) r t = goes_state (earliest r t 0 r.triggers) r t (pass n (happens r t (at_of (earliest r t 0 r.triggers))).rig t) (steps_state n (happens r t (at_of (earliest r t 0 r.triggers))).rig t)
+steps_state (suc n) r t = goes_state (earliest_moment r t 0 r.triggers) r t (pass n (happens_at r t (at_of (earliest_moment r t 0 r.triggers))).rig t) (steps_state n (happens_at r t (at_of (earliest_moment r t 0 r.triggers))).rig t)
 
 pub passes_state : (r : Rig) (t : ℕ) → (passes r t).rig.controller.state ≡ r.controller.state
 passes_state r t = elim (leb_tells r.controller.tick t) [ inl p ↦ rw p.0 (steps_state (all_left t r.triggers + 1) r t) | inr p ↦ rw p.0 refl ]
@@ -99,8 +99,8 @@ moment_under : (o : Option (ℕ × ℕ)) (t limit : ℕ) → Is3 t o → t < lim
 moment_under None t limit h k = omega (arith, k)
 moment_under (Some at) t limit h k = omega (arith, h, k)
 
-goes_under : (o : Option (ℕ × ℕ)) (r : Rig) (t limit : ℕ) (rest : Passed) → r.controller.tick < limit → t < limit → Is3 t o → ((happens r t (at_of o)).rig.controller.tick < limit → rest.rig.controller.tick < limit)
-    → (goes_on o (rests_to r t) (passes_by (happens r t (at_of o)) rest)).rig.controller.tick < limit
+goes_under : (o : Option (ℕ × ℕ)) (r : Rig) (t limit : ℕ) (rest : Passed) → r.controller.tick < limit → t < limit → Is3 t o → ((happens_at r t (at_of o)).rig.controller.tick < limit → rest.rig.controller.tick < limit)
+    → (goes_on o (rests_to r t) (passes_by (happens_at r t (at_of o)) rest)).rig.controller.tick < limit
 goes_under None r t limit rest h k is more = run_under r.controller t limit h k
 goes_under (Some at) r t limit rest h k is more =
     more (subst (Under limit) (sym (happens_tick (runs_to r (at.0 / 3)).rig t at.1 (slot_at (runs_to r (at.0 / 3)).rig at.1))) (run_under r.controller (at.0 / 3) limit h (moment_under (Some at) t limit is k)))
@@ -108,8 +108,8 @@ goes_under (Some at) r t limit rest h k is more =
 steps_under : (n : ℕ) (r : Rig) (t limit : ℕ) → r.controller.tick < limit → t < limit → (pass n r t).rig.controller.tick < limit
 steps_under zero r t limit h k = h
 steps_under (suc n) r t limit h k =
-    goes_under (earliest r t 0 r.triggers) r t limit (pass n (happens r t (at_of (earliest r t 0 r.triggers))).rig t) h k (all_in r t 0 r.triggers)
-    (λ g. steps_under n (happens r t (at_of (earliest r t 0 r.triggers))).rig t limit g k)
+    goes_under (earliest_moment r t 0 r.triggers) r t limit (pass n (happens_at r t (at_of (earliest_moment r t 0 r.triggers))).rig t) h k (all_in r t 0 r.triggers)
+    (λ g. steps_under n (happens_at r t (at_of (earliest_moment r t 0 r.triggers))).rig t limit g k)
 
 pub passes_under : (r : Rig) (t limit : ℕ) → r.controller.tick < limit → t < limit → (passes r t).rig.controller.tick < limit
 passes_under r t limit h k = elim (leb_tells r.controller.tick t) [ inl p ↦ rw p.0 (steps_under (all_left t r.triggers + 1) r t limit h k) | inr p ↦ rw p.0 h ]

@@ -16,7 +16,7 @@ use Rattle.msg_code.specs.declared.cmd.Cmd.{Cmd}
 use Rattle.msg_code.specs.declared.cmd.Cmd.TheVariants as cmd
 use Rattle.board_sim.specs.Board.{Controller, stepper_at, with_stepper, stop, is_none_pending, refusal, takes_triple, queue_step, emptied}
 use Rattle.board_sim.specs.Board as board
-use Rattle.board_sim.specs.Rig.{Rig, Slot, Passed, slot_at, levels_of, halt, halts, becomes, make_trigger, make_endstop, start, expires_at_once, set_timeout, trigger, bind, home, by_board, acts, acts_running, takes, earliest, rested, runs_to, rests_to, happens_to, happens, goes_on, at_of, passes_by, pass, passes, all_left}
+use Rattle.board_sim.specs.Rig.{Rig, Slot, Passed, slot_at, levels_of, halt, halts, becomes, make_trigger, make_endstop, start_trigger, expires_at_once, set_timeout, trigger, bind, home, by_board, acts, acts_running, takes, earliest_moment, rested, runs_to, rests_to, happens_to, happens_at, goes_on, at_of, passes_by, pass, passes, all_left}
 use Rattle.board_sim.specs.RigRuns.{has, IsUnbound, IsNoBind}
 use Rattle.board_sim.specs.Halted.{is_halted}
 use Rattle.board_sim.proofs.Bound.{map_at, one_slot, same_or_not, set_other, slot_range}
@@ -76,8 +76,8 @@ rests_free r t i free = (
   runs_same r.controller t i,
 )
 
-goes_free : (o : Option (ℕ × ℕ)) (r : Rig) (t i : ℕ) (rest : Passed) → IsUnbound i r → (IsUnbound i (happens r t (at_of o)).rig → Free i (happens r t (at_of o)).rig rest.rig)
-    → Free i r (goes_on o (rests_to r t) (passes_by (happens r t (at_of o)) rest)).rig
+goes_free : (o : Option (ℕ × ℕ)) (r : Rig) (t i : ℕ) (rest : Passed) → IsUnbound i r → (IsUnbound i (happens_at r t (at_of o)).rig → Free i (happens_at r t (at_of o)).rig rest.rig)
+    → Free i r (goes_on o (rests_to r t) (passes_by (happens_at r t (at_of o)) rest)).rig
 goes_free None r t i rest free more = rests_free r t i free
 goes_free (Some at) r t i rest free more =
     let ran = (runs_to r (at.0 / 3)).rig in
@@ -88,7 +88,7 @@ goes_free (Some at) r t i rest free more =
 steps_free : (n : ℕ) (r : Rig) (t i : ℕ) → IsUnbound i r → Free i r (pass n r t).rig
 steps_free zero r t i free = (free, refl)
 steps_free (suc n) r t i free =
-    goes_free (earliest r t 0 r.triggers) r t i (pass n (happens r t (at_of (earliest r t 0 r.triggers))).rig t) free (λ now. steps_free n (happens r t (at_of (earliest r t 0 r.triggers))).rig t i now)
+    goes_free (earliest_moment r t 0 r.triggers) r t i (pass n (happens_at r t (at_of (earliest_moment r t 0 r.triggers))).rig t) free (λ now. steps_free n (happens_at r t (at_of (earliest_moment r t 0 r.triggers))).rig t i now)
 
 pub passes_free : (r : Rig) (t i : ℕ) → IsUnbound i r → IsUnbound i (passes r t).rig × (is_halted (stepper_at (passes r t).rig.controller i) ≡ is_halted (stepper_at r.controller i))
 passes_free r t i free = elim (leb_tells r.controller.tick t) [ inl p ↦ rw p.0 (steps_free (all_left t r.triggers + 1) r t i free) | inr p ↦ rw p.0 (free, refl) ]
@@ -192,7 +192,7 @@ endstop_kept : (r : Rig) (i oid pin : ℕ) (o : Option ℕ) → IsUnbound i r �
 endstop_kept r i oid pin None free = (free, same_as r.controller i)
 endstop_kept r i oid pin (Some p) free = as_it_is r i free
 
-start_kept : (r : Rig) (i oid : ℕ) (o : Option Slot) (clock every reason : ℕ) → slot_at r oid ≡ o → IsUnbound i r → Kept i r (start r oid o clock every reason)
+start_kept : (r : Rig) (i oid : ℕ) (o : Option Slot) (clock every reason : ℕ) → slot_at r oid ≡ o → IsUnbound i r → Kept i r (start_trigger r oid o clock every reason)
 start_kept r i oid None clock every reason e free = as_it_is r i free
 start_kept r i oid (Some s) clock every reason e free = becomes_kept r i oid s _ free e
 

@@ -3,7 +3,7 @@ use Rattle.std.proofs.Common.{◌≡◌, ℕ, zero, suc, ◌+◌, ◌-◌, ◌<�
 use Rattle.std.proofs.lemmas.Bool.Decides.{leb_tells}
 use Rattle.std.proofs.lemmas.List.{take-append-drop, map-append, length-set}
 use Rattle.std.proofs.Math.Seq.{drop-nil}
-use Rattle.board_sim.specs.Rig.{Rig, Slot, no_objects, rested, earliest}
+use Rattle.board_sim.specs.Rig.{Rig, Slot, no_objects, rested, earliest_moment}
 use Rattle.board_sim.specs.RigRuns.{AreRegular}
 use Rattle.board_sim.specs.Places.{NoneBehind}
 use Rattle.board_sim.proofs.Enough.{none_at}
@@ -104,12 +104,12 @@ pub rested_slots : (f : Option Slot → Option Slot) (used : ℕ) (xs : List (Op
 rested_slots f used xs e u = record { within = u.within; rest = drop_map f used xs ∙ ap (λ ys. map f ys) u.rest ∙ map_objects f (256 - used) e }
 
 -- nothing happens behind them
-earliest_none : (n : ℕ) (r : Rig) (until oid : ℕ) → earliest r until oid (no_objects n) ≡ None
+earliest_none : (n : ℕ) (r : Rig) (until oid : ℕ) → earliest_moment r until oid (no_objects n) ≡ None
 earliest_none zero r until oid = refl
 earliest_none (suc n) r until oid = earliest_none n r until (oid + 1)
 
-pub none_earliest : (used : ℕ) (xs : List (Option Slot)) (r : Rig) (until : ℕ) → NoneBehind used xs → None ≡ earliest r until used (drop used xs)
-none_earliest used xs r until u = sym (ap (λ ys. earliest r until used ys) u.rest ∙ earliest_none (256 - used) r until used)
+pub none_earliest : (used : ℕ) (xs : List (Option Slot)) (r : Rig) (until : ℕ) → NoneBehind used xs → None ≡ earliest_moment r until used (drop used xs)
+none_earliest used xs r until u = sym (ap (λ ys. earliest_moment r until used ys) u.rest ∙ earliest_none (256 - used) r until used)
 
 none_regular : (n : ℕ) → AreRegular (no_objects n)
 none_regular zero = tt

@@ -8,7 +8,7 @@ use Rattle.msg_code.specs.declared.cmd.Cmd.{Cmd}
 use Rattle.msg_code.specs.declared.cmd.Cmd.TheVariants as cmd
 use Rattle.board_sim.specs.Board.{Controller, stepper_at}
 use Rattle.board_sim.specs.Rig.{Rig, takes}
-use Rattle.board_sim.specs.Fair.{Meant, meant_running, only, IsCut, IsKept}
+use Rattle.board_sim.specs.Fair.{Meant, meant_running, only, IsCut, IsFairSofar}
 
 -- the pulses of all other steppers
 abbrev pub without : ℕ → List Pulse → List Pulse
@@ -30,14 +30,14 @@ is_halted None = false
 is_halted (Some q) = q.halted
 
 -- where the clock of a halted stepper is set, what it hadn't made is left out
-abbrev pub left_by : Controller → List Pulse → List Pulse → Cmd → List Pulse
-left_by b made meant (cmd.ResetStepClock oid clock) =
+abbrev pub meant_left : Controller → List Pulse → List Pulse → Cmd → List Pulse
+meant_left b made meant (cmd.ResetStepClock oid clock) =
     if is_halted (stepper_at b oid) then cut_at oid made meant else meant
-left_by b made meant _ = meant
+meant_left b made meant _ = meant
 
 -- so it is while the board runs; a board that shut down takes nothing
 abbrev pub left_running : BoardState → Controller → List Pulse → List Pulse → Cmd → List Pulse
-left_running Running b made meant c = left_by b made meant c
+left_running Running b made meant c = meant_left b made meant c
 left_running (Shut reason tick first) b made meant c = meant
 
 -- the steps that are meant behind commands: those of the triples that are taken come to them; and of a
@@ -55,6 +55,6 @@ meant_behind r made meant (m ∷ ms) = meant_behind (takes r m.command).rig made
 -- of those that are kept, each is made or pends
 pub record KeptPart (b : Controller) (made meant : List Pulse) : Type 0 where
   pub kept : List Pulse
-  pub is : IsKept b made kept
+  pub is : IsFairSofar b made kept
   pub cut : IsCut kept meant
   pub free : b.state ≡ Running → (oid : ℕ) → is_halted (stepper_at b oid) ≡ false → only oid kept ≡ only oid meant

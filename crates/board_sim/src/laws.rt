@@ -12,17 +12,18 @@ ghost use Rattle.msg_code.specs.declared.cmd.Cmd.{Cmd};
 ghost use Rattle.msg_code.specs.declared.cmd.Cmd.TheVariants as cmd;
 ghost use Rattle.plan_types.specs.declared.plan.Pulse.{Pulse};
 ghost use Rattle.board_sim.specs.Board.{Controller, stepper_at};
-ghost use Rattle.board_sim.specs.Fair.{only, IsWhole, IsCut};
+ghost use Rattle.board_sim.specs.Fair.{only, MakesMeant, IsCut};
 ghost use Rattle.board_sim.specs.Halted.{cut_all, is_halted};
 ghost use Rattle.board_sim.specs.Rig.{Rig, Slot, slot_at, levels_of, halts, takes, passes};
-ghost use Rattle.board_sim.specs.RigRuns.{has, IsNoBind, IsUnbound, RigStep, all_made, rig_after_all, AreBehind, AreTimely, AllBefore, IsBound, IsReady, IsLimitedTo, IsTimely, AreRegular, AllSound};
+ghost use Rattle.board_sim.specs.RigRuns.{has, IsNoBind, IsUnbound, RigStep, all_made, rig_after_all, AreBehindSetUp, AreTimely, AllBefore, IsBound, IsReady, IsLimitedTo, IsTimely, AreRegular, AllSound};
 
 /// The law of timeouts: a stepper that is bound to a trigger whose timeouts are at most a tick makes no pulse
 /// at or after that tick, whatever else comes, but for a new start of the trigger or a new clock of the
 /// stepper.
 pub fn stops_at_the_timeout()
     ensures { (r : Rig) (steps : List RigStep) (stepper trigger most : ℕ) → IsBound stepper trigger most r →
-        AreBehind stepper trigger steps → AreTimely trigger most r steps → AllBefore stepper most (all_made steps r) }
+        AreBehindSetUp stepper trigger steps → AreTimely trigger most r steps →
+        AllBefore stepper most (all_made steps r) }
 {}
 
 /// The law of triggers: a stepper that is bound to a trigger makes no pulse at or after the tick at which the
@@ -31,10 +32,12 @@ pub fn stops_at_the_timeout()
 /// has an earlier clock, or the same.
 pub fn stops_at_the_trigger()
     ensures pulses { (r : Rig) (steps : List RigStep) (stepper trigger : ℕ) (s : Slot) → IsReady stepper trigger r →
-        AreBehind stepper trigger steps → slot_at (rig_after_all steps r) trigger ≡ Some s → s.trigger.can ≡ false →
+        AreBehindSetUp stepper trigger steps → slot_at (rig_after_all steps r) trigger ≡ Some s →
+        s.trigger.can ≡ false →
         AllBefore stepper s.trigger.tick (all_made steps r) }
     ensures no_sooner { (r : Rig) (steps : List RigStep) (stepper trigger : ℕ) (s : Slot) → IsReady stepper trigger r →
-        AreBehind stepper trigger steps → slot_at (rig_after_all steps r) trigger ≡ Some s → s.trigger.can ≡ false →
+        AreBehindSetUp stepper trigger steps → slot_at (rig_after_all steps r) trigger ≡ Some s →
+        s.trigger.can ≡ false →
         r.controller.tick ≤ s.trigger.tick }
 {}
 
@@ -81,9 +84,9 @@ pub fn triggers_stay_sound()
 /// A stepper that no trigger has bound isn't halted, as time passes and by no command but one that binds it,
 /// while the board runs.
 pub fn halts_cut_short()
-    ensures whole { (b : Controller) (bound : List ℕ) (made meant : List Pulse) → IsWhole b made meant →
-        IsWhole (halts true bound b) made (cut_all bound made meant) }
-    ensures cut { (b : Controller) (bound : List ℕ) (made meant : List Pulse) → IsWhole b made meant →
+    ensures whole { (b : Controller) (bound : List ℕ) (made meant : List Pulse) → MakesMeant b made meant →
+        MakesMeant (halts true bound b) made (cut_all bound made meant) }
+    ensures cut { (b : Controller) (bound : List ℕ) (made meant : List Pulse) → MakesMeant b made meant →
         IsCut (cut_all bound made meant) meant }
     ensures others { (bound : List ℕ) (stepper : ℕ) (made meant : List Pulse) → has stepper bound ≡ false →
         only stepper (cut_all bound made meant) ≡ only stepper meant }

@@ -14,7 +14,7 @@ ghost use Rattle.board_sim.specs.Halted.{is_halted, meant_behind, KeptPart};
 ghost use Rattle.arrayvec.specs.ArrayVec.{ArrayVec};
 ghost use Rattle.msg_dict.specs.Dictionary.{Named};
 ghost use Rattle.msg_code.specs.declared.cmd.Cmd.{Cmd};
-ghost use Rattle.board_sim.specs.Turn.{Station, Simulated, Heard, Holds, IsTurn, turn, hears_all, accepted};
+ghost use Rattle.board_sim.specs.Turn.{Station, Simulated, Heard, Holds, IsTurn, turn, hears_all, accepted_commands};
 ghost use Rattle.board_sim.specs.Fair.{Meant, commands_of, AreFair, IsCut, CameLate, only, pending_at};
 
 mod commands;
@@ -171,7 +171,8 @@ pub fn has_one_result()
 
 /// The law of a turn: it takes the commands of the blocks that are accepted, in order, each once.
 pub fn takes_each_once()
-    ensures { (s : Station) (hs : List Heard) → (hears_all s hs).station.rig ≡ (takes_all s.rig (accepted hs)).rig }
+    ensures { (s : Station) (hs : List Heard) →
+        (hears_all s hs).station.rig ≡ (takes_all s.rig (accepted_commands hs)).rig }
 {}
 
 /// The law of a shutdown: a board that is shut down makes no pulse, and stays shut down as it is; one that

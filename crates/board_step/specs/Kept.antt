@@ -26,6 +26,6 @@ groups_of None qs = []
 groups_of (Some c) qs = record { up = c.up; ticks = current_ticks c } ∷ groups_behind (last_of 0 (current_ticks c)) qs
 
 -- the tick of the next step is near enough, and no command waits without one that runs
-abbrev pub IsKept : Option Current → List Queued → ℕ → ℕ → Type 0
-IsKept None qs slots last = (qs ≡ []) × (last < tick_limit)
-IsKept (Some c) qs slots last = (c.tick < tick_limit + 2 ^ 32) × (length qs < slots) × (last < tick_limit)
+abbrev pub IsSoundQueue : Option Current → List Queued → ℕ → ℕ → Type 0
+IsSoundQueue None qs slots last = (qs ≡ []) × (last < tick_limit)
+IsSoundQueue (Some c) qs slots last = (c.tick < tick_limit + 2 ^ 32) × (length qs < slots) × (last < tick_limit)

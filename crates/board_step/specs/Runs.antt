@@ -6,18 +6,18 @@ use Rattle.plan_types.specs.Board.{Clocked, with_group, clocked_to, steps_before
 use Rattle.board_step.specs.Steps.{Pending, IsFair, ticks_at, first_tick, queue_to}
 
 -- a call that is not refused
-pub data Call : Type 0 where
-  Direction : Bool → Call
+pub data StepperCall : Type 0 where
+  Direction : Bool → StepperCall
   -- a reset to a clock
-  Clock : ℕ → Call
+  Clock : ℕ → StepperCall
   -- a triple that comes at a tick, its direction and its whole ticks
-  Add : ℕ → Triple → Bool → List ℕ → Call
-  Stop : Call
+  Add : ℕ → Triple → Bool → List ℕ → StepperCall
+  Stop : StepperCall
   -- every step before a tick is made
-  Run : ℕ → Call
+  Run : ℕ → StepperCall
 
 -- the queue after a call
-abbrev pub queue_after : Pending → Call → Pending
+abbrev pub queue_after : Pending → StepperCall → Pending
 queue_after q (Direction up) = record q { up = up }
 queue_after q (Clock clock) = record q { last = clock; halted = false }
 queue_after q (Add now t up ticks) = record q {
@@ -29,7 +29,7 @@ queue_after q Stop = record q { groups = []; halted = true }
 queue_after q (Run t) = queue_to t q
 
 -- the clocked stepper after it, which knows whole ticks alone
-abbrev pub clocked_after : Clocked → Call → Clocked
+abbrev pub clocked_after : Clocked → StepperCall → Clocked
 clocked_after s (Direction up) = s
 clocked_after s (Clock clock) = record s { halted = false }
 clocked_after s (Add now t up ticks) = with_group s (record { up = up; ticks = ticks })
@@ -37,37 +37,37 @@ clocked_after s Stop = record s { groups = []; halted = true }
 clocked_after s (Run t) = clocked_to t s
 
 -- the steps that the queue makes in a call
-abbrev pub makes : Pending → Call → List Planned
+abbrev pub makes : Pending → StepperCall → List Planned
 makes q (Run t) = steps_before t q.groups
 makes q _ = []
 
 -- the triple's whole ticks are fair where it is not ignored, and its direction is the one that was set
-abbrev pub IsFairCall : Pending → Call → Type 0
+abbrev pub IsFairCall : Pending → StepperCall → Type 0
 IsFairCall q (Add now t up ticks) = q.halted ≡ false → (q.up ≡ up) × (t.interval < 2 ^ 32) × IsFair now q t ticks
 IsFairCall q _ = Unit {0}
 
 -- every call of a list is fair when it comes
-abbrev pub AreFairCalls : Pending → List Call → Type 0
+abbrev pub AreFairCalls : Pending → List StepperCall → Type 0
 AreFairCalls q [] = Unit {0}
 AreFairCalls q (c ∷ cs) = IsFairCall q c × AreFairCalls (queue_after q c) cs
 
 -- the queue after a list of calls
-abbrev pub queue_after_all : Pending → List Call → Pending
+abbrev pub queue_after_all : Pending → List StepperCall → Pending
 queue_after_all q [] = q
 queue_after_all q (c ∷ cs) = queue_after_all (queue_after q c) cs
 
 -- the clocked stepper after them
-abbrev pub clocked_after_all : Clocked → List Call → Clocked
+abbrev pub clocked_after_all : Clocked → List StepperCall → Clocked
 clocked_after_all s [] = s
 clocked_after_all s (c ∷ cs) = clocked_after_all (clocked_after s c) cs
 
 -- the steps that the queue makes in them
-abbrev pub makes_all : Pending → List Call → List Planned
+abbrev pub makes_all : Pending → List StepperCall → List Planned
 makes_all q [] = []
 makes_all q (c ∷ cs) = makes q c ++ makes_all (queue_after q c) cs
 
 -- a queue that made these steps stands for a clocked stepper
-pub record StandsFor (q : Pending) (made : List Planned) (s : Clocked) : Type 0 where
+pub record QueueStandsFor (q : Pending) (made : List Planned) (s : Clocked) : Type 0 where
   pub halted : q.halted ≡ s.halted
   pub groups : q.groups ≡ s.groups
   pub steps : made ≡ s.made

@@ -53,9 +53,9 @@ without_first [] = []
 without_first (g ∷ gs) = behind_first g.up g.ticks gs
 
 -- the first step is this one
-abbrev pub IsFirst : List Group → ℕ → Bool → Type 0
-IsFirst [] tick up = ⊥
-IsFirst (g ∷ gs) tick up = (rest : List ℕ) × (g.ticks ≡ tick ∷ rest) × (g.up ≡ up)
+abbrev pub IsFirstStep : List Group → ℕ → Bool → Type 0
+IsFirstStep [] tick up = ⊥
+IsFirstStep (g ∷ gs) tick up = (rest : List ℕ) × (g.ticks ≡ tick ∷ rest) × (g.up ≡ up)
 
 -- no step stands before this tick
 abbrev pub NoneBefore : List Group → ℕ → Type 0

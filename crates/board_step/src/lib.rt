@@ -8,7 +8,7 @@ ghost use Rattle.plan_types.specs.declared.plan.Triple.{Triple};
 ghost use Rattle.plan_types.specs.declared.plan.Planned.{Planned};
 ghost use Rattle.plan_types.specs.Board.{Clocked, nearest, IsNear};
 ghost use Rattle.board_step.specs.Steps.{Pending, IsFair, next_gap, first_tick, ticks_at};
-ghost use Rattle.board_step.specs.Runs.{Call, StandsFor, AreFairCalls, queue_after_all, clocked_after_all, makes_all};
+ghost use Rattle.board_step.specs.Runs.{StepperCall, QueueStandsFor, AreFairCalls, queue_after_all, clocked_after_all, makes_all};
 ghost use Rattle.board_step.specs.Kept.{group_of, current_ticks};
 
 mod queue;
@@ -117,7 +117,7 @@ pub fn whole_ticks()
 /// The law of the queue: over every list of calls whose triples are fair, it stands for the clocked stepper that knows
 /// whole ticks alone, and makes the same steps.
 pub fn stands_for_the_clocked_stepper()
-    ensures { (q : Pending) (made : List Planned) (s : Clocked) (calls : List Call) → StandsFor q made s →
+    ensures { (q : Pending) (made : List Planned) (s : Clocked) (calls : List StepperCall) → QueueStandsFor q made s →
         AreFairCalls q calls →
-        StandsFor (queue_after_all q calls) (made ++ makes_all q calls) (clocked_after_all s calls) }
+        QueueStandsFor (queue_after_all q calls) (made ++ makes_all q calls) (clocked_after_all s calls) }
 {}

@@ -3,7 +3,7 @@
 ghost use Rattle.std.specs.Prelude.{◌≡◌, ℕ, ◌+◌, ◌^◌, ◌<◌, ◌≤◌, ◌↔◌, List, [], ◌∷◌, ◌++◌, length, IfOk, IfSome, IfNone, OnOk, OnErr, IfErr, IsOk, true, false};
 ghost use Rattle.plan_types.specs.Clock.{tick_limit};
 ghost use Rattle.plan_types.specs.Board.{nearest, steps_before, groups_from};
-ghost use Rattle.board_step.specs.Steps.{Pending, IsFair, first_tick, ticks_at, with_ticks, queue_to, without_first, IsFirst, NoneBefore};
+ghost use Rattle.board_step.specs.Steps.{Pending, IsFair, first_tick, ticks_at, with_ticks, queue_to, without_first, IsFirstStep, NoneBefore};
 
 use super::{Current, Queued, StepRefusal, nearest_tick, started, stepped};
 use circular_buffer::HeapCircularBuffer;
@@ -27,7 +27,7 @@ impl Model for StepQueue {
 
     ghost Value = { Pending };
 
-    ghost use Rattle.board_step.specs.Kept.{groups_of, IsKept};
+    ghost use Rattle.board_step.specs.Kept.{groups_of, IsSoundQueue};
 
     ghost view = { λ q. record {
       halted = q.halted;
@@ -37,7 +37,7 @@ impl Model for StepQueue {
       slots = q.waiting.capacity;
     } };
 
-    ghost invariant = { λ q. IsKept q.current q.waiting.items q.waiting.capacity q.last };
+    ghost invariant = { λ q. IsSoundQueue q.current q.waiting.items q.waiting.capacity q.last };
 }
 
 impl StepQueue {
@@ -99,7 +99,7 @@ impl StepQueue {
     pub fn advance(&mut self, until: u64) -> Option<Planned>
         requires { until < tick_limit }
         ensures before { IfSome result (λ s. s.tick < until) }
-        ensures first { IfSome result (λ s. IsFirst self.old.groups s.tick s.up) }
+        ensures first { IfSome result (λ s. IsFirstStep self.old.groups s.tick s.up) }
         ensures rest { IfSome result
             (λ s. self.new ≡ record self.old { groups = without_first self.old.groups; last = s.tick }) }
         ensures none { IfNone result (NoneBefore self.old.groups until) }

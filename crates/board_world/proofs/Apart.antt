@@ -14,12 +14,12 @@ use Rattle.board_sim.proofs.SingleCommands.{tick_takes}
 use Rattle.board_world.specs.declared.event.Event.{Event}
 use Rattle.board_world.specs.declared.event.Event.TheVariants.{Put, Control, Send, Resend, Arrive, Lose, Garble, Repeat, Reply, LoseReply, Pass}
 use Rattle.board_world.specs.World.{Core, does, takes_in}
-use Rattle.board_world.specs.Apart.{AreApart, RepliesApart, TickFits}
+use Rattle.board_world.specs.Apart.{AreNumbersApart, RepliesApart, TickFits}
 
 same_number : (n a : ℕ) → n < a + 12 → a ≤ n + 12 → n % 16 ≡ a % 16 → n ≡ a
 same_number n a low high e = omega (arith, low, high, e)
 
-pub down_apart : (s a : ℕ) (ns : List ℕ) → AreNear s a ns → AreApart a ns
+pub down_apart : (s a : ℕ) (ns : List ℕ) → AreNear s a ns → AreNumbersApart a ns
 down_apart s a [] h = tt
 down_apart s a (n ∷ ns) h = (λ e. same_number n a h.0.below h.0.above e, down_apart s a ns h.2)
 

@@ -15,7 +15,7 @@ use Rattle.msg_code.specs.Text.{IsText}
 use Rattle.msg_code.proofs.Texts.{one_text}
 use Rattle.board_sim.specs.Fair.{Meant, commands_of}
 use Rattle.board_sim.specs.Turn.{Holds}
-use Rattle.board_world.specs.World.{Core, on_wire, block_of, text_of}
+use Rattle.board_world.specs.World.{Core, on_wire, block_of, wire_text}
 use Rattle.board_world.specs.Stands.{AreRead, IsOrdered}
 use Rattle.board_world.proofs.Runs.{map-take}
 
@@ -46,9 +46,9 @@ has_bytes es c text rest s e =
 pub reads_as : (ms : List Meant) (cs : List Cmd) → AreRead ms → Holds own_formats (content_of (map on_wire ms)) cs → cs ≡ commands_of ms
 reads_as [] [] r h = refl
 reads_as [] (c ∷ cs) r h = absurd (has_bytes own_formats c h.first h.rest h.is_first h.joined)
-reads_as (m ∷ ms) [] r h = absurd (h m.command (text_of m.command) (content_of (map on_wire ms)) r.0 refl)
+reads_as (m ∷ ms) [] r h = absurd (h m.command (wire_text m.command) (content_of (map on_wire ms)) r.0 refl)
 reads_as (m ∷ ms) (c ∷ cs) r h =
-    let text = text_of m.command in
+    let text = wire_text m.command in
     let rest = content_of (map on_wire ms) in
     let e : text ++ rest ≡ h.first ++ h.rest = h.joined in
     let same = one_text own_formats m.command c text h.first rest h.rest r.0 h.is_first e in

@@ -16,7 +16,7 @@ use Rattle.board_sim.proofs.RigShut.{all_left_by}
 use Rattle.board_sim.proofs.RigStates.{takes_state, passes_state}
 use Rattle.board_world.specs.declared.event.Event.{Event}
 use Rattle.board_world.specs.declared.event.Event.TheVariants.{Put, Control, Send, Resend, Arrive, Lose, Garble, Repeat, Reply, LoseReply, Pass}
-use Rattle.board_world.specs.World.{Core, Step, Do, Turn, takes_in, does, happens, in_turn, run}
+use Rattle.board_world.specs.World.{Core, Step, Do, Turn, takes_in, does, after_event, in_turn, run_world}
 use Rattle.board_world.specs.Shut.{IsRefused, HasSteps, Shuts, ShutBy, WasShut}
 use Rattle.board_world.proofs.Runs.{still}
 
@@ -250,15 +250,15 @@ event_cause h Reply reason tick first running is = shut_all h.board [] reason ti
 event_cause h LoseReply reason tick first running is = shut_all h.board [] reason tick first running is
 
 shut_behind : (steps : List Step) (h : Core) (e : Event) (reason tick first : ℕ) (o : BoardState) → h.board.controller.state ≡ Running → (does h e).board.controller.state ≡ o
-    → (run steps (happens h e)).board.controller.state ≡ Shut reason tick first → ((does h e).board.controller.state ≡ Running → WasShut (happens h e) steps reason tick first)
+    → (run_world steps (after_event h e)).board.controller.state ≡ Shut reason tick first → ((does h e).board.controller.state ≡ Running → WasShut (after_event h e) steps reason tick first)
     → WasShut h (Do e ∷ steps) reason tick first
 shut_behind steps h e reason tick first Running running at is rest = inr (rest at)
 shut_behind steps h e reason tick first (Shut r t f) running at is rest =
-    let left = still steps (happens h e) (ap is_shut at) in
+    let left = still steps (after_event h e) (ap is_shut at) in
     inl (event_cause h e reason tick first running (sym left.1 ∙ is))
 
-pub was_shut : (steps : List Step) (h : Core) (reason tick first : ℕ) → h.board.controller.state ≡ Running → (run steps h).board.controller.state ≡ Shut reason tick first → WasShut h steps reason tick first
+pub was_shut : (steps : List Step) (h : Core) (reason tick first : ℕ) → h.board.controller.state ≡ Running → (run_world steps h).board.controller.state ≡ Shut reason tick first → WasShut h steps reason tick first
 was_shut [] h reason tick first running is = rig_runs h.board reason tick first running is
 was_shut (Turn turn ∷ steps) h reason tick first running is = inr (was_shut steps (in_turn h turn) reason tick first running is)
 was_shut (Do e ∷ steps) h reason tick first running is =
-    shut_behind steps h e reason tick first (does h e).board.controller.state running refl is (λ on. was_shut steps (happens h e) reason tick first on is)
+    shut_behind steps h e reason tick first (does h e).board.controller.state running refl is (λ on. was_shut steps (after_event h e) reason tick first on is)

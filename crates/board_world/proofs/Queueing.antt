@@ -2,9 +2,9 @@
 use Rattle.std.proofs.Common.{◌≡◌, ℕ, Bool, ◌+◌, ◌<◌, List, [], ◌∷◌, ◌++◌, length, take, map, get_or, Some, None, ap, sym, subst, ◌∙◌, append_assoc, append-nil}
 use Rattle.std.proofs.lemmas.List.{take_more, map-append}
 use Rattle.std.proofs.lemmas.Grind.{flat_map-append}
-use Rattle.link_core.specs.Host.{Host, queued_by}
+use Rattle.link_core.specs.Host.{Host, with_queued}
 use Rattle.msg_dict.specs.declared.row.Row.{Row}
-use Rattle.msg_dict.specs.Dictionary.{Named, number_of}
+use Rattle.msg_dict.specs.Dictionary.{Named, number_named}
 use Rattle.msg_dict.specs.Own.{own_formats}
 use Rattle.msg_dict.specs.Table.{format_text, own_id}
 use Rattle.msg_dict.proofs.Rows.{own_number}
@@ -15,26 +15,26 @@ use Rattle.msg_code.proofs.Written.{text_is}
 use Rattle.board_sim.specs.Fair.{Meant}
 use Rattle.msg_code.specs.Units.{reset_commands, dir_commands, step_command}
 use Rattle.board_world.specs.Orders.{plain, unit_ticks, unit_orders, units_orders}
-use Rattle.board_world.specs.World.{closes, text_of, on_wire}
+use Rattle.board_world.specs.World.{closes, wire_text, on_wire}
 use Rattle.board_world.specs.Stands.{with_waiting, AreRead}
 
 some_none : (n : ℕ) → Some n ≡ None → ⊥
 some_none n e = cc
 
-pub known : (fs : List Named) (r : Row) → fs ≡ own_formats → number_of (format_text r) fs ≡ None → ⊥
-known fs r e none = some_none (own_id r) (sym (own_number r) ∙ ap (λ x. number_of (format_text r) x) (sym e) ∙ none)
+pub known : (fs : List Named) (r : Row) → fs ≡ own_formats → number_named (format_text r) fs ≡ None → ⊥
+known fs r e none = some_none (own_id r) (sym (own_number r) ∙ ap (λ x. number_named (format_text r) x) (sym e) ∙ none)
 
-pub written_is : (fs : List Named) (c : Cmd) (text : List ℕ) → fs ≡ own_formats → Writes fs c text → text ≡ text_of c
+pub written_is : (fs : List Named) (c : Cmd) (text : List ℕ) → fs ≡ own_formats → Writes fs c text → text ≡ wire_text c
 written_is fs c text e w = let At : List Named → Type 0 = λ x. Writes x c text in text_is own_formats c text (subst At e w)
 
-pub is_read : (fs : List Named) (c : Cmd) (text : List ℕ) → fs ≡ own_formats → Writes fs c text → IsText fs c text → IsText own_formats c (text_of c)
+pub is_read : (fs : List Named) (c : Cmd) (text : List ℕ) → fs ≡ own_formats → Writes fs c text → IsText fs c text → IsText own_formats c (wire_text c)
 is_read fs c text e w s =
     let At : List Named → Type 0 = λ x. IsText x c text in
     let Of : List ℕ → Type 0 = λ t. IsText own_formats c t in
     subst Of (written_is fs c text e w) (subst At e s)
 
-pub one_queued : (host : Host) (c : Cmd) (closing : Bool) → closing ≡ closes c → queued_by host (text_of c) closing ≡ with_waiting host (plain c ∷ [])
-one_queued host c closing e = ap (λ b. queued_by host (text_of c) b) e
+pub one_queued : (host : Host) (c : Cmd) (closing : Bool) → closing ≡ closes c → with_queued host (wire_text c) closing ≡ with_waiting host (plain c ∷ [])
+one_queued host c closing e = ap (λ b. with_queued host (wire_text c) b) e
 
 -- first these, then those
 pub more_waiting : (a b c : Host) (ms ns : List Meant) → b ≡ with_waiting a ms → c ≡ with_waiting b ns → c ≡ with_waiting a (ms ++ ns)
@@ -60,7 +60,7 @@ queued_both a b c ms ns p q = record { host = more_waiting a b c ms ns p.host q.
 
 -- one command more
 pub command_more : (cs : List Cmd) (i : ℕ) (c : Cmd) (a old new : Host) → i < length cs → c ≡ get_or cs i c → Queued a old (map plain (take i cs))
-    → new ≡ with_waiting old (plain c ∷ []) → IsText own_formats c (text_of c) → Queued a new (map plain (take (i + 1) cs))
+    → new ≡ with_waiting old (plain c ∷ []) → IsText own_formats c (wire_text c) → Queued a new (map plain (take (i + 1) cs))
 command_more cs i c a old new h at before e read =
     let more : map plain (take (i + 1) cs) ≡ map plain (take i cs) ++ plain c ∷ [] =
     ap (map plain) (take_more cs i c h ∙ ap (λ x. take i cs ++ x ∷ []) (sym at)) ∙ map-append plain (take i cs) (c ∷ []) in

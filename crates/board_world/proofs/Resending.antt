@@ -9,8 +9,8 @@ use Rattle.link_core.proofs.Standing.{acked_is}
 use Rattle.link_core.specs.Core.{Link, Command, numbers}
 use Rattle.link_core.specs.Core as link
 use Rattle.board_world.specs.declared.event.Event.TheVariants.{Resend}
-use Rattle.board_world.specs.World.{Core, happens}
-use Rattle.board_world.specs.Stands.{Seen, StandsFor, text_at, blocks_from, all_put_again}
+use Rattle.board_world.specs.World.{Core, after_event}
+use Rattle.board_world.specs.Stands.{SeenWorld, WorldStandsFor, text_at, blocks_from, all_put_again}
 use Rattle.board_world.proofs.Standing.{quiet_stands}
 
 -- the first blocks are put again
@@ -86,19 +86,19 @@ put_numbers blocks n (suc k) e =
     ∙ ap (λ m. text_at blocks n ∷ blocks_from (n + 1) (map content_of (drop m blocks))) (one_more n)
     ∙ ap (λ x. text_at blocks n ∷ x) (put_numbers blocks (n + 1) k (omega (arith, e)))
 
-pub resent_stands : (s t : Seen) (h : Core) → StandsFor s h → t ≡ record s { host = all_put_again s.host; down = s.down ++ blocks_from (acked_of s.host) s.host.contents } → StandsFor t (happens h Resend)
+pub resent_stands : (s t : SeenWorld) (h : Core) → WorldStandsFor s h → t ≡ record s { host = all_put_again s.host; down = s.down ++ blocks_from (acked_of s.host) s.host.contents } → WorldStandsFor t (after_event h Resend)
 resent_stands s t h st e =
     let l = h.link in
     let i = st.ordered.in_step in
     let all : l.acked + (link.sent l - l.acked) ≡ length l.blocks = omega (arith, i.acked_accepted, i.accepted_sent) in
     quiet_stands s t h Resend st refl refl refl
-    (ap (λ (x : Seen). x.host) e ∙ ap all_put_again st.host)
-    (ap (λ (x : Seen). x.station) e ∙ st.station)
+    (ap (λ (x : SeenWorld). x.host) e ∙ ap all_put_again st.host)
+    (ap (λ (x : SeenWorld). x.station) e ∙ st.station)
     refl
-    (ap (λ (x : Seen). x.down) e ∙ ap (λ x. x ++ blocks_from (acked_of s.host) s.host.contents) st.down
+    (ap (λ (x : SeenWorld). x.down) e ∙ ap (λ x. x ++ blocks_from (acked_of s.host) s.host.contents) st.down
     ∙ ap (λ (x : Host). map (text_at l.blocks) l.down ++ blocks_from (acked_of x) x.contents) st.host
     ∙ ap (λ n. map (text_at l.blocks) l.down ++ blocks_from n (map content_of (drop l.acked l.blocks))) (acked_is l i)
     ∙ ap (λ x. map (text_at l.blocks) l.down ++ x) (put_numbers l.blocks l.acked (link.sent l - l.acked) all)
     ∙ sym (map-append (text_at l.blocks) l.down (numbers l.acked (link.sent l - l.acked))))
-    (ap (λ (x : Seen). x.up) e ∙ st.up)
-    (ap (λ (x : Seen). x.pulses) e)
+    (ap (λ (x : SeenWorld). x.up) e ∙ st.up)
+    (ap (λ (x : SeenWorld). x.pulses) e)

@@ -30,16 +30,16 @@ use Rattle.board_sim.proofs.RigShut.{all_left_by, passes_left, passes_late, late
 use Rattle.board_world.specs.declared.event.Event.{Event}
 use Rattle.board_world.specs.declared.event.Event.TheVariants.{Put, Control, Send, Resend, Arrive, Lose, Garble, Repeat, Reply, LoseReply, Pass}
 use Rattle.board_world.specs.Stands.{IsOrdered}
-use Rattle.board_world.specs.World.{Core, Deed, Step, Do, Turn, obeys, does, on_wire, text_of, block_of, takes_in, orders_of, link_event, happens, in_turn, after, run, start, AllFair, queued_by}
+use Rattle.board_world.specs.World.{Core, Deed, Step, Do, Turn, obeys, does, on_wire, wire_text, block_of, takes_in, orders_of, link_event, after_event, in_turn, world_after, run_world, new_world, AllFair, queued_by}
 
 -- the numbers
-pub step_keeps : (h : Core) (s : Step) → InStep h.link → InStep (after h s).link
+pub step_keeps : (h : Core) (s : Step) → InStep h.link → InStep (world_after h s).link
 step_keeps h (Do e) k = happens_keeps h.link (link_event h e) k
 step_keeps h (Turn turn) k = happens_keeps h.link (LinkTurn turn) k
 
-pub in_step : (steps : List Step) (h : Core) → InStep h.link → InStep (run steps h).link
+pub in_step : (steps : List Step) (h : Core) → InStep h.link → InStep (run_world steps h).link
 in_step [] h k = k
-in_step (s ∷ steps) h k = in_step steps (after h s) (step_keeps h s k)
+in_step (s ∷ steps) h k = in_step steps (world_after h s) (step_keeps h s k)
 
 -- the pulses
 abbrev PartIn : Core → Type 0
@@ -48,7 +48,7 @@ PartIn h = KeptPart h.board.controller h.made h.meant
 obeyed_keeps : (b : Rig) (ms : List Meant) (made meant : List Pulse) → KeptPart b.controller made meant → AreFair b ms → KeptPart (obeys b ms).board.controller (made ++ (obeys b ms).pulses) (meant_behind b made meant ms)
 obeyed_keeps b ms made meant k fair = rw (append-nil made) (commands_keep b ms made meant k fair)
 
-kept_by : (h : Core) (e : Event) → PartIn h → AreFair h.board (takes_in h e) → PartIn (happens h e)
+kept_by : (h : Core) (e : Event) → PartIn h → AreFair h.board (takes_in h e) → PartIn (after_event h e)
 kept_by h (Pass t) k fair = time_keeps h.board t h.made h.meant k
 kept_by h (Put b) k fair = obeyed_keeps h.board [] h.made h.meant k fair
 kept_by h (Control c) k fair = obeyed_keeps h.board [] h.made h.meant k fair
@@ -61,17 +61,17 @@ kept_by h Repeat k fair = obeyed_keeps h.board (takes_in h Repeat) h.made h.mean
 kept_by h Reply k fair = obeyed_keeps h.board [] h.made h.meant k fair
 kept_by h LoseReply k fair = obeyed_keeps h.board [] h.made h.meant k fair
 
-kept_along : (steps : List Step) (h : Core) → PartIn h → AllFair h steps → PartIn (run steps h)
+kept_along : (steps : List Step) (h : Core) → PartIn h → AllFair h steps → PartIn (run_world steps h)
 kept_along [] h k fair = k
-kept_along (Do e ∷ steps) h k fair = kept_along steps (happens h e) (kept_by h e k fair.0) fair.1
+kept_along (Do e ∷ steps) h k fair = kept_along steps (after_event h e) (kept_by h e k fair.0) fair.1
 kept_along (Turn turn ∷ steps) h k fair = kept_along steps (in_turn h turn) k fair.1
 
-pub pulses_kept : (b : BoardDef) (pins : List (List Level)) (steps : List Step) → AllFair (start b pins) steps → PartIn (run steps (start b pins))
-pulses_kept b pins steps fair = kept_along steps (start b pins) (whole_part (new_controller b) [] [] (first_kept b)) fair
+pub pulses_kept : (b : BoardDef) (pins : List (List Level)) (steps : List Step) → AllFair (new_world b pins) steps → PartIn (run_world steps (new_world b pins))
+pulses_kept b pins steps fair = kept_along steps (new_world b pins) (whole_part (new_controller b) [] [] (first_kept b)) fair
 
-pub pulses_cut : (b : BoardDef) (pins : List (List Level)) (steps : List Step) → AllFair (start b pins) steps → IsCut (run steps (start b pins)).made (run steps (start b pins)).meant
+pub pulses_cut : (b : BoardDef) (pins : List (List Level)) (steps : List Step) → AllFair (new_world b pins) steps → IsCut (run_world steps (new_world b pins)).made (run_world steps (new_world b pins)).meant
 pulses_cut b pins steps fair =
-    let h = run steps (start b pins) in
+    let h = run_world steps (new_world b pins) in
     part_cut h.board.controller h.made h.meant (pulses_kept b pins steps fair)
 
 -- the last pulses are the last of all
@@ -81,7 +81,7 @@ IsLast h = (before : List Pulse) × (before ++ h.last ≡ h.made)
 none_made : (h : Core) → IsLast h → (before : List Pulse) × (before ++ h.last ≡ h.made ++ [])
 none_made h k = (k.0, k.1 ∙ sym (append-nil h.made))
 
-last_made : (h : Core) (e : Event) → IsLast h → IsLast (happens h e)
+last_made : (h : Core) (e : Event) → IsLast h → IsLast (after_event h e)
 last_made h (Pass t) k = elim (leb_tells h.board.controller.tick t) [ inl p ↦ rw p.0 (h.made, refl) | inr p ↦ rw p.0 (none_made h k) ]
 last_made h (Put b) k = none_made h k
 last_made h (Control c) k = none_made h k
@@ -94,9 +94,9 @@ last_made h Repeat k = none_made h k
 last_made h Reply k = none_made h k
 last_made h LoseReply k = none_made h k
 
-pub last_along : (steps : List Step) (h : Core) → IsLast h → IsLast (run steps h)
+pub last_along : (steps : List Step) (h : Core) → IsLast h → IsLast (run_world steps h)
 last_along [] h k = k
-last_along (Do e ∷ steps) h k = last_along steps (happens h e) (last_made h e k)
+last_along (Do e ∷ steps) h k = last_along steps (after_event h e) (last_made h e k)
 last_along (Turn turn ∷ steps) h k = last_along steps (in_turn h turn) k
 
 -- the shutdown
@@ -113,9 +113,9 @@ late_by h Repeat k = late_all h.board (commands_of (takes_in h Repeat)) k
 late_by h Reply k = k
 late_by h LoseReply k = k
 
-pub late : (steps : List Step) (h : Core) → CameLate h.board.controller.state → CameLate (run steps h).board.controller.state
+pub late : (steps : List Step) (h : Core) → CameLate h.board.controller.state → CameLate (run_world steps h).board.controller.state
 late [] h k = k
-late (Do e ∷ steps) h k = late steps (happens h e) (late_by h e k)
+late (Do e ∷ steps) h k = late steps (after_event h e) (late_by h e k)
 late (Turn turn ∷ steps) h k = late steps (in_turn h turn) k
 
 abbrev IsStill : BoardState → Deed → Type 0
@@ -137,11 +137,11 @@ still_by h Repeat k = still_obeying h.board (takes_in h Repeat) k
 still_by h Reply k = still_obeying h.board [] k
 still_by h LoseReply k = still_obeying h.board [] k
 
-pub still : (steps : List Step) (h : Core) → is_shut h.board.controller.state ≡ true → ((run steps h).made ≡ h.made) × ((run steps h).board.controller.state ≡ h.board.controller.state)
+pub still : (steps : List Step) (h : Core) → is_shut h.board.controller.state ≡ true → ((run_world steps h).made ≡ h.made) × ((run_world steps h).board.controller.state ≡ h.board.controller.state)
 still [] h k = (refl, refl)
 still (Do e ∷ steps) h k =
     let one = still_by h e k in
-    let rest = still steps (happens h e) (ap is_shut one.0 ∙ k) in
+    let rest = still steps (after_event h e) (ap is_shut one.0 ∙ k) in
     (rest.0 ∙ ap (λ x. h.made ++ x) one.1 ∙ append-nil h.made, rest.1 ∙ one.0)
 still (Turn turn ∷ steps) h k = still steps (in_turn h turn) k
 
@@ -211,10 +211,10 @@ hands h (Put b) = hands_none h (link.happens h.link (link_event h (Put b))) (ord
 hands h (Control c) = hands_none h (link.happens h.link (link_event h (Control c))) (orders_of (Control c)) refl
 hands h Send = hands_none h (link.happens h.link (link_event h Send)) (orders_of Send) (sent_taken h.link h.link.waiting)
 hands h Resend = hands_none h (link.happens h.link (link_event h Resend)) (orders_of Resend) refl
-hands h Arrive = arrived h (map text_of (does h Arrive).answers)
+hands h Arrive = arrived h (map wire_text (does h Arrive).answers)
 hands h Lose = hands_none h (link.happens h.link (link_event h Lose)) (orders_of Lose) (lost h.link h.link.down)
 hands h Garble = hands_none h (link.happens h.link (link_event h Garble)) (orders_of Garble) (garbled h.link h.link.down h.spoilt)
-hands h Repeat = repeated_hands h h.link.down (map text_of (does h Repeat).answers)
+hands h Repeat = repeated_hands h h.link.down (map wire_text (does h Repeat).answers)
 hands h Reply = hands_none h (link.happens h.link (link_event h Reply)) (orders_of Reply) (replied h.link h.link.up)
 hands h LoseReply = hands_none h (link.happens h.link (link_event h LoseReply)) (orders_of LoseReply) (reply_lost h.link h.link.up)
 
@@ -259,7 +259,7 @@ sound_by h Repeat k = all_sound h.board (commands_of (takes_in h Repeat)) k
 sound_by h Reply k = k
 sound_by h LoseReply k = k
 
-pub ordered_by : (h : Core) (e : Event) → IsOrdered h → IsOrdered (happens h e)
+pub ordered_by : (h : Core) (e : Event) → IsOrdered h → IsOrdered (after_event h e)
 ordered_by h e o =
     let le = link_event h e in
     let new = orders_of e in
@@ -280,17 +280,17 @@ ordered_by h e o =
 pub ordered_turn : (h : Core) (turn : ℕ) → IsOrdered h → IsOrdered (in_turn h turn)
 ordered_turn h turn o = record { sound = o.sound; carried = o.carried; first = o.first; in_step = happens_keeps h.link (LinkTurn turn) o.in_step }
 
-pub ordered : (steps : List Step) (h : Core) → IsOrdered h → IsOrdered (run steps h)
+pub ordered : (steps : List Step) (h : Core) → IsOrdered h → IsOrdered (run_world steps h)
 ordered [] h o = o
-ordered (Do e ∷ steps) h o = ordered steps (happens h e) (ordered_by h e o)
+ordered (Do e ∷ steps) h o = ordered steps (after_event h e) (ordered_by h e o)
 ordered (Turn turn ∷ steps) h o = ordered steps (in_turn h turn) (ordered_turn h turn o)
 
-pub all_orders : (steps : List Step) (h : Core) → (run steps h).queued ≡ h.queued ++ flat_map queued_by steps
+pub all_orders : (steps : List Step) (h : Core) → (run_world steps h).queued ≡ h.queued ++ flat_map queued_by steps
 all_orders [] h = sym (append-nil h.queued)
-all_orders (Do e ∷ steps) h = all_orders steps (happens h e) ∙ append_assoc h.queued (orders_of e) (flat_map queued_by steps)
+all_orders (Do e ∷ steps) h = all_orders steps (after_event h e) ∙ append_assoc h.queued (orders_of e) (flat_map queued_by steps)
 all_orders (Turn turn ∷ steps) h = all_orders steps (in_turn h turn)
 
-pub start_ordered : (b : BoardDef) (pins : List (List Level)) → IsOrdered (start b pins)
+pub start_ordered : (b : BoardDef) (pins : List (List Level)) → IsOrdered (new_world b pins)
 start_ordered b pins = record { sound = none_sound (new_rig b pins) (λ oid. none_at 256 oid); carried = refl; first = refl; in_step = start_keeps }
 
 pub wired : (h : Core) → IsOrdered h → h.link.taken ≡ map on_wire h.taken

@@ -17,13 +17,13 @@ use Rattle.board_sim.specs.Board.{Controller, Done, new_controller, stepper_at, 
 use Rattle.board_sim.specs.Fair.{Meant, commands_of, steps_taken, meant_on, meant_by, meant_running, only}
 use Rattle.plan_types.specs.declared.levels.Level.{Level}
 use Rattle.board_sim.specs.Rig.{Rig, takes_all, takes as rig_takes}
-use Rattle.board_sim.specs.Halted.{is_halted, left_by, left_running, meant_next, meant_behind}
+use Rattle.board_sim.specs.Halted.{is_halted, meant_left, left_running, meant_next, meant_behind}
 use Rattle.board_sim.proofs.RigShut.{all_left_by}
 use Rattle.board_sim.proofs.RigStates.{takes_state, passes_state}
 use Rattle.board_sim.proofs.Steps.{only-append, only_same, only_other}
 use Rattle.board_world.specs.declared.event.Event.{Event}
 use Rattle.board_world.specs.declared.event.Event.TheVariants.{Put, Control, Send, Resend, Arrive, Lose, Garble, Repeat, Reply, LoseReply, Pass}
-use Rattle.board_world.specs.World.{Core, Step, Do, Turn, obeys, takes_in, happens, in_turn, run, start, AllFair}
+use Rattle.board_world.specs.World.{Core, Step, Do, Turn, obeys, takes_in, after_event, in_turn, run_world, new_world, AllFair}
 use Rattle.board_world.specs.Units.{ticks_for, ticks_of, pulse_ticks, IsMade, FindsStepper, FindsWhile, FindSteppers, AllFind}
 use Rattle.board_world.proofs.Runs.{pulses_cut}
 
@@ -143,7 +143,7 @@ stays (Shut reason tick first) made all rest shut k =
     (k.0 ++ rest, ap (λ x. x ++ (k.0 ++ rest)) (append-nil made) ∙ sym (append_assoc made k.0 rest) ∙ ap (λ x. x ++ rest) k.1)
 
 -- nothing is left out
-no_left : (b : Controller) (made meant : List Pulse) (c : Cmd) → FindsStepper b c → left_by b made meant c ≡ meant
+no_left : (b : Controller) (made meant : List Pulse) (c : Cmd) → FindsStepper b c → meant_left b made meant c ≡ meant
 no_left b made meant (cmd.ResetStepClock oid clock) e = rw e refl
 no_left b made meant _ e = refl
 
@@ -192,7 +192,7 @@ SofarIn oid h = Sofar oid h.board h.meant (ticks_of oid h.taken)
 obeyed_sofar : (h : Core) (ms : List Meant) (oid : ℕ) → FindSteppers h.board ms → SofarIn oid h → Sofar oid (obeys h.board ms).board (meant_behind h.board h.made h.meant ms) (ticks_of oid (h.taken ++ ms))
 obeyed_sofar h ms oid finds k = rw (ticks_append oid h.taken ms) (all_sofar h.board ms oid h.made h.meant (ticks_of oid h.taken) finds k)
 
-event_sofar : (h : Core) (e : Event) (oid : ℕ) → FindSteppers h.board (takes_in h e) → SofarIn oid h → SofarIn oid (happens h e)
+event_sofar : (h : Core) (e : Event) (oid : ℕ) → FindSteppers h.board (takes_in h e) → SofarIn oid h → SofarIn oid (after_event h e)
 event_sofar h (Pass t) oid finds k = rw (append-nil h.taken, passes_state h.board t) k
 event_sofar h (Put b) oid finds k = obeyed_sofar h [] oid finds k
 event_sofar h (Control c) oid finds k = obeyed_sofar h [] oid finds k
@@ -205,25 +205,25 @@ event_sofar h Repeat oid finds k = obeyed_sofar h (takes_in h Repeat) oid finds 
 event_sofar h Reply oid finds k = obeyed_sofar h [] oid finds k
 event_sofar h LoseReply oid finds k = obeyed_sofar h [] oid finds k
 
-run_sofar : (steps : List Step) (h : Core) (oid : ℕ) → AllFind h steps → SofarIn oid h → SofarIn oid (run steps h)
+run_sofar : (steps : List Step) (h : Core) (oid : ℕ) → AllFind h steps → SofarIn oid h → SofarIn oid (run_world steps h)
 run_sofar [] h oid finds k = k
-run_sofar (Do e ∷ steps) h oid finds k = run_sofar steps (happens h e) oid finds.1 (event_sofar h e oid finds.0 k)
+run_sofar (Do e ∷ steps) h oid finds k = run_sofar steps (after_event h e) oid finds.1 (event_sofar h e oid finds.0 k)
 run_sofar (Turn turn ∷ steps) h oid finds k = run_sofar steps (in_turn h turn) oid finds.1 k
 
 some_of : (o : BoardState) (made all : List ℕ) → IsSofar o made all → (rest : List ℕ) × (made ++ rest ≡ all)
 some_of Running made all e = ([], append-nil made ∙ e)
 some_of (Shut reason tick first) made all k = k
 
-starts : (b : BoardDef) (pins : List (List Level)) (oid : ℕ) → SofarIn oid (start b pins)
+starts : (b : BoardDef) (pins : List (List Level)) (oid : ℕ) → SofarIn oid (new_world b pins)
 unfolding new_controller
 starts b pins oid = refl
 
-pub ticks_taken : (b : BoardDef) (pins : List (List Level)) (steps : List Step) → AllFair (start b pins) steps → AllFind (start b pins) steps
-    → (oid : ℕ) → (rest : List ℕ) × (pulse_ticks oid (run steps (start b pins)).made ++ rest ≡ ticks_of oid (run steps (start b pins)).taken)
+pub ticks_taken : (b : BoardDef) (pins : List (List Level)) (steps : List Step) → AllFair (new_world b pins) steps → AllFind (new_world b pins) steps
+    → (oid : ℕ) → (rest : List ℕ) × (pulse_ticks oid (run_world steps (new_world b pins)).made ++ rest ≡ ticks_of oid (run_world steps (new_world b pins)).taken)
 ticks_taken b pins steps fair finds oid =
-    let h = run steps (start b pins) in
+    let h = run_world steps (new_world b pins) in
     let cut = pulses_cut b pins steps fair oid in
-    let more = some_of h.board.controller.state (pulse_ticks oid h.meant) (ticks_of oid h.taken) (run_sofar steps (start b pins) oid finds (starts b pins oid)) in
+    let more = some_of h.board.controller.state (pulse_ticks oid h.meant) (ticks_of oid h.taken) (run_sofar steps (new_world b pins) oid finds (starts b pins oid)) in
     let behind : pulse_ticks oid h.made ++ map (λ (p : Pulse). p.tick) cut.0 ≡ pulse_ticks oid h.meant =
     sym (map-append (λ (p : Pulse). p.tick) (only oid h.made) cut.0) ∙ ap (map (λ (p : Pulse). p.tick)) cut.1 in
     (map (λ (p : Pulse). p.tick) cut.0 ++ more.0, sym (append_assoc (pulse_ticks oid h.made) (map (λ (p : Pulse). p.tick) cut.0) more.0) ∙ ap (λ x. x ++ more.0) behind ∙ more.1)

@@ -8,7 +8,7 @@ use Rattle.msg_code.specs.declared.cmd.Cmd.TheVariants as cmd
 use Rattle.board_sim.specs.Rig.{Rig, takes_all}
 use Rattle.board_sim.specs.Board.{Controller, stepper_at, first_of, timer_too_close, queue_overflow, stepper_active, zero_count, command_request}
 use Rattle.board_sim.specs.Fair.{Meant, commands_of}
-use Rattle.board_world.specs.World.{Core, Step, Do, Turn, takes_in, after}
+use Rattle.board_world.specs.World.{Core, Step, Do, Turn, takes_in, world_after}
 
 -- a stepper that isn't halted refuses a triple: it has no steps; or the queue is full; or no step pends, and its first
 -- step is before now
@@ -51,4 +51,5 @@ ShutIn h (Turn turn) reason tick first = ⊥
 -- in one of the steps the board took a command that shut it down
 abbrev pub WasShut : Core → List Step → ℕ → ℕ → ℕ → Type 0
 WasShut h [] reason tick first = ⊥
-WasShut h (s ∷ steps) reason tick first = ShutIn h s reason tick first ⊎ WasShut (after h s) steps reason tick first
+WasShut h (s ∷ steps) reason tick first = ShutIn h s reason tick first
+    ⊎ WasShut (world_after h s) steps reason tick first

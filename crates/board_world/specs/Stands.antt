@@ -19,11 +19,11 @@ use Rattle.board_world.specs.declared.event.Event.{Event}
 use Rattle.board_world.specs.declared.event.Event.TheVariants.{Send, Arrive, Garble, Repeat, Pass}
 use Rattle.wire_scene.specs.declared.scene.Way.{Way}
 use Rattle.wire_scene.specs.declared.scene.Way.TheVariants.{Down, Up}
-use Rattle.board_world.specs.World.{Core, text_of, on_wire}
+use Rattle.board_world.specs.World.{Core, wire_text, on_wire}
 
 -- what contracts see of a world: the host's end, the board with the number that it expects on the wire, the blocks
 -- under way both ways, the pulses of the last time that the board was run on
-pub record Seen : Type 0 where
+pub record SeenWorld : Type 0 where
   pub host : Host
   -- the board, with the number that it expects, of those on the wire
   pub station : Station
@@ -56,10 +56,10 @@ pub record IsOrdered (h : Core) : Type 0 where
 -- commands are read from their bytes
 abbrev pub AreRead : List Meant → Type 0
 AreRead [] = Unit {0}
-AreRead (m ∷ ms) = IsText own_formats m.command (text_of m.command) × AreRead ms
+AreRead (m ∷ ms) = IsText own_formats m.command (wire_text m.command) × AreRead ms
 
 -- a world stands for a state
-pub record StandsFor (s : Seen) (h : Core) : Type 0 where
+pub record WorldStandsFor (s : SeenWorld) (h : Core) : Type 0 where
   pub host : s.host ≡ host_of h.link
   pub station : s.station ≡ record { rig = h.board; expected = h.link.accepted % 16; told = h.spoilt }
   pub down : s.down ≡ map (text_at h.link.blocks) h.link.down
@@ -105,7 +105,7 @@ IsSmall NeedMore = Unit {0}
 IsSmall Bad = Unit {0}
 
 -- what a caller sees to: a board's ticks and the number of blocks are in range
-abbrev pub CanHappen : Seen → Event → Type 0
+abbrev pub CanHappen : SeenWorld → Event → Type 0
 CanHappen s (Pass t) = t < tick_limit
 CanHappen s Send = s.host.sent < 2 ^ 63
 CanHappen s Arrive = s.station.rig.controller.tick < tick_limit
@@ -114,7 +114,7 @@ CanHappen s Garble = s.station.rig.controller.tick < tick_limit
 CanHappen s _ = Unit {0}
 
 -- the blocks under way, one way
-abbrev pub under_way : Way → Seen → List (List ℕ)
+abbrev pub under_way : Way → SeenWorld → List (List ℕ)
 under_way Down s = s.down
 under_way Up s = s.up
 

@@ -10,7 +10,7 @@ use Rattle.board_sim.specs.Board.{Controller, stepper_at}
 use Rattle.board_sim.specs.Rig.{Rig, takes}
 use Rattle.board_sim.specs.Halted.{is_halted}
 use Rattle.board_sim.specs.Fair.{Meant, only}
-use Rattle.board_world.specs.World.{Core, Step, Do, Turn, takes_in, after}
+use Rattle.board_world.specs.World.{Core, Step, Do, Turn, takes_in, world_after}
 
 -- the ticks that a command means for a stepper, and those of some commands, in order
 abbrev pub ticks_for : ℕ → Cmd → List ℕ → List ℕ
@@ -55,4 +55,4 @@ FindsAt h (Turn turn) = Unit {0}
 -- each unit is taken after its stepper was made, and neither it nor a reset while that is halted
 abbrev pub AllFind : Core → List Step → Type 0
 AllFind h [] = Unit {0}
-AllFind h (s ∷ steps) = FindsAt h s × AllFind (after h s) steps
+AllFind h (s ∷ steps) = FindsAt h s × AllFind (world_after h s) steps

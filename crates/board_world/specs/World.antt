@@ -52,12 +52,12 @@ closes cmd.GetUptime = true
 closes _ = false
 
 -- the bytes of a command, and the command for the link
-abbrev pub text_of : Cmd → List ℕ
-text_of c = command_text own_formats c
+abbrev pub wire_text : Cmd → List ℕ
+wire_text c = command_text own_formats c
 
 -- a command as the link carries it
 abbrev pub on_wire : Meant → Command
-on_wire m = record { bytes = text_of m.command; closes = closes m.command }
+on_wire m = record { bytes = wire_text m.command; closes = closes m.command }
 
 -- the commands of a block, where the board expects it: the next ones that were queued, as many as it has
 abbrev pub block_of : Core → List ℕ → List Meant
@@ -94,19 +94,19 @@ abbrev pub says : Rig → ℕ → List Cmd
 says b t = (passes b t).answers ++ says_shut (shut_before b.controller.state b.controller.tick) b.controller.tick t
 
 -- a board runs to a tick, and tells what its triggers tell; one that was shut down before says so again
-abbrev pub runs : Rig → ℕ → Deed
-runs b t =
+abbrev pub board_runs : Rig → ℕ → Deed
+board_runs b t =
     let done = passes b t in
     record { board = done.rig; answers = says b t; pulses = done.pulses }
 
 -- what the board does in an event
 abbrev pub does : Core → Event → Deed
-does h (Pass t) = runs h.board t
+does h (Pass t) = board_runs h.board t
 does h e = obeys h.board (takes_in h e)
 
 -- the pulses of the last time that the board was run on
 abbrev pub last_by : Core → Event → List Pulse
-last_by h (Pass t) = if nat_le h.board.controller.tick t then (runs h.board t).pulses else h.last
+last_by h (Pass t) = if nat_le h.board.controller.tick t then (board_runs h.board t).pulses else h.last
 last_by h e = h.last
 
 -- a value, or another one where no block is under way
@@ -127,17 +127,17 @@ link_event h (Put b) = LinkPut (map on_wire (orders_of (Put b)))
 link_event h (Control c) = LinkControl (map on_wire (orders_of (Control c)))
 link_event h Send = LinkSend
 link_event h Resend = LinkResend
-link_event h Arrive = LinkArrive (map text_of (does h Arrive).answers)
-link_event h Repeat = LinkRepeat (map text_of (does h Repeat).answers)
+link_event h Arrive = LinkArrive (map wire_text (does h Arrive).answers)
+link_event h Repeat = LinkRepeat (map wire_text (does h Repeat).answers)
 link_event h Lose = LinkLose
 link_event h Garble = LinkGarble h.spoilt
 link_event h Reply = LinkReply
 link_event h LoseReply = LinkLoseReply
-link_event h (Pass t) = LinkPass (map text_of (does h (Pass t)).answers)
+link_event h (Pass t) = LinkPass (map wire_text (does h (Pass t)).answers)
 
 -- the state after an event
-abbrev pub happens : Core → Event → Core
-happens h e = record {
+abbrev pub after_event : Core → Event → Core
+after_event h e = record {
   link = link.happens h.link (link_event h e);
   queued = h.queued ++ orders_of e;
   taken = h.taken ++ takes_in h e;
@@ -158,20 +158,20 @@ pub data Step : Type 0 where
   Turn : ℕ → Step
 
 -- the state after a step
-abbrev pub after : Core → Step → Core
-after h (Do e) = happens h e
-after h (Turn turn) = in_turn h turn
+abbrev pub world_after : Core → Step → Core
+world_after h (Do e) = after_event h e
+world_after h (Turn turn) = in_turn h turn
 
 -- the state after a list of steps
-abbrev pub run : List Step → Core → Core
-run [] h = h
-run (s ∷ steps) h = run steps (after h s)
+abbrev pub run_world : List Step → Core → Core
+run_world [] h = h
+run_world (s ∷ steps) h = run_world steps (world_after h s)
 
 -- a board to which nothing was told, whose pins have these levels, and a link on which nothing was sent
-abbrev pub start : BoardDef → List (List Level) → Core
-start b pins =
+abbrev pub new_world : BoardDef → List (List Level) → Core
+new_world b pins =
     record {
-      link = link.start;
+      link = link.new_link;
       queued = [];
       taken = [];
       board = new_rig b pins;
@@ -189,7 +189,7 @@ IsFairAt h (Turn turn) = Unit {0}
 -- the units that the board takes are fair, each when it is taken
 abbrev pub AllFair : Core → List Step → Type 0
 AllFair h [] = Unit {0}
-AllFair h (s ∷ steps) = IsFairAt h s × AllFair (after h s) steps
+AllFair h (s ∷ steps) = IsFairAt h s × AllFair (world_after h s) steps
 
 -- the commands that a step queues
 abbrev pub queued_by : Step → List Meant

@@ -5,7 +5,7 @@ ghost use Rattle.msg_dict.specs.Own.{own_formats};
 ghost use Rattle.msg_code.specs.Text.{IsText};
 ghost use Rattle.msg_code.specs.Units.{reset_commands, dir_commands, step_command};
 ghost use Rattle.board_world.specs.Orders.{plain, unit_orders, units_orders};
-ghost use Rattle.board_world.specs.World.{closes, text_of};
+ghost use Rattle.board_world.specs.World.{closes, wire_text};
 ghost use Rattle.board_world.specs.Stands.{with_waiting, AreRead};
 
 use link_core::HostEnd;
@@ -105,7 +105,7 @@ fn queue_dir(
 fn queue_command(host: &mut HostEnd, formats: &Dict, c: &Cmd) -> Result<(), AllocError>
     requires { formats.now.formats ≡ own_formats }
     ensures host { OnOk result (host.new ≡ with_waiting host.old (plain c.now ∷ [])) }
-    ensures read { OnOk result (IsText own_formats c.now (text_of c.now)) }
+    ensures read { OnOk result (IsText own_formats c.now (wire_text c.now)) }
 {
     match encode(formats, c) {
         Ok(text) => {

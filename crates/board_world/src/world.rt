@@ -3,14 +3,14 @@
 ghost use Rattle.std.specs.Prelude.{◌≡◌, ℕ, ◌^◌, ◌<◌, ◌↔◌, List, [], ◌++◌, length, slice_index_or, IsTrue, false, OnOk, IfOk};
 ghost use Rattle.plan_types.specs.Clock.{tick_limit};
 ghost use Rattle.link_core.specs.Core.{sent};
-ghost use Rattle.link_core.specs.Host.{Host, acked_of, IsDue};
+ghost use Rattle.link_core.specs.Host.{Host, acked_of, IsResendDue};
 ghost use Rattle.link_core.specs.Stands.{host_of, last_closes};
 ghost use Rattle.msg_code.specs.declared.unit.Batch.{Batch};
 ghost use Rattle.msg_code.specs.declared.unit.Control.{Control};
 ghost use Rattle.board_world.specs.declared.event.Event.{Event};
 ghost use Rattle.wire_scene.specs.declared.scene.Way.{Way};
-ghost use Rattle.board_world.specs.World.{Core, happens, in_turn, start};
-ghost use Rattle.board_world.specs.Stands.{Seen, StandsFor, CanHappen, under_way, blocks_of, all_put_again, blocks_from};
+ghost use Rattle.board_world.specs.World.{Core, after_event, in_turn, new_world};
+ghost use Rattle.board_world.specs.Stands.{SeenWorld, WorldStandsFor, CanHappen, under_way, blocks_of, all_put_again, blocks_from};
 
 use crate::event::Event;
 use crate::line::{Line, found_in};
@@ -43,9 +43,9 @@ pub struct World {
 impl Model for World {
     ghost use Rattle.std.specs.Prelude.{◌≡◌};
     ghost use Rattle.msg_dict.specs.Own.{own_formats};
-    ghost use Rattle.board_world.specs.Stands.{Seen};
+    ghost use Rattle.board_world.specs.Stands.{SeenWorld};
 
-    ghost Value = { Seen };
+    ghost Value = { SeenWorld };
 
     ghost view = { λ w.
         record { host = w.host; station = w.taker; down = w.down; up = w.up; pulses = w.pulses.items } };
@@ -56,7 +56,7 @@ impl Model for World {
 impl World {
     /// A world in which nothing has happened, whose board's pins have these levels.
     pub fn new(alloc: Global, b: &BoardDef, pins: Vec<PinLevels>) -> Result<Self, AllocError>
-        ensures { IfOk result (λ w. StandsFor w (start b.now pins.items)) }
+        ensures { IfOk result (λ w. WorldStandsFor w (new_world b.now pins.items)) }
     {
         Ok(World {
             alloc,
@@ -72,7 +72,7 @@ impl World {
     /// An event happens. After want of memory the world is only dropped.
     pub fn step(&mut self, e: Event) -> Result<(), AllocError>
         requires { CanHappen self.old e }
-        ensures { OnOk result ((h : Core) → StandsFor self.old h → StandsFor self.new (happens h e)) }
+        ensures { OnOk result ((h : Core) → WorldStandsFor self.old h → WorldStandsFor self.new (after_event h e)) }
     {
         match e {
             Event::Put(batch) => self.put(&batch)?,
@@ -93,7 +93,7 @@ impl World {
     /// The units of a batch are queued.
     pub fn put(&mut self, batch: &Batch) -> Result<(), AllocError>
         ensures { OnOk result
-            ((h : Core) → StandsFor self.old h → StandsFor self.new (happens h (Event.Put batch.now))) }
+            ((h : Core) → WorldStandsFor self.old h → WorldStandsFor self.new (after_event h (Event.Put batch.now))) }
     {
         queue_units(&mut self.host, &self.formats, batch.units.as_slice())?;
         Ok(())
@@ -102,7 +102,8 @@ impl World {
     /// The commands of a control are queued.
     pub fn control(&mut self, control: &Control) -> Result<(), AllocError>
         ensures { OnOk result
-            ((h : Core) → StandsFor self.old h → StandsFor self.new (happens h (Event.Control control.now))) }
+            ((h : Core) → WorldStandsFor self.old h →
+            WorldStandsFor self.new (after_event h (Event.Control control.now))) }
     {
         queue_commands(&mut self.host, &self.formats, control.commands.as_slice())?;
         Ok(())
@@ -110,7 +111,8 @@ impl World {
 
     fn send(&mut self) -> Result<(), AllocError>
         requires { self.old.host.sent < 2 ^ 63 }
-        ensures { OnOk result ((h : Core) → StandsFor self.old h → StandsFor self.new (happens h Event.Send)) }
+        ensures { OnOk result ((h : Core) → WorldStandsFor self.old h →
+            WorldStandsFor self.new (after_event h Event.Send)) }
     {
         let turn = self.host.last_turn();
         if let Some(block) = self.host.send(turn) {
@@ -120,7 +122,8 @@ impl World {
     }
 
     fn resend(&mut self) -> Result<(), AllocError>
-        ensures { OnOk result ((h : Core) → StandsFor self.old h → StandsFor self.new (happens h Event.Resend)) }
+        ensures { OnOk result ((h : Core) → WorldStandsFor self.old h →
+            WorldStandsFor self.new (after_event h Event.Resend)) }
     {
         put_all_again(&mut self.host, &mut self.down)?;
         Ok(())
@@ -128,7 +131,8 @@ impl World {
 
     fn arrive(&mut self) -> Result<(), AllocError>
         requires { self.old.station.rig.controller.tick < tick_limit }
-        ensures { OnOk result ((h : Core) → StandsFor self.old h → StandsFor self.new (happens h Event.Arrive)) }
+        ensures { OnOk result ((h : Core) → WorldStandsFor self.old h →
+            WorldStandsFor self.new (after_event h Event.Arrive)) }
     {
         self.repeat()?;
         self.lose();
@@ -136,14 +140,15 @@ impl World {
     }
 
     fn lose(&mut self)
-        ensures { (h : Core) → StandsFor self.old h → StandsFor self.new (happens h Event.Lose) }
+        ensures { (h : Core) → WorldStandsFor self.old h → WorldStandsFor self.new (after_event h Event.Lose) }
     {
         self.down.lose();
     }
 
     fn garble(&mut self) -> Result<(), AllocError>
         requires { self.old.station.rig.controller.tick < tick_limit }
-        ensures { OnOk result ((h : Core) → StandsFor self.old h → StandsFor self.new (happens h Event.Garble)) }
+        ensures { OnOk result ((h : Core) → WorldStandsFor self.old h →
+            WorldStandsFor self.new (after_event h Event.Garble)) }
     {
         if self.down.len() == 0 {
             return Ok(());
@@ -157,7 +162,8 @@ impl World {
 
     fn repeat(&mut self) -> Result<(), AllocError>
         requires { self.old.station.rig.controller.tick < tick_limit }
-        ensures { OnOk result ((h : Core) → StandsFor self.old h → StandsFor self.new (happens h Event.Repeat)) }
+        ensures { OnOk result ((h : Core) → WorldStandsFor self.old h →
+            WorldStandsFor self.new (after_event h Event.Repeat)) }
     {
         let Some(block) = self.down.first() else {
             return Ok(());
@@ -170,7 +176,7 @@ impl World {
     }
 
     fn reply(&mut self)
-        ensures { (h : Core) → StandsFor self.old h → StandsFor self.new (happens h Event.Reply) }
+        ensures { (h : Core) → WorldStandsFor self.old h → WorldStandsFor self.new (after_event h Event.Reply) }
     {
         let Some(block) = self.up.first() else {
             return;
@@ -182,7 +188,7 @@ impl World {
 
     /// The answer in the oldest block under way to the host, where it has one.
     pub fn answer(&self) -> Option<Cmd>
-        ensures { (h : Core) → StandsFor self.now h → IsFirstAnswer h.link.up result }
+        ensures { (h : Core) → WorldStandsFor self.now h → IsFirstAnswer h.link.up result }
     {
         let Some(block) = self.up.first() else {
             return None;
@@ -194,7 +200,7 @@ impl World {
     }
 
     fn lose_reply(&mut self)
-        ensures { (h : Core) → StandsFor self.old h → StandsFor self.new (happens h Event.LoseReply) }
+        ensures { (h : Core) → WorldStandsFor self.old h → WorldStandsFor self.new (after_event h Event.LoseReply) }
     {
         self.up.lose();
     }
@@ -202,7 +208,8 @@ impl World {
     /// The board is run on to a tick.
     pub fn pass(&mut self, until: u64) -> Result<(), AllocError>
         requires { until < tick_limit }
-        ensures { OnOk result ((h : Core) → StandsFor self.old h → StandsFor self.new (happens h (Event.Pass until))) }
+        ensures { OnOk result ((h : Core) → WorldStandsFor self.old h →
+            WorldStandsFor self.new (after_event h (Event.Pass until))) }
     {
         let from = self.taker.tick();
         if until < from {
@@ -232,9 +239,9 @@ impl World {
 
     /// Whether a resend is due in this turn. A block that is put from now on is put in this turn.
     pub fn due(&mut self, turn: u64) -> bool
-        ensures seen { IsTrue result ↔ IsDue self.old.host turn }
-        ensures due { (h : Core) → StandsFor self.old h → IsTrue result ↔ IsDue (host_of h.link) turn }
-        ensures stands { (h : Core) → StandsFor self.old h → StandsFor self.new (in_turn h turn) }
+        ensures seen { IsTrue result ↔ IsResendDue self.old.host turn }
+        ensures due { (h : Core) → WorldStandsFor self.old h → IsTrue result ↔ IsResendDue (host_of h.link) turn }
+        ensures stands { (h : Core) → WorldStandsFor self.old h → WorldStandsFor self.new (in_turn h turn) }
     {
         self.host.turn(turn)
     }
@@ -242,7 +249,7 @@ impl World {
     /// The pulses that the board made when it was run on last.
     pub fn pulses(&self) -> &[Pulse]
         ensures seen { result.now ≡ self.now.pulses }
-        ensures stands { (h : Core) → StandsFor self.now h → result.now ≡ h.last }
+        ensures stands { (h : Core) → WorldStandsFor self.now h → result.now ≡ h.last }
     {
         self.pulses.as_slice()
     }
@@ -250,7 +257,7 @@ impl World {
     /// Whether the board runs, or why it shut down.
     pub fn state(&self) -> BoardState
         ensures seen { result ≡ self.now.station.rig.controller.state }
-        ensures stands { (h : Core) → StandsFor self.now h → result ≡ h.board.controller.state }
+        ensures stands { (h : Core) → WorldStandsFor self.now h → result ≡ h.board.controller.state }
     {
         self.taker.state()
     }
@@ -258,7 +265,7 @@ impl World {
     /// The board's tick.
     pub fn tick(&self) -> u64
         ensures seen { result ≡ self.now.station.rig.controller.tick }
-        ensures stands { (h : Core) → StandsFor self.now h → result ≡ h.board.controller.tick }
+        ensures stands { (h : Core) → WorldStandsFor self.now h → result ≡ h.board.controller.tick }
     {
         self.taker.tick()
     }
@@ -266,7 +273,7 @@ impl World {
     /// How many blocks are under way.
     pub fn copies(&self, way: Way) -> usize
         ensures seen { result ≡ length (under_way way self.now) }
-        ensures stands { (h : Core) → StandsFor self.now h → result ≡ length (blocks_of way h) }
+        ensures stands { (h : Core) → WorldStandsFor self.now h → result ≡ length (blocks_of way h) }
     {
         match way {
             Way::Down => self.down.len(),
@@ -278,7 +285,7 @@ impl World {
     pub fn copy(&self, way: Way, i: usize) -> Block
         requires { i < length (under_way way self.now) }
         ensures seen { result.items ≡ slice_index_or (under_way way self.now) i [] }
-        ensures stands { (h : Core) → StandsFor self.now h → result.items ≡ slice_index_or (blocks_of way h) i [] }
+        ensures stands { (h : Core) → WorldStandsFor self.now h → result.items ≡ slice_index_or (blocks_of way h) i [] }
     {
         match way {
             Way::Down => self.down.block(i),
@@ -289,7 +296,7 @@ impl World {
     /// The number of the oldest block that the board hasn't acknowledged, or of the next new one.
     pub fn acked(&self) -> u64
         ensures seen { result ≡ acked_of self.now.host }
-        ensures stands { (h : Core) → StandsFor self.now h → result ≡ h.link.acked }
+        ensures stands { (h : Core) → WorldStandsFor self.now h → result ≡ h.link.acked }
     {
         self.host.oldest()
     }
@@ -297,7 +304,7 @@ impl World {
     /// How many blocks were sent.
     pub fn sent(&self) -> u64
         ensures seen { result ≡ self.now.host.sent }
-        ensures stands { (h : Core) → StandsFor self.now h → result ≡ sent h.link }
+        ensures stands { (h : Core) → WorldStandsFor self.now h → result ≡ sent h.link }
     {
         self.host.sent()
     }
@@ -305,7 +312,7 @@ impl World {
     /// No command waits, and no block is outstanding.
     pub fn idle(&self) -> bool
         ensures seen { IsTrue result ↔ (self.now.host.waiting ≡ []) × (self.now.host.contents ≡ []) }
-        ensures stands { (h : Core) → StandsFor self.now h →
+        ensures stands { (h : Core) → WorldStandsFor self.now h →
             IsTrue result ↔ (h.link.waiting ≡ []) × (h.link.acked ≡ sent h.link) }
     {
         self.host.idle()
@@ -314,7 +321,7 @@ impl World {
     /// Whether the last block ends with a `get_uptime`.
     pub fn closed(&self) -> bool
         ensures seen { result ≡ self.now.host.closed }
-        ensures stands { (h : Core) → StandsFor self.now h → result ≡ last_closes false h.link.blocks }
+        ensures stands { (h : Core) → WorldStandsFor self.now h → result ≡ last_closes false h.link.blocks }
     {
         self.host.closed()
     }

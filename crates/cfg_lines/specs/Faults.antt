@@ -4,9 +4,9 @@ use Rattle.cfg_lines.specs.declared.fault.CfgFault.{CfgFault}
 use Rattle.cfg_lines.specs.declared.fault.CfgFault.TheVariants.{At, Memory}
 
 -- a fault other than want of memory is the one that the text has
-abbrev pub IsFirst : CfgFault → Option CfgFault → Type 0
-IsFirst (Memory error) first = Unit {0}
-IsFirst (At line kind) first = first ≡ Some (At line kind)
+abbrev pub IsFirstFault : CfgFault → Option CfgFault → Type 0
+IsFirstFault (Memory error) first = Unit {0}
+IsFirstFault (At line kind) first = first ≡ Some (At line kind)
 
 -- what follows, unless there is a fault
 infixl 10 ◌>>=◌
@@ -15,7 +15,7 @@ abbrev pub ◌>>=◌ : {A B : Type 0} → Result A CfgFault → (A → Result B 
 (Err fault) >>= f = Err fault
 
 -- a reader's answer is this, but for want of memory
-abbrev pub Answers : {A : Type 0} → Result A CfgFault → Result A CfgFault → Type 0
-Answers (Ok x) wanted = wanted ≡ Ok x
-Answers (Err (Memory error)) wanted = Unit {0}
-Answers (Err (At line kind)) wanted = wanted ≡ Err (At line kind)
+abbrev pub AnswersConfiguration : {A : Type 0} → Result A CfgFault → Result A CfgFault → Type 0
+AnswersConfiguration (Ok x) wanted = wanted ≡ Ok x
+AnswersConfiguration (Err (Memory error)) wanted = Unit {0}
+AnswersConfiguration (Err (At line kind)) wanted = wanted ≡ Err (At line kind)

@@ -15,7 +15,7 @@ use Rattle.cfg_lines.specs.declared.item.Item.{Item}
 use Rattle.cfg_lines.specs.declared.item.Item.TheVariants.{Skipped, PassedOver, Opens, Holds, Wrong}
 use Rattle.cfg_lines.specs.declared.item.Place.{Place}
 use Rattle.cfg_lines.specs.declared.item.Entry.{Entry}
-use Rattle.cfg_lines.specs.Said.{Said, Nothing, Begins, Continues, Sets, Neither, said}
+use Rattle.cfg_lines.specs.Said.{ConfigurationLine, Nothing, Begins, Continues, Sets, Neither, said}
 use Rattle.cfg_lines.specs.Sections.{section_of, same_motor}
 use Rattle.cfg_lines.specs.Table.{key_named}
 use Rattle.cfg_lines.specs.Values.{judged, fits}
@@ -42,7 +42,7 @@ opened Unknown = PassedOver
 opened section = Opens section
 
 -- what a line means where it stands: a continued line is passed over behind an option that isn't known, and else wrong
-abbrev pub meant : Place → Said → Item
+abbrev pub meant : Place → ConfigurationLine → Item
 meant place Nothing = Skipped
 meant place (Begins name) = opened (section_of name)
 meant place Continues = if place.lenient then Skipped else Wrong BadLine
@@ -50,15 +50,15 @@ meant place (Sets name value) = option_in place.section name value
 meant place Neither = Wrong BadLine
 
 -- where the line behind it stands
-abbrev pub place_behind : Place → Said → Place
+abbrev pub place_behind : Place → ConfigurationLine → Place
 place_behind place (Begins name) = record { section = section_of name; lenient = false }
 place_behind place (Sets name value) =
     record { section = place.section; lenient = if is_some (key_named place.section name) then false else true }
 place_behind place said = place
 
 -- where a text begins: before the first section
-abbrev pub start : Place
-start = record { section = Before; lenient = false }
+abbrev pub first_place : Place
+first_place = record { section = Before; lenient = false }
 
 -- what the lines mean, one by one
 abbrev pub items : Place → List (List ℕ) → List Item

@@ -29,15 +29,15 @@ abbrev pub drive_of : ℕ → Option Drive
 drive_of b = if b == 120 then Some X else (if b == 121 then Some Y else (if b == 122 then Some Z else None))
 
 -- the number of a coordinate: x, y, z and e
-abbrev pub number_of : Drive → ℕ
-number_of X = 0
-number_of Y = 1
-number_of Z = 2
-number_of E = 3
+abbrev pub drive_number : Drive → ℕ
+drive_number X = 0
+drive_number Y = 1
+drive_number Z = 2
+drive_number E = 3
 
 -- two stepper sections are the same
 abbrev pub same_motor : Motor → Motor → Bool
-same_motor a b = (number_of a.drive == number_of b.drive) && (a.digit == b.digit)
+same_motor a b = (drive_number a.drive == drive_number b.drive) && (a.digit == b.digit)
 
 -- two sections are the same
 abbrev pub same_section : Section → Section → Bool

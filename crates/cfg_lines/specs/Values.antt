@@ -12,7 +12,7 @@ use Rattle.cfg_lines.specs.declared.table.Kind.TheVariants as kinds
 use Rattle.cfg_lines.specs.declared.value.Value.{Value}
 use Rattle.cfg_lines.specs.declared.value.Value.TheVariants.{Amount, Signed, Flag, Pin}
 use Rattle.cfg_lines.specs.Sections.{is_name_byte, is_board_name}
-use Rattle.cfg_lines.specs.Table.{row_of}
+use Rattle.cfg_lines.specs.Table.{option_row}
 
 -- the number that a whole text spells, with at most so many digits before the point, in millionths
 abbrev pub all_of : Option (ℤ × List ℕ) → Option ℤ
@@ -145,7 +145,7 @@ judged_as kinds.Refused text = Err BadValue
 
 -- what a value of an option is, or why it isn't one
 unfoldable pub judged : Key → List ℕ → Result Value CfgKind
-judged key text = judged_as (row_of key).kind text
+judged key text = judged_as (option_row key).kind text
 
 -- a kind whose numbers have at most eighteen digits and a step above 0, and whose signed numbers are small
 abbrev pub IsReadable : Kind → Type 0
@@ -168,4 +168,4 @@ fits_kind kind value = false
 
 -- a value that an option may have
 abbrev pub fits : Key → Value → Bool
-fits key value = fits_kind (row_of key).kind value
+fits key value = fits_kind (option_row key).kind value

@@ -1,10 +1,10 @@
 -- A line that was read, without where it lies in memory.
 use Rattle.cfg_lines.specs.declared.line.Line.{Line}
 use Rattle.cfg_lines.specs.declared.line.Line.TheVariants as lines
-use Rattle.cfg_lines.specs.Said.{Said, Nothing, Begins, Continues, Sets, Neither}
+use Rattle.cfg_lines.specs.Said.{ConfigurationLine, Nothing, Begins, Continues, Sets, Neither}
 
 -- a line that was read, without where it lies in memory
-abbrev pub view : Line → Said
+abbrev pub view : Line → ConfigurationLine
 view lines.Nothing = Nothing
 view (lines.Begins name) = Begins name.now
 view lines.Continues = Continues

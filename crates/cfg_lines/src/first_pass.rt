@@ -4,8 +4,8 @@ ghost use Rattle.std.specs.Prelude.{◌≡◌, ◌≢◌, AllPairs, ℕ, ◌+◌
 ghost use Rattle.std.specs.List.{list_all};
 ghost use Rattle.text_core.specs.Lines.{lines_of};
 ghost use Rattle.cfg_lines.specs.Items as specs;
-ghost use Rattle.cfg_lines.specs.Items.{fault_of, with_name, with_board, with_stepper, entry_of, entry_fits, item_fits, items, start, first_fault, entries, boards_behind, steppers_behind, passed_over};
-ghost use Rattle.cfg_lines.specs.Faults.{IsFirst};
+ghost use Rattle.cfg_lines.specs.Items.{fault_of, with_name, with_board, with_stepper, entry_of, entry_fits, item_fits, items, first_place, first_fault, entries, boards_behind, steppers_behind, passed_over};
+ghost use Rattle.cfg_lines.specs.Faults.{IsFirstFault};
 
 use crate::fault::CfgFault;
 use crate::item::{Entry, Item, behind_line, meaning, top};
@@ -160,17 +160,19 @@ fn keep(entries: &mut Vec<Entry>, line: u64, item: Item) -> Result<(), AllocErro
 /// Reads the lines from the top.
 pub fn first_pass(alloc: Global, text: &[u8]) -> Result<Pass, CfgFault>
     requires { length text.now ≤ 2 ^ 20 }
-    ensures err { IfErr result (λ fault. IsFirst fault (first_fault [] [] 1 (items start (lines_of text.now)))) }
-    ensures ok { OnOk result (first_fault [] [] 1 (items start (lines_of text.now)) ≡ None) }
-    ensures entries { IfOk result (λ pass. pass.entries.items ≡ entries 1 (items start (lines_of text.now))) }
-    ensures boards { IfOk result (λ pass. pass.boards.items ≡ boards_behind [] (items start (lines_of text.now))) }
+    ensures err { IfErr result (λ fault. IsFirstFault fault
+        (first_fault [] [] 1 (items first_place (lines_of text.now)))) }
+    ensures ok { OnOk result (first_fault [] [] 1 (items first_place (lines_of text.now)) ≡ None) }
+    ensures entries { IfOk result (λ pass. pass.entries.items ≡ entries 1 (items first_place (lines_of text.now))) }
+    ensures boards { IfOk result (λ pass. pass.boards.items
+        ≡ boards_behind [] (items first_place (lines_of text.now))) }
     ensures steppers { IfOk result
-        (λ pass. pass.steppers.items ≡ steppers_behind [] (items start (lines_of text.now))) }
+        (λ pass. pass.steppers.items ≡ steppers_behind [] (items first_place (lines_of text.now))) }
     ensures few_boards { IfOk result (λ pass. length pass.boards.items ≤ 8) }
     ensures boards_differ { IfOk result (λ pass. AllPairs (λ p q. p ≢ q) pass.boards.items) }
     ensures few_steppers { IfOk result (λ pass. length pass.steppers.items ≤ 16) }
     ensures fit { IfOk result (λ pass. list_all entry_fits pass.entries.items ≡ true) }
-    ensures passed { IfOk result (λ pass. pass.passed ≡ passed_over (items start (lines_of text.now))) }
+    ensures passed { IfOk result (λ pass. pass.passed ≡ passed_over (items first_place (lines_of text.now))) }
 {
     let mut entries = Vec::new(alloc);
     let mut boards = Vec::new(alloc);

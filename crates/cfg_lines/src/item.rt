@@ -2,7 +2,7 @@
 
 ghost use Rattle.std.specs.Prelude.{◌≡◌, Result, IsTrue, is_some, if◌then◌else◌};
 ghost use Rattle.cfg_lines.specs.Items as specs;
-ghost use Rattle.cfg_lines.specs.Items.{meant, option_in, opened, start, with_value, item_fits};
+ghost use Rattle.cfg_lines.specs.Items.{meant, option_in, opened, first_place, with_value, item_fits};
 ghost use Rattle.cfg_lines.specs.Sections.{section_of};
 ghost use Rattle.cfg_lines.specs.Table.{key_named};
 ghost use Rattle.cfg_lines.specs.Values.{judged};
@@ -45,7 +45,7 @@ pub struct Entry {
 
 /// Before the first line.
 pub fn top() -> Place
-    ensures { result ≡ start }
+    ensures { result ≡ first_place }
 {
     Place {
         section: Section::Before,

@@ -3,7 +3,7 @@
 ghost use Rattle.std.specs.Prelude.{◌≡◌, option_map};
 ghost use Rattle.text_core.specs.Bytes.{is_blank as blank, begins, before};
 ghost use Rattle.cfg_lines.specs.Said as specs;
-ghost use Rattle.cfg_lines.specs.Said.{closed as closed_text, text_of, setting, by_brackets, set_to};
+ghost use Rattle.cfg_lines.specs.Said.{closed as closed_text, bare_text, setting, by_brackets, set_to};
 ghost use Rattle.cfg_lines.specs.Views.{view};
 
 use text_core::{cut, is_blank, trim, without_return};
@@ -92,7 +92,7 @@ fn section_or_setting(indented: bool, text: &[u8]) -> Line<'_>
 
 /// The line without its comment.
 fn uncommented(line: &[u8]) -> &[u8]
-    ensures { result.now ≡ text_of line.now }
+    ensures { result.now ≡ bare_text line.now }
 {
     cut(cut(without_return(line), b'#'), b';')
 }

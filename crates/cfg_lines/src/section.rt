@@ -3,7 +3,7 @@
 ghost use Rattle.std.specs.Prelude.{◌≡◌, ◌<◌, option_map, codes};
 ghost use Rattle.std.specs.List.{list_all};
 ghost use Rattle.cfg_lines.specs.Sections as specs;
-ghost use Rattle.cfg_lines.specs.Sections.{behind_text, number_of, section_of, stepper_of, board_of, simulated_of, board_section, with_digit};
+ghost use Rattle.cfg_lines.specs.Sections.{behind_text, drive_number, section_of, stepper_of, board_of, simulated_of, board_section, with_digit};
 
 use plan_types::Name;
 use text_core::{is_digit, is_letter, trim};
@@ -44,7 +44,7 @@ pub enum Section {
 
 /// The number of a coordinate.
 pub fn number(drive: Drive) -> u8
-    ensures value { result ≡ number_of drive }
+    ensures value { result ≡ drive_number drive }
     ensures small { result < 4 }
 {
     match drive {

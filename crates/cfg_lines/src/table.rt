@@ -3,7 +3,7 @@
 ghost use Rattle.std.specs.Prelude.{◌≡◌, None, if◌then◌else◌};
 ghost use Rattle.cfg_lines.specs.Table as specs;
 ghost use Rattle.cfg_lines.specs.Values.{IsReadable};
-ghost use Rattle.cfg_lines.specs.Table.{key_named, row_of, place_of, named, printer_keys, simulated_keys, simulation_keys, stepper_keys, axis_keys, fan_keys};
+ghost use Rattle.cfg_lines.specs.Table.{key_named, option_row, option_place, named, printer_keys, simulated_keys, simulation_keys, stepper_keys, axis_keys, fan_keys};
 
 use crate::section::{Motor, Section, number};
 use text_core::same_small;
@@ -61,7 +61,7 @@ pub enum Kind {
 
 /// The kind of an option's value. Lengths are nm, speeds nm/s, accelerations nm/s².
 pub fn kind_of(key: Key) -> Kind
-    ensures kind { result ≡ (row_of key).kind }
+    ensures kind { result ≡ (option_row key).kind }
     ensures readable { IsReadable result }
 {
     match key {
@@ -87,7 +87,7 @@ pub fn kind_of(key: Key) -> Kind
 
 /// What stands for an option that is not set.
 pub fn fallback(key: Key) -> u64
-    ensures { result ≡ (row_of key).fallback }
+    ensures { result ≡ (option_row key).fallback }
 {
     match key {
         Key::MaxVelocity | Key::RotationDistance => 100_000,
@@ -104,7 +104,7 @@ pub fn fallback(key: Key) -> u64
 
 /// The place of an option in the table.
 fn place(key: Key) -> u8
-    ensures { result ≡ place_of key }
+    ensures { result ≡ option_place key }
 {
     match key {
         Key::Kinematics => 0,
@@ -232,7 +232,7 @@ fn axis_option(name: &[u8]) -> Option<Key>
 
 fn motor_option(motor: Motor, name: &[u8]) -> Option<Key>
     ensures { result
-        ≡ specs.or_else (named name.now stepper_keys) (if specs.is_axis motor then named name.now axis_keys else None) }
+        ≡ specs.or_key (named name.now stepper_keys) (if specs.is_axis motor then named name.now axis_keys else None) }
 {
     if let Some(key) = stepper_option(name) {
         return Some(key);

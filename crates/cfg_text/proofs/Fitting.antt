@@ -10,16 +10,16 @@ use Rattle.cfg_lines.specs.declared.item.Item.{Item}
 use Rattle.cfg_lines.specs.declared.item.Item.TheVariants.{Skipped, PassedOver, Opens, Holds, Wrong}
 use Rattle.cfg_lines.specs.declared.item.Entry.{Entry}
 use Rattle.cfg_lines.specs.Sections.{same_section}
-use Rattle.cfg_lines.specs.Table.{Row, row_of, place_of, same_key}
+use Rattle.cfg_lines.specs.Table.{Row, option_row, option_place, same_key}
 use Rattle.cfg_lines.specs.Values.{fits, fits_kind}
 use Rattle.cfg_lines.specs.Items.{item_fits, entry_fits}
 use Rattle.cfg_text.specs.Holding.{sets, suits, last_set, or_earlier, amount, amount_or, amount_in, signed, signed_or, signed_in}
 
 abbrev rows : List Row
-rows = row_of Kinematics ∷ row_of MaxVelocity ∷ row_of MaxAccel ∷ row_of SquareCornerVelocity ∷ row_of MinimumCruiseRatio ∷ row_of ClockFreq ∷ row_of StartClock ∷ row_of MoveSlots ∷ row_of DriftPpm ∷ row_of StartHomed ∷ row_of StepPin ∷ row_of DirPin ∷ row_of RotationDistance ∷ row_of Microsteps ∷ row_of FullSteps ∷ row_of GearRatio ∷ row_of EndstopPin ∷ row_of PositionEndstop ∷ row_of PositionMax ∷ row_of PositionMin ∷ row_of HomingSpeed ∷ row_of FanPin ∷ []
+rows = option_row Kinematics ∷ option_row MaxVelocity ∷ option_row MaxAccel ∷ option_row SquareCornerVelocity ∷ option_row MinimumCruiseRatio ∷ option_row ClockFreq ∷ option_row StartClock ∷ option_row MoveSlots ∷ option_row DriftPpm ∷ option_row StartHomed ∷ option_row StepPin ∷ option_row DirPin ∷ option_row RotationDistance ∷ option_row Microsteps ∷ option_row FullSteps ∷ option_row GearRatio ∷ option_row EndstopPin ∷ option_row PositionEndstop ∷ option_row PositionMax ∷ option_row PositionMin ∷ option_row HomingSpeed ∷ option_row FanPin ∷ []
 
 -- an option's row is the one at its place
-row_at : (key : Key) → row_of key ≡ get_or rows (place_of key) (row_of Kinematics)
+row_at : (key : Key) → option_row key ≡ get_or rows (option_place key) (option_row Kinematics)
 row_at Kinematics = refl
 row_at MaxVelocity = refl
 row_at MaxAccel = refl
@@ -43,8 +43,8 @@ row_at PositionMin = refl
 row_at HomingSpeed = refl
 row_at FanPin = refl
 
-same_row : (a b : Key) → same_key a b ≡ true → row_of b ≡ row_of a
-same_row a b same = row_at b ∙ ap (λ n. get_or rows n (row_of Kinematics)) (sym (eqb-true (place_of a) (place_of b) same)) ∙ sym (row_at a)
+same_row : (a b : Key) → same_key a b ≡ true → option_row b ≡ option_row a
+same_row a b same = row_at b ∙ ap (λ n. get_or rows n (option_row Kinematics)) (sym (eqb-true (option_place a) (option_place b) same)) ∙ sym (row_at a)
 
 set_suits : (section : Section) (key : Key) (item : Item) → sets section key item ≡ true → item_fits item ≡ true → suits key item ≡ true
 set_suits section key (Holds s k value) set fit = let parts : (same_section section s ≡ true) × (same_key key k ≡ true) = and_parts (same_section section s) (same_key key k) set in
@@ -87,9 +87,9 @@ amount_of_last key fallback None suited default = default
 amount_of_last key fallback (Some e) suited default = amount_suits key fallback e.item suited default
 
 -- the number that holds for an option is within its limits
-pub amount_fits : (entries : List Entry) (section : Section) (key : Key) → list_all entry_fits entries ≡ true → fits key (Amount (row_of key).fallback) ≡ true → fits key (Amount (amount entries section key)) ≡ true
+pub amount_fits : (entries : List Entry) (section : Section) (key : Key) → list_all entry_fits entries ≡ true → fits key (Amount (option_row key).fallback) ≡ true → fits key (Amount (amount entries section key)) ≡ true
 unfolding amount
-amount_fits entries section key fit default = amount_of_last key (row_of key).fallback (last_set section key entries) (last_suits section key entries fit) default
+amount_fits entries section key fit default = amount_of_last key (option_row key).fallback (last_set section key entries) (last_suits section key entries fit) default
 
 signed_suits : (key : Key) (item : Item) → suits key item ≡ true → fits key (Signed (pos 0)) ≡ true → fits key (Signed (signed_in item)) ≡ true
 signed_suits key (Holds s k (Signed z)) suited default = suited

@@ -20,7 +20,7 @@ use Rattle.cfg_lines.specs.declared.item.Entry.{Entry}
 use Rattle.cfg_text.specs.declared.wiring.Use.{Use}
 use Rattle.cfg_text.specs.declared.missing.Range.{Range}
 use Rattle.cfg_text.specs.declared.seat.Wire.{Wire}
-use Rattle.cfg_lines.specs.Sections.{number_of}
+use Rattle.cfg_lines.specs.Sections.{drive_number}
 use Rattle.cfg_lines.specs.Items.{with_name}
 use Rattle.cfg_text.specs.Holding.{amount, signed, flag, first_line_of}
 use Rattle.cfg_text.specs.Wiring.{wired}
@@ -111,7 +111,7 @@ joined entries before motor step dir =
       name = motor_name motor;
       board = step.board;
       oid = count_by (λ s. s.board == step.board) before;
-      drive = number_of motor.drive;
+      drive = drive_number motor.drive;
       gear = gear_of entries motor;
       step_pin = step.pin;
       dir_pin = dir.pin;

@@ -7,7 +7,7 @@ use Rattle.cfg_lines.specs.declared.item.Item.{Item}
 use Rattle.cfg_lines.specs.declared.item.Item.TheVariants.{Opens, Holds}
 use Rattle.cfg_lines.specs.declared.item.Entry.{Entry}
 use Rattle.cfg_lines.specs.Sections.{same_section}
-use Rattle.cfg_lines.specs.Table.{row_of, same_key}
+use Rattle.cfg_lines.specs.Table.{option_row, same_key}
 use Rattle.cfg_lines.specs.Values.{fits}
 
 -- a line sets this option of this section
@@ -72,7 +72,7 @@ line_or (Some e) = e.line
 
 -- the number that holds for an option
 unfoldable pub amount : List Entry → Section → Key → ℕ
-amount entries section key = amount_or (row_of key).fallback (last_set section key entries)
+amount entries section key = amount_or (option_row key).fallback (last_set section key entries)
 
 -- the signed number that holds for an option: 0 where it isn't set
 unfoldable pub signed : List Entry → Section → Key → ℤ

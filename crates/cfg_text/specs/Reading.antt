@@ -13,15 +13,15 @@ use Rattle.cfg_lines.specs.declared.item.Item.{Item}
 use Rattle.cfg_lines.specs.declared.item.Entry.{Entry}
 use Rattle.cfg_text.specs.declared.wiring.Use.{Use}
 use Rattle.cfg_lines.specs.Faults.{◌>>=◌}
-use Rattle.cfg_lines.specs.Items.{items, start, first_fault, entries, boards_behind, steppers_behind, passed_over}
+use Rattle.cfg_lines.specs.Items.{items, first_place, first_fault, entries, boards_behind, steppers_behind, passed_over}
 use Rattle.cfg_text.specs.Wiring.{all_uses, wiring_fault}
 use Rattle.cfg_text.specs.Missing.{missing, range_of}
 use Rattle.cfg_text.specs.Building.{board_defs, stepper_defs, axis_def, fan_def, machine_of}
 
 -- a fault, or else what follows
-abbrev pub unless : Option CfgFault → Result Machine CfgFault → Result Machine CfgFault
-unless None next = next
-unless (Some fault) next = Err fault
+abbrev pub machine_unless : Option CfgFault → Result Machine CfgFault → Result Machine CfgFault
+machine_unless None next = next
+machine_unless (Some fault) next = Err fault
 
 -- the axes x, y and z, with their ranges
 abbrev pub axes : List Entry → List BoardDef → Result (List AxisDef) CfgFault
@@ -42,8 +42,8 @@ assembled entries motors passed boards =
 -- the faults of the wiring, then what is missing, then the ranges of the axes, then the machine
 abbrev pub reading_of_uses : List Entry → List (List ℕ) → List Motor → ℕ → List Use → Result Machine CfgFault
 reading_of_uses entries names motors passed uses =
-    unless (wiring_fault names entries uses)
-    (unless (missing entries names motors) (assembled entries motors passed (board_defs entries uses names)))
+    machine_unless (wiring_fault names entries uses)
+    (machine_unless (missing entries names motors) (assembled entries motors passed (board_defs entries uses names)))
 
 -- the faults of the whole, in their order, or the machine, of what the lines say
 abbrev pub reading_of_entries : List Entry → List (List ℕ) → List Motor → ℕ → Result Machine CfgFault
@@ -52,10 +52,10 @@ reading_of_entries entries names motors passed = reading_of_uses entries names m
 -- the faults line by line, then those of the whole
 abbrev pub reading_of_items : List Item → Result Machine CfgFault
 reading_of_items items =
-    unless (first_fault [] [] 1 items)
+    machine_unless (first_fault [] [] 1 items)
     (reading_of_entries (entries 1 items) (boards_behind [] items) (steppers_behind [] items) (passed_over items))
 
 -- the machine of a configuration, or its first fault
-unfoldable pub reading : List ℕ → Result Machine CfgFault
-reading text =
-    if nat_lt 1_048_576 (length text) then Err (At 0 TooLarge) else reading_of_items (items start (lines_of text))
+unfoldable pub machine_of_text : List ℕ → Result Machine CfgFault
+machine_of_text text =
+    if nat_lt 1_048_576 (length text) then Err (At 0 TooLarge) else reading_of_items (items first_place (lines_of text))

@@ -6,7 +6,7 @@ ghost use Rattle.plan_types.specs.Machines.{IsValidBoard, IsValidMachine};
 ghost use Rattle.plan_types.specs.Valid.{IsValidGear};
 ghost use Rattle.cfg_text.specs.Building as specs;
 ghost use Rattle.cfg_text.specs.Building.{stepper_def, stepper_defs, axis_def, axis_on, motor_name, joined};
-ghost use Rattle.cfg_lines.specs.Faults.{Answers};
+ghost use Rattle.cfg_lines.specs.Faults.{AnswersConfiguration};
 ghost use Rattle.cfg_lines.specs.Items.{entry_fits};
 ghost use Rattle.cfg_text.specs.Valid.{IsValidRange, IsAxisOn, IsStepperBehind, AreSteppersOn, NamesDiffer};
 ghost use Rattle.cfg_text.specs.Reading.{axes, assembled, reading_of_entries, reading_of_uses};
@@ -165,7 +165,7 @@ fn steppers(
     requires few { length motors.now ≤ 16 }
     requires few_boards { length boards.now ≤ 8 }
     requires boards { All IsValidBoard boards.now }
-    ensures value { Answers result (stepper_defs entries.now boards.now [] motors.now) }
+    ensures value { AnswersConfiguration result (stepper_defs entries.now boards.now [] motors.now) }
     ensures few { IfOk result (λ steppers. length steppers ≤ 16) }
     ensures valid { IfOk result (λ steppers. AreSteppersOn boards.now steppers) }
 {
@@ -235,7 +235,8 @@ fn assemble(alloc: Global, pass: &Pass, boards: Listed<BoardDef>) -> Result<Mach
     requires boards { All IsValidBoard boards }
     requires boards_differ { NamesDiffer boards }
     ensures valid { IfOk result (λ machine. IsValidMachine machine) }
-    ensures value { Answers result (assembled pass.now.entries.items pass.now.steppers.items pass.now.passed boards) }
+    ensures value { AnswersConfiguration result
+        (assembled pass.now.entries.items pass.now.steppers.items pass.now.passed boards) }
 {
     let entries = pass.entries.as_slice();
     let axes = all_axes(entries, boards.as_slice())?;
@@ -266,7 +267,8 @@ fn build_with(alloc: Global, pass: &Pass, uses: &[Use]) -> Result<Machine, CfgFa
     requires boards_differ { AllPairs (λ p q. p ≢ q) pass.now.boards.items }
     requires few_pins { length uses.now ≤ 49 }
     ensures valid { IfOk result (λ machine. IsValidMachine machine) }
-    ensures value { Answers result (reading_of_uses pass.now.entries.items pass.now.boards.items pass.now.steppers.items
+    ensures value { AnswersConfiguration result
+        (reading_of_uses pass.now.entries.items pass.now.boards.items pass.now.steppers.items
         pass.now.passed uses.now) }
 {
     let entries = pass.entries.as_slice();
@@ -288,7 +290,7 @@ pub fn build(alloc: Global, pass: &Pass) -> Result<Machine, CfgFault>
     requires few_boards { length pass.now.boards.items ≤ 8 }
     requires boards_differ { AllPairs (λ p q. p ≢ q) pass.now.boards.items }
     ensures valid { IfOk result (λ machine. IsValidMachine machine) }
-    ensures value { Answers result
+    ensures value { AnswersConfiguration result
         (reading_of_entries pass.now.entries.items pass.now.boards.items pass.now.steppers.items pass.now.passed) }
 {
     let entries = pass.entries.as_slice();

@@ -5,7 +5,7 @@ ghost use Rattle.std.specs.List.{list_all};
 ghost use Rattle.cfg_text.specs.Holding as specs;
 ghost use Rattle.cfg_text.specs.Holding.{first_line_of, suits};
 ghost use Rattle.cfg_lines.specs.Items.{entry_fits};
-ghost use Rattle.cfg_lines.specs.Table.{row_of};
+ghost use Rattle.cfg_lines.specs.Table.{option_row};
 ghost use Rattle.cfg_lines.specs.Values.{fits};
 ghost use Rattle.cfg_lines.specs.declared.value.Value.TheVariants.{Amount};
 

@@ -7,8 +7,8 @@
 
 ghost use Rattle.std.specs.Prelude.{IfOk};
 ghost use Rattle.plan_types.specs.Machines.{IsValidMachine};
-ghost use Rattle.cfg_lines.specs.Faults.{Answers};
-ghost use Rattle.cfg_text.specs.Reading.{reading};
+ghost use Rattle.cfg_lines.specs.Faults.{AnswersConfiguration};
+ghost use Rattle.cfg_text.specs.Reading.{machine_of_text};
 
 mod build;
 mod holding;
@@ -26,9 +26,9 @@ use std::alloc::Global;
 const LIMIT: usize = 1_048_576;
 
 /// Reads a configuration: the machine, or the fault that comes first.
-#[tactic(auto, unfolding(crate::specs::Reading::reading))]
+#[tactic(auto, unfolding(crate::specs::Reading::machine_of_text))]
 pub fn read_config(alloc: Global, text: &[u8]) -> Result<Machine, CfgFault>
-    ensures reading { Answers result (reading text.now) }
+    ensures reading { AnswersConfiguration result (machine_of_text text.now) }
     ensures valid { IfOk result (λ machine. IsValidMachine machine) }
 {
     if text.len() > LIMIT {

@@ -10,7 +10,7 @@ ghost use Rattle.cfg_text.specs.Building as specs;
 ghost use Rattle.cfg_text.specs.Building.{board_def, board_defs, fan_def, wire_at, wire_of};
 ghost use Rattle.cfg_text.specs.Holding.{amount as held, signed as held_signed};
 ghost use Rattle.cfg_lines.specs.Items.{entry_fits};
-ghost use Rattle.cfg_lines.specs.Table.{row_of};
+ghost use Rattle.cfg_lines.specs.Table.{option_row};
 ghost use Rattle.cfg_text.specs.Valid.{IsFanOn, NamesDiffer};
 ghost use Rattle.cfg_lines.specs.Values.{fits};
 
@@ -37,7 +37,7 @@ pub struct Wire {
 #[tactic(auto, using(crate::proofs::Fitting::amount_fits))]
 pub fn limited(entries: &[Entry], section: &Section, key: Key) -> u64
     requires fit { list_all entry_fits entries.now ≡ true }
-    requires fallback { fits key (Amount (row_of key).fallback) ≡ true }
+    requires fallback { fits key (Amount (option_row key).fallback) ≡ true }
     ensures value { result ≡ held entries.now section.now key }
     ensures fits { fits key (Amount result) ≡ true }
 {

@@ -18,7 +18,7 @@ use Rattle.clap.specs.declared.parser.matches.ArgMatches.TheViews.{out-SubComman
 use Rattle.clap.specs.declared.parser.matches.SubCommand.{SubCommand}
 use Rattle.command_words.specs.Commands.{program}
 use Rattle.std.proofs.lemmas.Slice.Eq.{bytes_eq-Decides}
-use Rattle.command_words.specs.Forms.{Asked, asked, form_of, form_of_two, form_of_three, is_name, is_numeral, number_of}
+use Rattle.command_words.specs.Forms.{Asked, asked, form_of, form_of_two, form_of_three, is_name, is_numeral, bounded_number}
 use Rattle.command_words.specs.Calls.{Call, call_of, call_in, called_form, takes_two, takes_three}
 
 -- equality of texts has no order
@@ -111,7 +111,7 @@ too_large text limit some digits small not_one =
     let no_number : (digits_value 10 text < 2 ^ 64) → ⊥ = λ h. not_one (rw (no_plus text digits) ((some, digits_are text digits), h)) in
     grind (arith, nat_tests)
 
-pub none_of : (most limit : ℕ) (text : List ℕ) → nat_le (digits_value 10 text) limit ≡ false → None ≡ number_of most limit text
+pub none_of : (most limit : ℕ) (text : List ℕ) → nat_le (digits_value 10 text) limit ≡ false → None ≡ bounded_number most limit text
 none_of most limit text e = go (is_numeral most text)
   where
     go : (b : Bool) → None ≡ cond (b && nat_le (digits_value 10 text) limit) (Some (digits_value 10 text)) None

@@ -33,14 +33,14 @@ bare =
     (new_app (codes "luqhabu"))
 
 -- the subcommands that plan a G-code: `run` has two or three operands, `make` and `fan` two
-abbrev pub runs : App
-runs =
+abbrev pub planning_commands : App
+planning_commands =
     with_subcommand (with_subcommand (with_subcommand bare (of_three (codes "run")).top) (of_two (codes "make")).top)
     (of_two (codes "fan")).top
 
 -- behind these, `check` has three operands
 abbrev pub checks : App
-checks = with_subcommand runs (of_all_three (codes "check")).top
+checks = with_subcommand planning_commands (of_all_three (codes "check")).top
 
 -- the program's command: behind these, `dump`, `replay` and `mesh` have three operands
 abbrev pub program : App

@@ -17,17 +17,17 @@ abbrev pub is_numeral : ℕ → Text → Bool
 is_numeral most text = nat_le 1 (length text) && (nat_le (length text) most && list_all is_digit text)
 
 -- the number of so many decimal digits at most, where it is no greater than a limit
-abbrev pub number_of : ℕ → ℕ → Text → Option ℕ
-number_of most limit text =
+abbrev pub bounded_number : ℕ → ℕ → Text → Option ℕ
+bounded_number most limit text =
     if is_numeral most text && nat_le (digits_value 10 text) limit then Some (digits_value 10 text) else None
 
 -- a seed is below 2^64 and has at most 20 digits, leading zeros among them
 abbrev pub seed_of : Text → Option ℕ
-seed_of = number_of 20 18_446_744_073_709_551_615
+seed_of = bounded_number 20 18_446_744_073_709_551_615
 
 -- there are at most a million moves, in at most 7 digits
-abbrev pub moves_of : Text → Option ℕ
-moves_of = number_of 7 1_000_000
+abbrev pub move_count : Text → Option ℕ
+move_count = bounded_number 7 1_000_000
 
 -- what is asked for: a run of a G-code on the machine of a configuration, also with a scene; a run of a load
 -- that is made from a seed; when the part fan of a G-code is switched; whether a report follows the plan of a
@@ -53,7 +53,7 @@ make_of (Some seed) (Some moves) = Some (make seed moves)
 abbrev pub form_of_two : Text → Text → Text → Option Asked
 form_of_two w a b =
     if bytes_eq w (codes "run") then Some (run a b)
-    else (if bytes_eq w (codes "make") then make_of (seed_of a) (moves_of b)
+    else (if bytes_eq w (codes "make") then make_of (seed_of a) (move_count b)
     else (if bytes_eq w (codes "fan") then Some (fan a b) else None))
 
 -- the forms with three operands: `run CONFIG GCODE SCENE`, `check CONFIG GCODE REPORT`, `dump CONFIG BOARD

@@ -68,7 +68,7 @@ fn with<'a>(
 
 /// The command with the subcommands that plan a G-code.
 fn runs<'a>(alloc: Global) -> Result<Command<'a>, AllocError>
-    ensures app { IfOk result (λ c. app_of c ≡ specs.runs) }
+    ensures app { IfOk result (λ c. app_of c ≡ specs.planning_commands) }
 {
     let whole = with(Ok(bare(alloc)), of_three(alloc, "run"));
     let whole = with(whole, of_two(alloc, "make"));

@@ -19,7 +19,7 @@ fn are_digits(text: &[u8]) -> bool
 
 /// The number of so many decimal digits at most, where it is no greater than a limit.
 fn number(text: &str, most: usize, limit: u64) -> Option<u64>
-    ensures { result ≡ specs.number_of most limit text.now }
+    ensures { result ≡ specs.bounded_number most limit text.now }
 {
     let count = text.len();
     if count == 0 || count > most || !are_digits(text.as_bytes()) {
@@ -40,7 +40,7 @@ pub fn seed_of(text: &str) -> Option<u64>
 
 /// The number of moves of a load, at most a million, in at most 7 digits.
 pub fn moves_of(text: &str) -> Option<u64>
-    ensures value { result ≡ specs.moves_of text.now }
+    ensures value { result ≡ specs.move_count text.now }
 {
     number(text, 7, MOST_MOVES)
 }

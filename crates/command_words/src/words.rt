@@ -100,7 +100,7 @@ fn are_names(words: &[String]) -> bool
 
 /// A load from two operands.
 fn make_of<'a>(seed: &str, moves: &str) -> Option<Words<'a>>
-    ensures { option_map view result ≡ make_of (specs.seed_of seed.now) (specs.moves_of moves.now) }
+    ensures { option_map view result ≡ make_of (specs.seed_of seed.now) (specs.move_count moves.now) }
 {
     let seed = seed_of(seed)?;
     let moves = moves_of(moves)?;

@@ -7,8 +7,8 @@ use Rattle.digital_out.specs.declared.want.Want.{Want}
 use Rattle.digital_out.specs.declared.queue.OutEvent.{OutEvent}
 use Rattle.digital_out.specs.declared.queue.OutWhat.TheVariants.{On, Off, Missed}
 use Rattle.digital_out.specs.Carried.{AreFrom, AreInTime, BeginsFrom, InTime}
-use Rattle.digital_out.specs.Outputs.{Output, Turn, behind, comes_late, event_next, event_of, miss_turn, missed_of, turn_by, turn_of, want_turn, with_time}
-use Rattle.digital_out.specs.Rising.{RiseFrom}
+use Rattle.digital_out.specs.Outputs.{Output, Turn, output_behind, comes_late, event_next, event_of, miss_turn, missed_of, turn_by, output_turn, want_turn, with_time}
+use Rattle.digital_out.specs.Rising.{WantsRiseFrom}
 
 -- what a queue carried out so far, and what it keeps, where it is not missed before a tick
 pub record CarriedSofar (old q : Output) (until : ℕ) (made done : List Want) : Type 0 where
@@ -18,7 +18,7 @@ pub record CarriedSofar (old q : Output) (until : ℕ) (made done : List Want) :
   pub slots : q.slots ≡ old.slots
   pub longest : q.max ≡ old.max
   pub safe : (more : List Want) × AreInTime old.max q.level q.last (q.pending ++ more) × BeginsFrom until more
-  pub rise : (low : ℕ) → RiseFrom low old.pending → RiseFrom low q.pending
+  pub rise : (low : ℕ) → WantsRiseFrom low old.pending → WantsRiseFrom low q.pending
   pub in_time : (more : List Want) → AreInTime old.max old.level old.last (old.pending ++ more) → AreInTime old.max q.level q.last (q.pending ++ more)
 
 not_late : (longest : ℕ) (level : Bool) (last tick : ℕ) → InTime longest level last tick → comes_late (missed_of longest level last) tick ≡ false
@@ -26,7 +26,7 @@ not_late longest false last tick h = refl
 not_late longest true last tick h = grind (arith, nat_tests)
 
 -- the first command that pends comes in time
-turn_is : (until : ℕ) (q : Output) (w : Want) (ws : List Want) → q.missed ≡ false → q.pending ≡ w ∷ ws → InTime q.max q.level q.last w.tick → turn_of until q ≡ want_turn until q w ws
+turn_is : (until : ℕ) (q : Output) (w : Want) (ws : List Want) → q.missed ≡ false → q.pending ≡ w ∷ ws → InTime q.max q.level q.last w.tick → output_turn until q ≡ want_turn until q w ws
 turn_is until q w ws well is h = rw (well, is, not_late q.max q.level q.last w.tick h) refl
 
 miss_none : (until at : ℕ) (q : Output) → until ≤ at → (miss_turn until q (Some at)).event ≡ None
@@ -53,16 +53,16 @@ before_or_not until q w ws e false is h = absurd (let x = rw is at h in cc)
 pub record Carries (old q : Output) (until : ℕ) (made done : List Want) (e : OutEvent) : Type 0 where
   pub want : Want
   pub is : e ≡ event_of want
-  pub less : length (behind until q).pending < length q.pending
-  pub sofar : CarriedSofar old (behind until q) until made (done ++ want ∷ [])
+  pub less : length (output_behind until q).pending < length q.pending
+  pub sofar : CarriedSofar old (output_behind until q) until made (done ++ want ∷ [])
 
-lower_all : (low a : ℕ) (ws : List Want) → low ≤ a → RiseFrom (a + 1) ws → RiseFrom low ws
+lower_all : (low a : ℕ) (ws : List Want) → low ≤ a → WantsRiseFrom (a + 1) ws → WantsRiseFrom low ws
 lower_all low a [] le h = tt
 lower_all low a (w ∷ ws) le h = let first = h.0 in (omega (arith, le, first), h.1)
 
 -- the queue behind a command that is carried out
 behind_is : (until : ℕ) (q : Output) (w : Want) (ws : List Want) → q.missed ≡ false → q.pending ≡ w ∷ ws → InTime q.max q.level q.last w.tick → nat_lt w.tick until ≡ true
-    → behind until q ≡ record (with_time q until) { pending = ws; level = w.on; last = w.tick }
+    → output_behind until q ≡ record (with_time q until) { pending = ws; level = w.on; last = w.tick }
 behind_is until q w ws well is h soon = ap (λ (t : Turn). t.left) (turn_is until (with_time q until) w ws well is h) ∙ rw soon refl
 
 carries_one : (old q : Output) (until : ℕ) (made done : List Want) (e : OutEvent) (w : Want) (ws : List Want) → q.pending ≡ w ∷ ws → CarriedSofar old q until made done → event_next until q ≡ Some e → Carries old q until made done e
@@ -87,7 +87,7 @@ carries_one old q until made done e w ws is so happens =
         slots = so.slots;
         longest = so.longest;
         safe = (safe.0, steady.1, safe.2);
-        rise = λ low r. let h : RiseFrom low (w ∷ ws) = subst (λ (ps : List Want). RiseFrom low ps) is (so.rise low r) in lower_all low w.tick ws h.0 h.1;
+        rise = λ low r. let h : WantsRiseFrom low (w ∷ ws) = subst (λ (ps : List Want). WantsRiseFrom low ps) is (so.rise low r) in lower_all low w.tick ws h.0 h.1;
         in_time = λ more i. (let h : AreInTime old.max q.level q.last (w ∷ ws ++ more) = subst (λ (ps : List Want). AreInTime old.max q.level q.last (ps ++ more)) is (so.in_time more i) in h.1);
       });
     }
@@ -114,21 +114,21 @@ same_want : (w : Want) (at : ℕ) (b : Bool) → at ≡ w.tick → w.on ≡ b �
 same_want w at b t on = rw (t, ← on) refl
 
 -- a command that switches the output on, or off, is put behind those that are carried out
-pub carried_on : (old q : Output) (until : ℕ) (made done new : List Want) (e : OutEvent) → CarriedSofar old q until made done → event_next until q ≡ Some e → e.what ≡ On → new ≡ done ++ record { tick = e.tick; on = true } ∷ [] → CarriedSofar old (behind until q) until made new
+pub carried_on : (old q : Output) (until : ℕ) (made done new : List Want) (e : OutEvent) → CarriedSofar old q until made done → event_next until q ≡ Some e → e.what ≡ On → new ≡ done ++ record { tick = e.tick; on = true } ∷ [] → CarriedSofar old (output_behind until q) until made new
 carried_on old q until made done new e so happens what is =
     let c = carries old q until made done e so happens in
     let on = on_of c.want c.want.on (ap (λ (x : OutEvent). x.what) (sym c.is) ∙ what) in
     let tick : e.tick ≡ c.want.tick = ap (λ (x : OutEvent). x.tick) c.is in
-    subst (λ (ds : List Want). CarriedSofar old (behind until q) until made ds) (sym (is ∙ ap (λ (v : Want). done ++ v ∷ []) (same_want c.want e.tick true tick on))) c.sofar
+    subst (λ (ds : List Want). CarriedSofar old (output_behind until q) until made ds) (sym (is ∙ ap (λ (v : Want). done ++ v ∷ []) (same_want c.want e.tick true tick on))) c.sofar
 
-pub carried_off : (old q : Output) (until : ℕ) (made done new : List Want) (e : OutEvent) → CarriedSofar old q until made done → event_next until q ≡ Some e → e.what ≡ Off → new ≡ done ++ record { tick = e.tick; on = false } ∷ [] → CarriedSofar old (behind until q) until made new
+pub carried_off : (old q : Output) (until : ℕ) (made done new : List Want) (e : OutEvent) → CarriedSofar old q until made done → event_next until q ≡ Some e → e.what ≡ Off → new ≡ done ++ record { tick = e.tick; on = false } ∷ [] → CarriedSofar old (output_behind until q) until made new
 carried_off old q until made done new e so happens what is =
     let c = carries old q until made done e so happens in
     let off = off_of c.want c.want.on (ap (λ (x : OutEvent). x.what) (sym c.is) ∙ what) in
     let tick : e.tick ≡ c.want.tick = ap (λ (x : OutEvent). x.tick) c.is in
-    subst (λ (ds : List Want). CarriedSofar old (behind until q) until made ds) (sym (is ∙ ap (λ (v : Want). done ++ v ∷ []) (same_want c.want e.tick false tick off))) c.sofar
+    subst (λ (ds : List Want). CarriedSofar old (output_behind until q) until made ds) (sym (is ∙ ap (λ (v : Want). done ++ v ∷ []) (same_want c.want e.tick false tick off))) c.sofar
 
-pub less_pend : (old q : Output) (until : ℕ) (made done : List Want) (e : OutEvent) → CarriedSofar old q until made done → event_next until q ≡ Some e → length (behind until q).pending < length q.pending
+pub less_pend : (old q : Output) (until : ℕ) (made done : List Want) (e : OutEvent) → CarriedSofar old q until made done → event_next until q ≡ Some e → length (output_behind until q).pending < length q.pending
 less_pend old q until made done e so happens = (carries old q until made done e so happens).less
 
 pub never_missed : {A : Type 0} → (old q : Output) (until : ℕ) (made done : List Want) (e : OutEvent) → CarriedSofar old q until made done → event_next until q ≡ Some e → e.what ≡ Missed → A
@@ -140,7 +140,7 @@ never_missed old q until made done e so happens what =
     no true h = absurd cc
     no false h = absurd cc
 
-rise_all : (low : ℕ) (ws : List Want) → RiseFrom low ws → All (λ w. low ≤ w.tick) ws
+rise_all : (low : ℕ) (ws : List Want) → WantsRiseFrom low ws → All (λ w. low ≤ w.tick) ws
 rise_all low [] h = All-nil (λ (w : Want). low ≤ w.tick)
 rise_all low (w ∷ ws) h =
     let later = rise_all (w.tick + 1) ws h.1 in
@@ -152,7 +152,7 @@ stays_by until q w ws false is h = grind (arith, nat_tests)
 stays_by until q w ws true is h = absurd (let x = rw is at h in cc)
 
 -- where nothing more happens before a tick, all commands that pend come from it on
-quiet : (old q : Output) (until : ℕ) (made done pending : List Want) → q.pending ≡ pending → CarriedSofar old q until made done → event_next until q ≡ None → RiseFrom 0 old.pending → AreFrom until pending
+quiet : (old q : Output) (until : ℕ) (made done pending : List Want) → q.pending ≡ pending → CarriedSofar old q until made done → event_next until q ≡ None → WantsRiseFrom 0 old.pending → AreFrom until pending
 quiet old q until made done [] is so none rise = All-nil (λ (w : Want). until ≤ w.tick)
 quiet old q until made done (w ∷ ws) is so none rise =
     let safe = so.safe in
@@ -160,7 +160,7 @@ quiet old q until made done (w ∷ ws) is so none rise =
     let time : InTime q.max q.level q.last w.tick = subst (λ (n : ℕ). InTime n q.level q.last w.tick) (sym so.longest) steady.0 in
     let now = with_time q until in
     let first = stays_by until now w ws (nat_lt w.tick until) refl (ap (λ (t : Turn). t.event) (sym (turn_is until now w ws so.well is time)) ∙ none) in
-    let r : RiseFrom 0 (w ∷ ws) = subst (λ (ps : List Want). RiseFrom 0 ps) is (so.rise 0 rise) in
+    let r : WantsRiseFrom 0 (w ∷ ws) = subst (λ (ps : List Want). WantsRiseFrom 0 ps) is (so.rise 0 rise) in
     rise_all until (w ∷ ws) (first, r.1)
 
 miss_by : (until at : ℕ) (q : Output) (b : Bool) → nat_lt at until ≡ b → (miss_turn until q (Some at)).event ≡ None → (miss_turn until q (Some at)).left ≡ q
@@ -183,7 +183,7 @@ turn_left : (until : ℕ) (q : Output) (miss : Option ℕ) (pending : List Want)
 turn_left until q miss [] h = miss_left until q miss h
 turn_left until q miss (w ∷ ws) h = late_left until q miss w ws (comes_late miss w.tick) refl h
 
-left_by : (until : ℕ) (q : Output) (b : Bool) → q.missed ≡ b → (turn_of until q).event ≡ None → (turn_of until q).left ≡ q
+left_by : (until : ℕ) (q : Output) (b : Bool) → q.missed ≡ b → (output_turn until q).event ≡ None → (output_turn until q).left ≡ q
 left_by until q true is h = ap (λ (b : Bool). (cond b (record { event = None; left = q }) (turn_by until q (missed_of q.max q.level q.last) q.pending)).left) is
 left_by until q false is h =
     let same : Turn = record { event = None; left = q } in
@@ -191,8 +191,8 @@ left_by until q false is h =
     ap (λ (b : Bool). (cond b same other).left) is ∙ turn_left until q (missed_of q.max q.level q.last) q.pending (ap (λ (b : Bool). (cond b same other).event) (sym is) ∙ h)
 
 -- where nothing happens, nothing changes but the time
-pub nothing_left : (until : ℕ) (q : Output) → event_next until q ≡ None → behind until q ≡ with_time q until
+pub nothing_left : (until : ℕ) (q : Output) → event_next until q ≡ None → output_behind until q ≡ with_time q until
 nothing_left until q h = left_by until (with_time q until) q.missed refl h
 
-pub all_from : (old q new : Output) (until : ℕ) (made done : List Want) → new ≡ behind until q → CarriedSofar old q until made done → event_next until q ≡ None → RiseFrom 0 old.pending → AreFrom until new.pending
+pub all_from : (old q new : Output) (until : ℕ) (made done : List Want) → new ≡ output_behind until q → CarriedSofar old q until made done → event_next until q ≡ None → WantsRiseFrom 0 old.pending → AreFrom until new.pending
 all_from old q new until made done is so none rise = rw (is, nothing_left until q none) (quiet old q until made done q.pending refl so none rise)

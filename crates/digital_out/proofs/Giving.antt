@@ -12,7 +12,7 @@ use Rattle.plan_types.specs.Clock.{tick_limit}
 use Rattle.digital_out.specs.declared.want.Want.{Want}
 use Rattle.digital_out.specs.Carried.{AreFrom, AreInTime, BeginsFrom, CanCarry, ready_at, room_at}
 use Rattle.digital_out.specs.Outputs.{Output, not_behind, pushed, with_want}
-use Rattle.digital_out.specs.Rising.{RiseFrom, no_want}
+use Rattle.digital_out.specs.Rising.{WantsRiseFrom, no_want}
 use Rattle.digital_out.proofs.Keeping.{rise_behind}
 
 -- commands of which the first ones, so many, were given to a queue up to a time
@@ -27,12 +27,12 @@ pub record GivenSofar (commands : List Want) (longest : ℕ) (q : Output) (made 
   pub begins : BeginsFrom now (drop i commands)
   pub upto : now ≤ (get_or commands (i - 1) no_want).tick
 
-rise_at_least : (low : ℕ) (ws : List Want) (j : ℕ) (d : Want) → RiseFrom low ws → j < length ws → low ≤ (get_or ws j d).tick
+rise_at_least : (low : ℕ) (ws : List Want) (j : ℕ) (d : Want) → WantsRiseFrom low ws → j < length ws → low ≤ (get_or ws j d).tick
 rise_at_least low [] j d h lt = absurd (omega arith)
 rise_at_least low (w ∷ ws) zero d h lt = h.0
 rise_at_least low (w ∷ ws) (suc j) d h lt = let later = rise_at_least (w.tick + 1) ws j d h.1 (omega (arith, lt)) in let first = h.0 in omega (arith, later, first)
 
-pub rise_pair : (low : ℕ) (ws : List Want) (i j : ℕ) (d : Want) → RiseFrom low ws → i < j → j < length ws → (get_or ws i d).tick < (get_or ws j d).tick
+pub rise_pair : (low : ℕ) (ws : List Want) (i j : ℕ) (d : Want) → WantsRiseFrom low ws → i < j → j < length ws → (get_or ws i d).tick < (get_or ws j d).tick
 rise_pair low [] i j d h lt inside = absurd (omega arith)
 rise_pair low (w ∷ ws) i zero d h lt inside = absurd (omega arith)
 rise_pair low (w ∷ ws) zero (suc j) d h lt inside = let later = rise_at_least (w.tick + 1) ws j d h.1 (omega (arith, inside)) in omega (arith, later)
@@ -45,7 +45,7 @@ pub record IsReadyAt (commands : List Want) (i now lead r : ℕ) : Type 0 where
   pub near : (get_or commands i no_want).tick ≤ r + lead
   pub room : 16 ≤ i → (get_or commands (i - 16) no_want).tick < r
 
-ready_by : (commands : List Want) (i now lead : ℕ) (b : Bool) → nat_lt i 16 ≡ b → i < length commands → RiseFrom 0 commands → now ≤ (get_or commands i no_want).tick → IsReadyAt commands i now lead (ready_at commands i now lead)
+ready_by : (commands : List Want) (i now lead : ℕ) (b : Bool) → nat_lt i 16 ≡ b → i < length commands → WantsRiseFrom 0 commands → now ≤ (get_or commands i no_want).tick → IsReadyAt commands i now lead (ready_at commands i now lead)
 ready_by commands i now lead true is lt rise le =
     let few : i < 16 = grind (arith, nat_tests) in
     let room : room_at commands i ≡ 0 = rw is refl in
@@ -56,13 +56,13 @@ ready_by commands i now lead false is lt rise le =
     let pair = rise_pair 0 commands (i - 16) i no_want rise (omega (arith, many)) lt in
     record { later = omega arith; before = omega (arith, room, le, pair); near = omega arith; room = λ h. omega (arith, room) }
 
-pub is_ready : (commands : List Want) (i now lead : ℕ) → i < length commands → RiseFrom 0 commands → now ≤ (get_or commands i no_want).tick → IsReadyAt commands i now lead (ready_at commands i now lead)
+pub is_ready : (commands : List Want) (i now lead : ℕ) → i < length commands → WantsRiseFrom 0 commands → now ≤ (get_or commands i no_want).tick → IsReadyAt commands i now lead (ready_at commands i now lead)
 is_ready commands i now lead lt rise le = ready_by commands i now lead (nat_lt i 16) refl lt rise le
 
 begins_first : (now : ℕ) (ws : List Want) (w : Want) (rest : List Want) → ws ≡ w ∷ rest → BeginsFrom now ws → now ≤ w.tick
 begins_first now ws w rest is h = rw is at h
 
-begins_from : (now low : ℕ) (ws : List Want) → now ≤ low → RiseFrom low ws → BeginsFrom now ws
+begins_from : (now low : ℕ) (ws : List Want) → now ≤ low → WantsRiseFrom low ws → BeginsFrom now ws
 begins_from now low [] le h = tt
 begins_from now low (w ∷ ws) le h = let first = h.0 in omega (arith, le, first)
 
@@ -70,27 +70,27 @@ begins_from now low (w ∷ ws) le h = let first = h.0 in omega (arith, le, first
 pub next_time : (commands : List Want) (longest : ℕ) (q : Output) (made : List Want) (i now : ℕ) → i < length commands → GivenSofar commands longest q made i now → now ≤ (get_or commands i no_want).tick
 next_time commands longest q made i now lt so = begins_first now (drop i commands) (get_or commands i no_want) (drop (i + 1) commands) (drop_more commands i no_want lt) so.begins
 
-rise_back : (low : ℕ) (xs ys : List Want) → RiseFrom low (xs ++ ys) → RiseFrom 0 ys
+rise_back : (low : ℕ) (xs ys : List Want) → WantsRiseFrom low (xs ++ ys) → WantsRiseFrom 0 ys
 rise_back low [] [] h = tt
 rise_back low [] (y ∷ ys) h = (omega arith, h.1)
 rise_back low (x ∷ xs) ys h = rise_back (x.tick + 1) xs ys h.1
 
-rise_front : (low n : ℕ) (ws : List Want) → RiseFrom low ws → RiseFrom low (take n ws)
+rise_front : (low n : ℕ) (ws : List Want) → WantsRiseFrom low ws → WantsRiseFrom low (take n ws)
 rise_front low zero ws h = tt
 rise_front low (suc n) [] h = tt
 rise_front low (suc n) (w ∷ ws) h = (h.0, rise_front (w.tick + 1) n ws h.1)
 
-pub pending_rise : (commands made pending : List Want) (i : ℕ) → RiseFrom 0 commands → made ++ pending ≡ take i commands → RiseFrom 0 pending
-pending_rise commands made pending i rise is = rise_back 0 made pending (subst (λ (ws : List Want). RiseFrom 0 ws) (sym is) (rise_front 0 i commands rise))
+pub pending_rise : (commands made pending : List Want) (i : ℕ) → WantsRiseFrom 0 commands → made ++ pending ≡ take i commands → WantsRiseFrom 0 pending
+pending_rise commands made pending i rise is = rise_back 0 made pending (subst (λ (ws : List Want). WantsRiseFrom 0 ws) (sym is) (rise_front 0 i commands rise))
 
-below_last : (low : ℕ) (ps : List Want) (w : Want) → RiseFrom low (ps ++ w ∷ []) → All (λ p. p.tick < w.tick) ps
+below_last : (low : ℕ) (ps : List Want) (w : Want) → WantsRiseFrom low (ps ++ w ∷ []) → All (λ p. p.tick < w.tick) ps
 below_last low [] w h = All-nil (λ (p : Want). p.tick < w.tick)
 below_last low (p ∷ ps) w h =
     let later = below_last (p.tick + 1) ps w h.1 in
     let Within : Want → Type 0 = λ q. q.tick < w.tick in
     All-cons Within p ps (first p ps h.1) later
   where
-    first : (p : Want) (ps : List Want) → RiseFrom (p.tick + 1) (ps ++ w ∷ []) → p.tick < w.tick
+    first : (p : Want) (ps : List Want) → WantsRiseFrom (p.tick + 1) (ps ++ w ∷ []) → p.tick < w.tick
     first p [] h = let x = h.0 in omega (arith, x)
     first p (q ∷ qs) h = let rest = rise_at_least (p.tick + 1) (q ∷ qs ++ w ∷ []) (length (q ∷ qs)) w h (let n = length-append (q ∷ qs) (w ∷ []) in omega (arith, n)) in
         let is : get_or (q ∷ qs ++ w ∷ []) (length (q ∷ qs)) w ≡ w = Rattle.std.proofs.Math.Seq.get_or-append_seam (q ∷ qs) w [] w in
@@ -120,7 +120,7 @@ few_pend commands made pending i r lt is from room = by (nat_lt (length pending)
         absurd (omega (arith, late, soon, ap (λ (w : Want). w.tick) same))
 
 -- the next command is accepted
-pub accepted_next : (commands made : List Want) (q : Output) (i now lead r clock : ℕ) → i < length commands → RiseFrom 0 commands → q.missed ≡ false → q.slots ≡ 16 → made ++ q.pending ≡ take i commands → AreFrom r q.pending → IsReadyAt commands i now lead r
+pub accepted_next : (commands made : List Want) (q : Output) (i now lead r clock : ℕ) → i < length commands → WantsRiseFrom 0 commands → q.missed ≡ false → q.slots ≡ 16 → made ++ q.pending ≡ take i commands → AreFrom r q.pending → IsReadyAt commands i now lead r
     → lead ≤ 50_000_000 → clock ≡ (get_or commands i no_want).tick % 2 ^ 32 → pushed q r clock (get_or commands i no_want).on ≡ Ok (with_want q r (get_or commands i no_want))
 accepted_next commands made q i now lead r clock lt rise well slots all from ready short is =
     let w = get_or commands i no_want in
@@ -129,7 +129,7 @@ accepted_next commands made q i now lead r clock lt rise well slots all from rea
     let at : nearest r clock ≡ w.tick = nearest_is r clock w.tick (omega (arith, before), omega (arith, close, short)) (omega (arith, is)) in
     let few = few_pend commands made q.pending i r lt all from ready.room in
     let room : nat_le q.slots (length q.pending) ≡ false = grind (arith, nat_tests) in
-    let whole : RiseFrom 0 (made ++ (q.pending ++ w ∷ [])) = subst (λ (ws : List Want). RiseFrom 0 ws) (take_more commands i no_want lt ∙ ap (λ (ws : List Want). ws ++ w ∷ []) (sym all) ∙ append_assoc made q.pending (w ∷ [])) (rise_front 0 (i + 1) commands rise) in
+    let whole : WantsRiseFrom 0 (made ++ (q.pending ++ w ∷ [])) = subst (λ (ws : List Want). WantsRiseFrom 0 ws) (take_more commands i no_want lt ∙ ap (λ (ws : List Want). ws ++ w ∷ []) (sym all) ∙ append_assoc made q.pending (w ∷ [])) (rise_front 0 (i + 1) commands rise) in
     let below = below_last 0 q.pending w (rise_back 0 made (q.pending ++ w ∷ []) whole) in
     let late : nat_lt w.tick r ≡ false = grind (arith, nat_tests) in
     rw (well, at, room, late, not_behind_any w.tick q.pending below) refl

@@ -11,17 +11,17 @@ use Rattle.digital_out.specs.declared.queue.OutWhat.{OutWhat}
 use Rattle.digital_out.specs.declared.queue.OutWhat.TheVariants.{On, Off, Missed}
 use Rattle.digital_out.specs.declared.queue.OutRefusal.{OutRefusal}
 use Rattle.digital_out.specs.declared.queue.OutRefusal.TheVariants.{Overflow, TooClose}
-use Rattle.digital_out.specs.Rising.{RiseFrom}
-use Rattle.digital_out.specs.Calls.{AreFair, Call, Push, Advance, accepted, accepted_by, accepted_one, after, after_all, after_push, listed, made, made_one, new_queue, time_of}
+use Rattle.digital_out.specs.Rising.{WantsRiseFrom}
+use Rattle.digital_out.specs.Calls.{AreFair, OutputCall, Push, Advance, accepted_wants, accepted_by, accepted_one, after_call, after_all, after_push, event_items, made, made_one, new_queue, call_time}
 use Rattle.digital_out.specs.Levels.{first_miss, last_level, level_at, level_unless, missed_at, missed_by}
-use Rattle.digital_out.specs.Outputs.{Output, Turn, comes_late, event_next, event_of, is_too_close, miss_turn, missed_of, not_behind, pushed, pushed_at, turn_by, turn_of, want_turn, with_time, with_want}
+use Rattle.digital_out.specs.Outputs.{Output, Turn, comes_late, event_next, event_of, is_too_close, miss_turn, missed_of, not_behind, pushed, pushed_at, turn_by, output_turn, want_turn, with_time, with_want}
 
 -- a queue that was not missed goes on as its commands do: with the level and the tick of the last one that was carried out, and
 -- those that pend
 pub record GoesOn (q : Output) (all : List Want) : Type 0 where
   pub miss : (more : List Want) → first_miss q.max false 0 (all ++ more) ≡ first_miss q.max q.level q.last (q.pending ++ more)
   pub level : (more : List Want) (until : ℕ) → q.time ≤ until → last_level false until (all ++ more) ≡ last_level q.level until (q.pending ++ more)
-  pub rise : RiseFrom 0 q.pending
+  pub rise : WantsRiseFrom 0 q.pending
 
 -- a queue that was missed: at the tick that its commands say, before the time up to which it was run
 pub record IsMissed (q : Output) (all : List Want) (told : Option ℕ) : Type 0 where
@@ -57,12 +57,12 @@ told_on : (tick : ℕ) (b : Bool) → missed_by tick (cond b On Off) None ≡ No
 told_on tick true = refl
 told_on tick false = refl
 
-last_above : (p : Want) (ps : List Want) (w : Want) → not_behind (slice_get (p ∷ ps) (length ps)) w.tick ≡ false → RiseFrom (p.tick + 1) ps → (low : ℕ) → low ≤ p.tick → RiseFrom low (p ∷ ps ++ w ∷ [])
+last_above : (p : Want) (ps : List Want) (w : Want) → not_behind (slice_get (p ∷ ps) (length ps)) w.tick ≡ false → WantsRiseFrom (p.tick + 1) ps → (low : ℕ) → low ≤ p.tick → WantsRiseFrom low (p ∷ ps ++ w ∷ [])
 last_above p [] w far rise low le = let lt : p.tick < w.tick = grind (arith, nat_tests) in (le, (omega (arith, lt), tt))
 last_above p (q ∷ qs) w far rise low le = (le, last_above q qs w far rise.1 (p.tick + 1) rise.0)
 
 -- a command that is not too close stands behind those that pend
-rise_more : (ps : List Want) (w : Want) → not_behind (last_item ps) w.tick ≡ false → RiseFrom 0 ps → RiseFrom 0 (ps ++ w ∷ [])
+rise_more : (ps : List Want) (w : Want) → not_behind (last_item ps) w.tick ≡ false → WantsRiseFrom 0 ps → WantsRiseFrom 0 (ps ++ w ∷ [])
 rise_more [] w far rise = (omega arith, tt)
 rise_more (p ∷ ps) w far rise =
     let e : length (p ∷ ps) - 1 ≡ length ps = omega arith in
@@ -95,8 +95,8 @@ push_full q all now at level true le well on = (subst (λ (ws : List Want). Goes
 push_full q all now at level false le well on = push_close q all now at level (is_too_close q.pending now at) refl le well on
 
 -- how the queue stands behind a call
-abbrev After : Output → List Want → Option ℕ → Call → Type 0
-After q all told c = Stands (after q c).missed (after q c) (all ++ accepted_one q c) (later told (missed_at (made_one q c)))
+abbrev After : Output → List Want → Option ℕ → OutputCall → Type 0
+After q all told c = Stands (after_call q c).missed (after_call q c) (all ++ accepted_one q c) (later told (missed_at (made_one q c)))
 
 push_by : (q : Output) (all : List Want) (told : Option ℕ) (now clock : ℕ) (level b : Bool) → q.missed ≡ b → q.time ≤ now → Stands b q all told → After q all told (Push now clock level)
 push_by q all told now clock level true is le st =
@@ -126,7 +126,7 @@ push_by q all told now clock level false is le st =
 
 -- how the queue stands behind a turn
 abbrev TurnStands : List Want → Option ℕ → Turn → Type 0
-TurnStands all told t = Stands t.left.missed t.left all (later told (missed_at (listed t.event)))
+TurnStands all told t = Stands t.left.missed t.left all (later told (missed_at (event_items t.event)))
 
 still : (q : Output) (all : List Want) (told : Option ℕ) → told ≡ None → q.missed ≡ false → GoesOn q all → TurnStands all told (record { event = None; left = q })
 still q all told none well on = subst (λ (x : Bool). Stands x q all (later told None)) (sym well) (ap (λ (t : Option ℕ). later t None) none, on)
@@ -142,7 +142,7 @@ miss_stands : (until : ℕ) (q : Output) (all : List Want) (told : Option ℕ) (
 miss_stands until q all told None time none well on says = still q all told none well on
 miss_stands until q all told (Some at) time none well on says = miss_stands_by until at q all told (nat_lt at until) refl time none well on says
 
-drop_first : (low a : ℕ) (ws : List Want) → low ≤ a → RiseFrom (a + 1) ws → RiseFrom low ws
+drop_first : (low a : ℕ) (ws : List Want) → low ≤ a → WantsRiseFrom (a + 1) ws → WantsRiseFrom low ws
 drop_first low a [] le h = tt
 drop_first low a (w ∷ ws) le h = let first = h.0 in (omega (arith, le, first), h.1)
 
@@ -152,7 +152,7 @@ want_stands until q all told w ws false is pend in_time time none well on = stil
 want_stands until q all told w ws true is pend in_time time none well on =
     let next : Output = record q { pending = ws; level = w.on; last = w.tick } in
     let lt : w.tick < until = grind (arith, nat_tests) in
-    let rise : RiseFrom 0 (w ∷ ws) = subst (λ (ps : List Want). RiseFrom 0 ps) pend on.rise in
+    let rise : WantsRiseFrom 0 (w ∷ ws) = subst (λ (ps : List Want). WantsRiseFrom 0 ps) pend on.rise in
     let goes : GoesOn next all = record {
       miss = λ more.
           let whole = on.miss more ∙ ap (λ (ps : List Want). first_miss q.max q.level q.last (ps ++ more)) pend in
@@ -188,7 +188,7 @@ later_none : (t : Option ℕ) → later t None ≡ t
 later_none None = refl
 later_none (Some x) = refl
 
-advance_by : (q : Output) (all : List Want) (told : Option ℕ) (until : ℕ) (b : Bool) → q.missed ≡ b → q.time ≤ until → Stands b q all told → TurnStands all told (turn_of until (with_time q until))
+advance_by : (q : Output) (all : List Want) (told : Option ℕ) (until : ℕ) (b : Bool) → q.missed ≡ b → q.time ≤ until → Stands b q all told → TurnStands all told (output_turn until (with_time q until))
 advance_by q all told until true is le st =
     let now = with_time q until in
     let past = st.past in
@@ -200,25 +200,25 @@ advance_by q all told until false is le st =
     let same : Turn = record { event = None; left = now } in
     subst (λ (x : Bool). TurnStands all told (cond x same (turn_by until now (missed_of q.max q.level q.last) q.pending))) (sym is) (turn_stands until now all told q.pending refl refl st.0 is (goes_later q all until le st.1))
 
-one_call : (q : Output) (all : List Want) (told : Option ℕ) (c : Call) → q.time ≤ time_of c → Stands q.missed q all told → After q all told c
+one_call : (q : Output) (all : List Want) (told : Option ℕ) (c : OutputCall) → q.time ≤ call_time c → Stands q.missed q all told → After q all told c
 one_call q all told (Push now clock level) le st = push_by q all told now clock level q.missed refl le st
 one_call q all told (Advance until) le st =
-    let turn = turn_of until (with_time q until) in
-    subst (λ (ws : List Want). Stands turn.left.missed turn.left ws (later told (missed_at (listed turn.event)))) (sym (append-nil all)) (advance_by q all told until q.missed refl le st)
+    let turn = output_turn until (with_time q until) in
+    subst (λ (ws : List Want). Stands turn.left.missed turn.left ws (later told (missed_at (event_items turn.event)))) (sym (append-nil all)) (advance_by q all told until q.missed refl le st)
 
 -- how the queue stands behind all calls
-all_calls : (q : Output) (all : List Want) (told : Option ℕ) (calls : List Call) → AreFair q calls → Stands q.missed q all told → Stands (after_all q calls).missed (after_all q calls) (all ++ accepted q calls) (later told (missed_at (made q calls)))
+all_calls : (q : Output) (all : List Want) (told : Option ℕ) (calls : List OutputCall) → AreFair q calls → Stands q.missed q all told → Stands (after_all q calls).missed (after_all q calls) (all ++ accepted_wants q calls) (later told (missed_at (made q calls)))
 all_calls q all told [] fair st = subst (λ (ws : List Want). Stands q.missed q ws (later told None)) (sym (append-nil all)) (subst (λ (t : Option ℕ). Stands q.missed q all t) (sym (later_none told)) st)
 all_calls q all told (c ∷ cs) fair st =
-    let next = after q c in
+    let next = after_call q c in
     let rest = all_calls next (all ++ accepted_one q c) (later told (missed_at (made_one q c))) cs fair.2 (one_call q all told c fair.0 st) in
     let end = after_all next cs in
     let told_same : later (later told (missed_at (made_one q c))) (missed_at (made next cs)) ≡ later told (missed_at (made q (c ∷ cs))) = later_join told (missed_at (made_one q c)) (missed_at (made next cs)) ∙ ap (later told) (sym (missed_join (made_one q c) (made next cs))) in
-    subst (λ (t : Option ℕ). Stands end.missed end (all ++ accepted q (c ∷ cs)) t) told_same
-    (subst (λ (ws : List Want). Stands end.missed end ws (later (later told (missed_at (made_one q c))) (missed_at (made next cs)))) (append_assoc all (accepted_one q c) (accepted next cs)) rest)
+    subst (λ (t : Option ℕ). Stands end.missed end (all ++ accepted_wants q (c ∷ cs)) t) told_same
+    (subst (λ (ws : List Want). Stands end.missed end ws (later (later told (missed_at (made_one q c))) (missed_at (made next cs)))) (append_assoc all (accepted_one q c) (accepted_wants next cs)) rest)
 
-pub behind_calls : (slots longest : ℕ) (calls : List Call) → AreFair (new_queue slots longest) calls
-    → Stands (after_all (new_queue slots longest) calls).missed (after_all (new_queue slots longest) calls) (accepted (new_queue slots longest) calls) (missed_at (made (new_queue slots longest) calls))
+pub behind_calls : (slots longest : ℕ) (calls : List OutputCall) → AreFair (new_queue slots longest) calls
+    → Stands (after_all (new_queue slots longest) calls).missed (after_all (new_queue slots longest) calls) (accepted_wants (new_queue slots longest) calls) (missed_at (made (new_queue slots longest) calls))
 behind_calls slots longest calls fair = all_calls (new_queue slots longest) [] None calls fair (refl, record { miss = λ more. refl; level = λ more until after. refl; rise = tt })
 
 -- how long an output may stay on does not change
@@ -239,7 +239,7 @@ by_max until q miss [] = miss_max until q miss
 by_max until q miss (w ∷ ws) = turn_max q.max (comes_late miss w.tick) (miss_turn until q miss) (want_turn until q w ws) (miss_max until q miss)
     (turn_max q.max (nat_lt w.tick until) (record { event = Some (event_of w); left = record q { pending = ws; level = w.on; last = w.tick } }) (record { event = None; left = q }) refl refl)
 
-after_max : (q : Output) (c : Call) → (after q c).max ≡ q.max
+after_max : (q : Output) (c : OutputCall) → (after_call q c).max ≡ q.max
 after_max q (Push now clock level) =
     let at = nearest now clock in
     push_max q q.missed (Ok (with_time q now)) (pushed_at q now at level) refl
@@ -249,9 +249,9 @@ after_max q (Advance until) =
     let now = with_time q until in
     turn_max q.max q.missed (record { event = None; left = now }) (turn_by until now (missed_of q.max q.level q.last) q.pending) refl (by_max until now (missed_of q.max q.level q.last) q.pending)
 
-all_max : (q : Output) (calls : List Call) → (after_all q calls).max ≡ q.max
+all_max : (q : Output) (calls : List OutputCall) → (after_all q calls).max ≡ q.max
 all_max q [] = refl
-all_max q (c ∷ cs) = all_max (after q c) cs ∙ after_max q c
+all_max q (c ∷ cs) = all_max (after_call q c) cs ∙ after_max q c
 
 before_late : (until at : ℕ) → until ≤ at → tick_before until (Some at) ≡ None
 before_late until at h = let e : nat_lt at until ≡ false = grind (arith, nat_tests) in rw e refl
@@ -264,7 +264,7 @@ pick : (until : ℕ) (b : Bool) (x y : Option ℕ) → tick_before until x ≡ N
 pick until true x y a b = a
 pick until false x y a b = b
 
-none_from : (until longest last : ℕ) (level : Bool) (ws : List Want) → until ≤ last → RiseFrom last ws → tick_before until (first_miss longest level last ws) ≡ None
+none_from : (until longest last : ℕ) (level : Bool) (ws : List Want) → until ≤ last → WantsRiseFrom last ws → tick_before until (first_miss longest level last ws) ≡ None
 none_from until longest last level [] le rise = none_by until longest last level le
 none_from until longest last level (w ∷ ws) le rise =
     let first = rise.0 in
@@ -294,7 +294,7 @@ stays until level w ws le = let e : nat_lt w.tick until ≡ false = grind (arith
 abbrev Quiet : ℕ → Output → List Want → Type 0
 Quiet until q pending = (tick_before until (first_miss q.max q.level q.last pending) ≡ None) × (last_level q.level until pending ≡ q.level)
 
-quiet_late : (until : ℕ) (q : Output) (w : Want) (ws : List Want) (b : Bool) → comes_late (missed_of q.max q.level q.last) w.tick ≡ b → RiseFrom 0 (w ∷ ws) → (turn_by until q (missed_of q.max q.level q.last) (w ∷ ws)).event ≡ None → Quiet until q (w ∷ ws)
+quiet_late : (until : ℕ) (q : Output) (w : Want) (ws : List Want) (b : Bool) → comes_late (missed_of q.max q.level q.last) w.tick ≡ b → WantsRiseFrom 0 (w ∷ ws) → (turn_by until q (missed_of q.max q.level q.last) (w ∷ ws)).event ≡ None → Quiet until q (w ∷ ws)
 quiet_late until q w ws true is rise h =
     let miss = missed_of q.max q.level q.last in
     let other = want_turn until q w ws in
@@ -306,7 +306,7 @@ quiet_late until q w ws false is rise h =
     let le = want_past_by until q w ws (nat_lt w.tick until) refl here in
     (subst (λ (x : Bool). tick_before until (cond x miss (first_miss q.max w.on w.tick ws)) ≡ None) (sym is) (none_from until q.max w.tick w.on ws le (drop_first w.tick w.tick ws (omega arith) rise.1)), stays until q.level w ws le)
 
-quiet_of : (until : ℕ) (q : Output) (pending : List Want) → RiseFrom 0 pending → (turn_by until q (missed_of q.max q.level q.last) pending).event ≡ None → Quiet until q pending
+quiet_of : (until : ℕ) (q : Output) (pending : List Want) → WantsRiseFrom 0 pending → (turn_by until q (missed_of q.max q.level q.last) pending).event ≡ None → Quiet until q pending
 quiet_of until q [] rise h = (miss_quiet until q (missed_of q.max q.level q.last) h, refl)
 quiet_of until q (w ∷ ws) rise h = quiet_late until q w ws (comes_late (missed_of q.max q.level q.last) w.tick) refl rise h
 
@@ -331,10 +331,10 @@ law_of until q all told false is le none st =
     let level : last_level false until all ≡ q.level = ap (last_level false until) (sym (append-nil all)) ∙ on.level [] until le ∙ ap (last_level q.level until) (append-nil q.pending) ∙ quiet.1 in
     (st.0 ∙ sym here, sym (ap (λ (x : Option ℕ). level_unless x (last_level false until all)) here ∙ level))
 
-pub law : (slots longest until : ℕ) (calls : List Call) → AreFair (new_queue slots longest) calls → (after_all (new_queue slots longest) calls).time ≤ until → event_next until (after_all (new_queue slots longest) calls) ≡ None
-    → Law longest until (after_all (new_queue slots longest) calls) (accepted (new_queue slots longest) calls) (missed_at (made (new_queue slots longest) calls))
+pub law : (slots longest until : ℕ) (calls : List OutputCall) → AreFair (new_queue slots longest) calls → (after_all (new_queue slots longest) calls).time ≤ until → event_next until (after_all (new_queue slots longest) calls) ≡ None
+    → Law longest until (after_all (new_queue slots longest) calls) (accepted_wants (new_queue slots longest) calls) (missed_at (made (new_queue slots longest) calls))
 law slots longest until calls fair le none =
     let q = after_all (new_queue slots longest) calls in
-    let all = accepted (new_queue slots longest) calls in
+    let all = accepted_wants (new_queue slots longest) calls in
     let told = missed_at (made (new_queue slots longest) calls) in
     subst (λ (n : ℕ). Law n until q all told) (all_max (new_queue slots longest) calls) (law_of until q all told q.missed refl le none (behind_calls slots longest calls fair))

@@ -9,7 +9,7 @@ use Rattle.plan_types.specs.Clock.{tick}
 use Rattle.digital_out.specs.declared.want.Want.{Want}
 use Rattle.digital_out.specs.declared.word.FanWord.{FanWord}
 use Rattle.digital_out.specs.Ends.{AreWordsFrom}
-use Rattle.digital_out.specs.Rising.{Alternate, AreRising, NeverFall, RiseFrom}
+use Rattle.digital_out.specs.Rising.{Alternate, AreRising, NeverFall, WantsRiseFrom}
 use Rattle.digital_out.specs.Wants.{changes, is_last, last_ones, want_at}
 
 -- a time of an ordered list is not before another that stands before it
@@ -48,32 +48,32 @@ words_there low most count (w ∷ words) are lt = let last = are.1 in All-cons (
 differ : (a b : ℕ) → not (a == b) ≡ true → a ≤ b → a < b
 differ a b h le = grind (arith, nat_tests)
 
-last_by : (low : ℕ) (w v : Want) (ws : List Want) (b : Bool) → is_last w (v ∷ ws) ≡ b → NeverFall low (w ∷ v ∷ ws) → ((from : ℕ) → from ≤ v.tick → RiseFrom from (last_ones (v ∷ ws)))
-    → RiseFrom low (cond b (w ∷ last_ones (v ∷ ws)) (last_ones (v ∷ ws)))
+last_by : (low : ℕ) (w v : Want) (ws : List Want) (b : Bool) → is_last w (v ∷ ws) ≡ b → NeverFall low (w ∷ v ∷ ws) → ((from : ℕ) → from ≤ v.tick → WantsRiseFrom from (last_ones (v ∷ ws)))
+    → WantsRiseFrom low (cond b (w ∷ last_ones (v ∷ ws)) (last_ones (v ∷ ws)))
 last_by low w v ws true e h later = (h.0, later (w.tick + 1) (let lt = differ w.tick v.tick e h.1.0 in omega (arith, lt)))
 last_by low w v ws false e h later = let first = h.0 in let next = h.1.0 in later low (omega (arith, first, next))
 
 -- of wants that don't fall the last ones at their ticks rise
-pub last_rise : (low : ℕ) (ws : List Want) → NeverFall low ws → RiseFrom low (last_ones ws)
+pub last_rise : (low : ℕ) (ws : List Want) → NeverFall low ws → WantsRiseFrom low (last_ones ws)
 last_rise low [] h = tt
 last_rise low (w ∷ []) h = (h.0, tt)
 last_rise low (w ∷ v ∷ ws) h = last_by low w v ws (is_last w (v ∷ ws)) refl h (λ from le. last_rise from (v ∷ ws) (le, h.1.1))
 
-rise_lower : (a b : ℕ) (ws : List Want) → a ≤ b → RiseFrom b ws → RiseFrom a ws
+rise_lower : (a b : ℕ) (ws : List Want) → a ≤ b → WantsRiseFrom b ws → WantsRiseFrom a ws
 rise_lower a b [] le h = tt
 rise_lower a b (w ∷ ws) le h = let first = h.0 in (omega (arith, first, le), h.1)
 
 -- a want is kept or left out before others
-kept : (low : ℕ) (w : Want) (with_it without : List Want) (b : Bool) → low ≤ w.tick → RiseFrom (w.tick + 1) with_it → RiseFrom (w.tick + 1) without → RiseFrom low (cond b (w ∷ with_it) without)
+kept : (low : ℕ) (w : Want) (with_it without : List Want) (b : Bool) → low ≤ w.tick → WantsRiseFrom (w.tick + 1) with_it → WantsRiseFrom (w.tick + 1) without → WantsRiseFrom low (cond b (w ∷ with_it) without)
 kept low w with_it without true le a b = (le, a)
 kept low w with_it without false le a b = rise_lower low (w.tick + 1) without (omega (arith, le)) b
 
-left : (low : ℕ) (w : Want) (with_it without : List Want) (b : Bool) → low ≤ w.tick → RiseFrom (w.tick + 1) with_it → RiseFrom (w.tick + 1) without → RiseFrom low (cond b without (w ∷ with_it))
+left : (low : ℕ) (w : Want) (with_it without : List Want) (b : Bool) → low ≤ w.tick → WantsRiseFrom (w.tick + 1) with_it → WantsRiseFrom (w.tick + 1) without → WantsRiseFrom low (cond b without (w ∷ with_it))
 left low w with_it without true le a b = rise_lower low (w.tick + 1) without (omega (arith, le)) b
 left low w with_it without false le a b = (le, a)
 
 -- wants that change the level rise where all do
-pub changes_rise : (level : Bool) (low : ℕ) (ws : List Want) → RiseFrom low ws → RiseFrom low (changes level ws)
+pub changes_rise : (level : Bool) (low : ℕ) (ws : List Want) → WantsRiseFrom low ws → WantsRiseFrom low (changes level ws)
 changes_rise true low [] h = tt
 changes_rise false low [] h = tt
 changes_rise true low (w ∷ ws) h = left low w (changes false ws) (changes true ws) w.on h.0 (changes_rise false (w.tick + 1) ws h.1) (changes_rise true (w.tick + 1) ws h.1)

@@ -10,14 +10,14 @@ use Rattle.gcode_state.specs.declared.state.State.{State}
 use Rattle.gcode_state.specs.declared.state.Action.{Action}
 use Rattle.gcode_state.specs.declared.state.Action.TheVariants as actions
 use Rattle.gcode_state.specs.States.{axes_in, coordinates_of, one_if}
-use Rattle.gcode_program.specs.Cuts.{closed, home_of, homes, is_named, left, left_by, left_by_homes, sections_of}
+use Rattle.gcode_program.specs.Cuts.{closed, home_of, homes, is_named, dwell_left, dwell_behind_home, left_by_homes, sections_of}
 use Rattle.gcode_program.specs.Homes.{stood}
 use Rattle.gcode_program.specs.Programs.{outcome_of, program_sections}
 use Rattle.text_core.specs.Lines.{lines_of}
 use Rattle.gcode_program.specs.Readings.{Deed, Outcome, behind_action, deed_of, is_passed, is_stop, line_result, outcome}
 use Rattle.digital_out.specs.declared.word.FanWord.{FanWord}
 use Rattle.digital_out.specs.Ends.{AreWordsFrom, moves_in}
-use Rattle.digital_out.specs.Words.{fan_words, moves_of, word_by, word_if, words_in}
+use Rattle.digital_out.specs.Words.{fan_words, moves_by, word_by, word_if, fan_words_in}
 
 -- what an action does that asks for no stop, and what is behind it
 pub deeds_on : (number : ℕ) (p : Bool) (s : State) (a : Action) (o : Outcome) → is_stop a ≡ false → (behind_action number p s a o).deeds ≡ deed_of s a ∷ o.deeds
@@ -42,11 +42,11 @@ AreWordsSofar size s number start count lines made whole = made ++ fan_words cou
 
 module _ (size start number count : ℕ) (s t : State) (line : List ℕ) (more all : List (List ℕ)) (a : Action) (made mid whole : List FanWord) (split : all ≡ line ∷ more) (put : mid ≡ made ++ word_if count line) where
   pub word_more : line_result size start s line ≡ Ok (t, a) → is_stop a ≡ false → AreWordsSofar size s number start count all made whole
-      → AreWordsSofar size t (number + 1) (start + (length line + 1)) (count + moves_of a) more mid whole
+      → AreWordsSofar size t (number + 1) (start + (length line + 1)) (count + moves_by a) more mid whole
   word_more accepted on was =
       let rest = outcome size t (number + 1) (start + (length line + 1)) more in
       let here = rw (split, accepted, deeds_on number (is_passed line) s a rest on) at was in
-      rw put (append_assoc made (word_if count line) (fan_words (count + moves_of a) rest.deeds more) ∙ here)
+      rw put (append_assoc made (word_if count line) (fan_words (count + moves_by a) rest.deeds more) ∙ here)
 
   pub word_stop : line_result size start s line ≡ Ok (t, a) → is_stop a ≡ true → AreWordsSofar size s number start count all made whole → mid ≡ whole
   word_stop accepted on was =
@@ -61,7 +61,7 @@ word_refused size start number count s line more all kind made whole split refus
 -- how many moves some deeds make
 abbrev pub moves_made : List Deed → ℕ
 moves_made [] = 0
-moves_made (d ∷ deeds) = moves_of d.action + moves_made deeds
+moves_made (d ∷ deeds) = moves_by d.action + moves_made deeds
 
 word_within : (low count step most : ℕ) (deeds : List Deed) (lines : List (List ℕ)) (o : Option Bool) → low ≤ count → count ≤ most
     → ((from : ℕ) → from ≤ count + step → AreWordsFrom from most (fan_words (count + step) deeds lines)) → AreWordsFrom low most (word_by count o ++ fan_words (count + step) deeds lines)
@@ -72,7 +72,7 @@ pub words_within : (low count most : ℕ) (deeds : List Deed) (lines : List (Lis
 words_within low count most [] lines below within = tt
 words_within low count most (d ∷ deeds) [] below within = tt
 words_within low count most (d ∷ deeds) (line ∷ lines) below within =
-    word_within low count (moves_of d.action) most deeds lines (fan_of line) below (omega (arith, within)) (λ from under. words_within from (count + moves_of d.action) most deeds lines under (omega (arith, within)))
+    word_within low count (moves_by d.action) most deeds lines (fan_of line) below (omega (arith, within)) (λ from under. words_within from (count + moves_by d.action) most deeds lines under (omega (arith, within)))
 
 joined : (xs ys : List Section) → moves_in (xs ++ ys) ≡ moves_in xs + moves_in ys
 joined [] ys = omega arith
@@ -83,7 +83,7 @@ in_closed dwell [] = refl
 in_closed dwell (m ∷ ms) = omega arith
 
 homes_by : (m : Machine) (at : List ℤ) (speed_up dwell : ℕ) (x y z : Bool)
-    → moves_in (home_of m at speed_up dwell 0 x ++ home_of m (stood m at 0 x) speed_up (left_by dwell x) 1 y ++ home_of m (stood m (stood m at 0 x) 1 y) speed_up (left_by (left_by dwell x) y) 2 z) ≡ one_if x + one_if y + one_if z
+    → moves_in (home_of m at speed_up dwell 0 x ++ home_of m (stood m at 0 x) speed_up (dwell_behind_home dwell x) 1 y ++ home_of m (stood m (stood m at 0 x) 1 y) speed_up (dwell_behind_home (dwell_behind_home dwell x) y) 2 z) ≡ one_if x + one_if y + one_if z
 homes_by m at speed_up dwell true true true = refl
 homes_by m at speed_up dwell true true false = refl
 homes_by m at speed_up dwell true false true = refl
@@ -97,17 +97,17 @@ in_homes : (m : Machine) (at : List ℤ) (speed_up dwell : ℕ) (axes : List Boo
 in_homes m at speed_up dwell axes = homes_by m at speed_up dwell (is_named axes 0) (is_named axes 1) (is_named axes 2)
 
 made_by : (m : Machine) (dwell : ℕ) (moves : List Move) (s : State) (a : Action) (deeds : List Deed) → ((pause : ℕ) (ms : List Move) → moves_in (sections_of m pause ms deeds) ≡ length ms + moves_made deeds)
-    → moves_in (sections_of m dwell moves (deed_of s a ∷ deeds)) ≡ length moves + (moves_of a + moves_made deeds)
+    → moves_in (sections_of m dwell moves (deed_of s a ∷ deeds)) ≡ length moves + (moves_by a + moves_made deeds)
 made_by m dwell moves s actions.None deeds later = omega (arith, later dwell moves)
 made_by m dwell moves s (actions.Move one) deeds later = omega (arith, later dwell (moves ++ one ∷ []), length-append moves (one ∷ []))
 made_by m dwell moves s (actions.Dwell ms) deeds later =
-    omega (arith, later (left dwell moves + ms) [], in_closed dwell moves, joined (closed dwell moves) (sections_of m (left dwell moves + ms) [] deeds))
-made_by m dwell moves s actions.Wait deeds later = omega (arith, later (left dwell moves) [], in_closed dwell moves, joined (closed dwell moves) (sections_of m (left dwell moves) [] deeds))
-made_by m dwell moves s actions.Stop deeds later = omega (arith, later (left dwell moves) [], in_closed dwell moves, joined (closed dwell moves) (sections_of m (left dwell moves) [] deeds))
+    omega (arith, later (dwell_left dwell moves + ms) [], in_closed dwell moves, joined (closed dwell moves) (sections_of m (dwell_left dwell moves + ms) [] deeds))
+made_by m dwell moves s actions.Wait deeds later = omega (arith, later (dwell_left dwell moves) [], in_closed dwell moves, joined (closed dwell moves) (sections_of m (dwell_left dwell moves) [] deeds))
+made_by m dwell moves s actions.Stop deeds later = omega (arith, later (dwell_left dwell moves) [], in_closed dwell moves, joined (closed dwell moves) (sections_of m (dwell_left dwell moves) [] deeds))
 made_by m dwell moves s (actions.Home axes) deeds later =
-    let rest = sections_of m (left_by_homes (left dwell moves) axes) [] deeds in
-    let here = homes m (coordinates_of s) s.acceleration (left dwell moves) axes in
-    rw (joined (closed dwell moves) (here ++ rest), joined here rest, in_closed dwell moves, in_homes m (coordinates_of s) s.acceleration (left dwell moves) axes, later (left_by_homes (left dwell moves) axes) []) (omega arith)
+    let rest = sections_of m (left_by_homes (dwell_left dwell moves) axes) [] deeds in
+    let here = homes m (coordinates_of s) s.acceleration (dwell_left dwell moves) axes in
+    rw (joined (closed dwell moves) (here ++ rest), joined here rest, in_closed dwell moves, in_homes m (coordinates_of s) s.acceleration (dwell_left dwell moves) axes, later (left_by_homes (dwell_left dwell moves) axes) []) (omega arith)
 
 -- the sections of deeds have as many moves as these make
 moves_of_sections : (m : Machine) (dwell : ℕ) (moves : List Move) (deeds : List Deed) → moves_in (sections_of m dwell moves deeds) ≡ length moves + moves_made deeds
@@ -115,6 +115,6 @@ moves_of_sections m dwell moves [] = omega (arith, in_closed dwell moves)
 moves_of_sections m dwell moves (d ∷ deeds) = made_by m dwell moves d.before d.action deeds (λ pause ms. moves_of_sections m pause ms deeds)
 
 -- the lines of a text that switch a fan stand behind no more moves than its sections have
-pub words_are : (m : Machine) (text : List ℕ) → AreWordsFrom 0 (moves_in (program_sections m text)) (words_in m text)
-unfolding words_in
+pub words_are : (m : Machine) (text : List ℕ) → AreWordsFrom 0 (moves_in (program_sections m text)) (fan_words_in m text)
+unfolding fan_words_in
 words_are m text = words_within 0 0 (moves_in (program_sections m text)) (outcome_of m text).deeds (lines_of text) (omega arith) (omega (arith, moves_of_sections m 0 [] (outcome_of m text).deeds))

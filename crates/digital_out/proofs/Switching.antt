@@ -5,34 +5,34 @@ use Rattle.plan_types.specs.Clock.{tick_limit}
 use Rattle.digital_out.specs.declared.want.Want.{Want}
 use Rattle.digital_out.specs.Carried.{AreInTime, CanCarry}
 use Rattle.digital_out.specs.Refreshes.{AreBehindBy, AreOns, AreRefreshed, off_behind, off_by, wanted}
-use Rattle.digital_out.specs.Rising.{Alternate, RiseFrom}
+use Rattle.digital_out.specs.Rising.{Alternate, WantsRiseFrom}
 use Rattle.digital_out.specs.Wants.{changes}
 
-lower : (a b : ℕ) (ws : List Want) → a ≤ b → RiseFrom b ws → RiseFrom a ws
+lower : (a b : ℕ) (ws : List Want) → a ≤ b → WantsRiseFrom b ws → WantsRiseFrom a ws
 lower a b [] le h = tt
 lower a b (w ∷ ws) le h = let first = h.0 in (omega (arith, first, le), h.1)
 
-ons_rise : (every from until : ℕ) (ons rest : List Want) → 0 < every → from < until → AreOns every from until ons → RiseFrom until rest → RiseFrom (from + 1) (ons ++ rest)
+ons_rise : (every from until : ℕ) (ons rest : List Want) → 0 < every → from < until → AreOns every from until ons → WantsRiseFrom until rest → WantsRiseFrom (from + 1) (ons ++ rest)
 ons_rise every from until [] rest some lt are h = lower (from + 1) until rest (omega (arith, lt)) h
 ons_rise every from until (o ∷ os) rest some lt are h =
     let next = are.1 in
-    subst (λ (w : Want). RiseFrom (from + 1) (w ∷ os ++ rest)) (sym are.0) (omega (arith, some), ons_rise every (from + every) until os rest some next are.2 h)
+    subst (λ (w : Want). WantsRiseFrom (from + 1) (w ∷ os ++ rest)) (sym are.0) (omega (arith, some), ons_rise every (from + every) until os rest some next are.2 h)
 
-pub refreshed_rise : (every low : ℕ) (wants list : List Want) → 0 < every → RiseFrom low wants → AreRefreshed every wants list → RiseFrom low list
+pub refreshed_rise : (every low : ℕ) (wants list : List Want) → 0 < every → WantsRiseFrom low wants → AreRefreshed every wants list → WantsRiseFrom low list
 refreshed_rise every low [] list some rise is = rw is tt
 refreshed_rise every low (w ∷ []) list some rise is =
     let rest : is.1 ≡ [] = is.4 in
     rw (is.2, rest) (rise.0, alone w.on is.0 is.3)
   where
-    alone : (b : Bool) (behind : List Want) → AreBehindBy b every w.tick [] behind → RiseFrom (w.tick + 1) (behind ++ [])
+    alone : (b : Bool) (behind : List Want) → AreBehindBy b every w.tick [] behind → WantsRiseFrom (w.tick + 1) (behind ++ [])
     alone true behind h = rw h (omega (arith, some), (omega (arith, some), tt))
     alone false behind h = rw h tt
 refreshed_rise every low (w ∷ v ∷ ws) list some rise is =
     let below : w.tick < v.tick = (let x = rise.1.0 in omega (arith, x)) in
-    let first : RiseFrom v.tick is.1 = refreshed_rise every v.tick (v ∷ ws) is.1 some (omega arith, rise.1.1) is.4 in
+    let first : WantsRiseFrom v.tick is.1 = refreshed_rise every v.tick (v ∷ ws) is.1 some (omega arith, rise.1.1) is.4 in
     rw is.2 (rise.0, between w.on is.0 is.1 is.3 below first)
   where
-    between : (b : Bool) (behind rest : List Want) → AreBehindBy b every w.tick (v ∷ ws) behind → w.tick < v.tick → RiseFrom v.tick rest → RiseFrom (w.tick + 1) (behind ++ rest)
+    between : (b : Bool) (behind rest : List Want) → AreBehindBy b every w.tick (v ∷ ws) behind → w.tick < v.tick → WantsRiseFrom v.tick rest → WantsRiseFrom (w.tick + 1) (behind ++ rest)
     between true behind rest h lt r = ons_rise every w.tick v.tick behind rest some lt h r
     between false behind rest h lt r = rw h (lower (w.tick + 1) v.tick rest (omega (arith, lt)) r)
 
@@ -127,7 +127,7 @@ refreshed_changes every level (w ∷ v ∷ ws) list alternate is =
     between false behind rest h = rw h refl
 
 -- the commands of wants can be carried out
-pub can_carry : (every longest : ℕ) (wants list : List Want) → 0 < every → every + every ≤ longest → every + every < 2 ^ 31 → RiseFrom 0 wants → All (λ w. w.tick < tick_limit - 2 ^ 32) wants → AreRefreshed every wants list → CanCarry longest list
+pub can_carry : (every longest : ℕ) (wants list : List Want) → 0 < every → every + every ≤ longest → every + every < 2 ^ 31 → WantsRiseFrom 0 wants → All (λ w. w.tick < tick_limit - 2 ^ 32) wants → AreRefreshed every wants list → CanCarry longest list
 can_carry every longest wants list some le few rise small is =
     let room : All (λ w. w.tick + every + every < tick_limit - 1) wants = λ k d lt. (let x = small k d lt in omega (arith, x, few)) in
     let below = refreshed_small (tick_limit - 1) every wants list room is in

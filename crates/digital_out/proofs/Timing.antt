@@ -16,7 +16,7 @@ use Rattle.plan_types.specs.Sections.{IsReadyLine, clocks_at, duration, end_time
 use Rattle.plan_types.specs.Numbers.{least_of, UpFrom}
 use Rattle.plan_types.specs.Speeds.{allowed_by, caps, greatest_speeds, places, speed_change}
 use Rattle.plan_types.specs.Valid.{IsValidLine, IsValidMove}
-use Rattle.gcode_program.specs.Held.{ArePlannable, IsNear}
+use Rattle.gcode_program.specs.Held.{ArePlannable, IsShortOrNear}
 use Rattle.section_plan.specs.Ends.{move_ends}
 use Rattle.section_plan.specs.Runs.{HaveOneLine, IsPlannable, IsShortMove}
 use Rattle.section_plan.proofs.Boards.{one-ready}
@@ -25,9 +25,9 @@ use Rattle.digital_out.specs.Ends.{last_time, moves_in}
 use Rattle.digital_out.specs.Wants.{own_clocks, own_line, section_ends}
 
 -- near moves are short
-near_short : (moves : List Move) → All IsValidMove moves → All IsNear moves → All IsShortMove moves
+near_short : (moves : List Move) → All IsValidMove moves → All IsShortOrNear moves → All IsShortMove moves
 near_short moves valid near = λ k d lt. by_near (get_or moves k d) (valid k d lt) (near k d lt) where
-  by_near : (m : Move) → IsValidMove m → IsNear m → IsShortMove m
+  by_near : (m : Move) → IsValidMove m → IsShortOrNear m → IsShortMove m
   by_near m ok n = elim n [ inl reach ↦ short-move m ok reach | inr small ↦ record { valid = ok; short = omega (arith, small) } ]
 
 -- what one section needs, and the sections behind it

@@ -2,7 +2,7 @@
 use Rattle.std.specs.Prelude.{◌≡◌, ℕ, ◌+◌, ◌<◌, ◌≤◌, Bool, true, false, List, [], ◌∷◌, ◌-◌, All, max, nat_lt, slice_index_or, if◌then◌else◌}
 use Rattle.plan_types.specs.Clock.{tick_limit}
 use Rattle.digital_out.specs.declared.want.Want.{Want}
-use Rattle.digital_out.specs.Rising.{RiseFrom, no_want}
+use Rattle.digital_out.specs.Rising.{WantsRiseFrom, no_want}
 
 -- a command comes in time for an output that has a level since a tick
 abbrev pub InTime : ℕ → Bool → ℕ → ℕ → Type 0
@@ -26,7 +26,7 @@ BeginsFrom low (w ∷ ws) = low ≤ w.tick
 
 -- commands that can be carried out: they rise, are small and come in time
 pub record CanCarry (max : ℕ) (commands : List Want) : Type 0 where
-  pub rise : RiseFrom 0 commands
+  pub rise : WantsRiseFrom 0 commands
   pub small : All (λ w. w.tick + 1 < tick_limit) commands
   pub in_time : AreInTime max false 0 commands
 

@@ -97,14 +97,14 @@ turn_by until q miss (w ∷ ws) = if comes_late miss w.tick then miss_turn until
 -- what happens next to a queue that is run to a tick: the first command that pends is carried out, or the
 -- output is missed where no command comes in time; nothing where neither is before the tick, or where it was
 -- missed already
-abbrev pub turn_of : ℕ → Output → Turn
-turn_of until q =
+abbrev pub output_turn : ℕ → Output → Turn
+output_turn until q =
     if q.missed then record { event = None; left = q } else turn_by until q (missed_of q.max q.level q.last) q.pending
 
 -- what is told next as a queue is run to a tick
 abbrev pub event_next : ℕ → Output → Option OutEvent
-event_next until q = (turn_of until (with_time q until)).event
+event_next until q = (output_turn until (with_time q until)).event
 
 -- the queue behind that
-abbrev pub behind : ℕ → Output → Output
-behind until q = (turn_of until (with_time q until)).left
+abbrev pub output_behind : ℕ → Output → Output
+output_behind until q = (output_turn until (with_time q until)).left

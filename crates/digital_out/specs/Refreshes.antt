@@ -23,14 +23,14 @@ AreBehindBy true every from others behind = AreBehindOn every from others behind
 AreBehindBy false every from others behind = behind ≡ []
 
 -- the commands behind a want, which has these behind it
-abbrev pub AreBehind : ℕ → Want → List Want → List Want → Type 0
-AreBehind every w others behind = AreBehindBy w.on every w.tick others behind
+abbrev pub AreBehindWant : ℕ → Want → List Want → List Want → Type 0
+AreBehindWant every w others behind = AreBehindBy w.on every w.tick others behind
 
 -- the wants with the commands that keep the output alive
 abbrev pub AreRefreshed : ℕ → List Want → List Want → Type 0
 AreRefreshed every [] commands = commands ≡ []
 AreRefreshed every (w ∷ ws) commands =
-    (behind rest : List Want) × (commands ≡ w ∷ behind ++ rest) × AreBehind every w ws behind
+    (behind rest : List Want) × (commands ≡ w ∷ behind ++ rest) × AreBehindWant every w ws behind
     × AreRefreshed every ws rest
 
 -- the off behind the last command, where the output is on

@@ -12,13 +12,13 @@ NeverFall low [] = Unit {0}
 NeverFall low (w ∷ ws) = (low ≤ w.tick) × NeverFall w.tick ws
 
 -- ticks that rise, from one on
-abbrev pub RiseFrom : ℕ → List Want → Type 0
-RiseFrom low [] = Unit {0}
-RiseFrom low (w ∷ ws) = (low ≤ w.tick) × RiseFrom (w.tick + 1) ws
+abbrev pub WantsRiseFrom : ℕ → List Want → Type 0
+WantsRiseFrom low [] = Unit {0}
+WantsRiseFrom low (w ∷ ws) = (low ≤ w.tick) × WantsRiseFrom (w.tick + 1) ws
 
 -- ticks that rise
 abbrev pub AreRising : List Want → Type 0
-AreRising ws = RiseFrom 0 ws
+AreRising ws = WantsRiseFrom 0 ws
 
 -- each want changes the level
 abbrev pub Alternate : Bool → List Want → Type 0

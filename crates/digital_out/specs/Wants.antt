@@ -14,7 +14,7 @@ use Rattle.gcode_program.specs.Programs.{program_sections}
 use Rattle.section_plan.specs.Ends.{move_ends}
 use Rattle.digital_out.specs.declared.want.Want.{Want}
 use Rattle.digital_out.specs.declared.word.FanWord.{FanWord}
-use Rattle.digital_out.specs.Words.{words_in}
+use Rattle.digital_out.specs.Words.{fan_words_in}
 
 -- a board's own clock line
 abbrev pub own_line : BoardDef → Line
@@ -33,8 +33,8 @@ section_ends m clocks ready (s ∷ sections) =
 
 -- the times at which a line may switch the fan: behind no move at the beginning of the first turn, and behind
 -- each move at its end
-abbrev pub ends : Machine → List Section → List ℕ
-ends m sections = first_turn * turn_ns ∷ section_ends m (own_clocks m) first_turn sections
+abbrev pub switch_times : Machine → List Section → List ℕ
+switch_times m sections = first_turn * turn_ns ∷ section_ends m (own_clocks m) first_turn sections
 
 -- what a line wants: its level, from the end of the last move before it on
 abbrev pub want_at : Line → List ℕ → FanWord → Want
@@ -58,7 +58,9 @@ changes false (w ∷ ws) = if w.on then w ∷ changes true ws else changes false
 
 -- what all lines want of a fan
 abbrev pub all_wants : Machine → FanDef → List ℕ → List Want
-all_wants m f text = map (want_at (own_line (board_at m f.board)) (ends m (program_sections m text))) (words_in m text)
+all_wants m f text =
+    map (want_at (own_line (board_at m f.board)) (switch_times m (program_sections m text)))
+    (fan_words_in m text)
 
 -- The wants of a text on a machine with a fan, in order of their ticks. The level is off at first.
 unfoldable pub wants : Machine → FanDef → List ℕ → List Want

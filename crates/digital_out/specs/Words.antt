@@ -11,10 +11,10 @@ use Rattle.gcode_program.specs.Readings.{Deed}
 use Rattle.digital_out.specs.declared.word.FanWord.{FanWord}
 
 -- how many moves an action makes: a home one for each of its axes
-abbrev pub moves_of : Action → ℕ
-moves_of (actions.Move m) = 1
-moves_of (actions.Home axes) = axes_in axes
-moves_of other = 0
+abbrev pub moves_by : Action → ℕ
+moves_by (actions.Move m) = 1
+moves_by (actions.Home axes) = axes_in axes
+moves_by other = 0
 
 -- a word of the fan behind so many moves, where there is one
 abbrev pub word_by : ℕ → Option Bool → List FanWord
@@ -29,8 +29,8 @@ word_if count line = word_by count (fan_of line)
 abbrev pub fan_words : ℕ → List Deed → List (List ℕ) → List FanWord
 fan_words count [] lines = []
 fan_words count (d ∷ deeds) [] = []
-fan_words count (d ∷ deeds) (line ∷ lines) = word_if count line ++ fan_words (count + moves_of d.action) deeds lines
+fan_words count (d ∷ deeds) (line ∷ lines) = word_if count line ++ fan_words (count + moves_by d.action) deeds lines
 
 -- the accepted lines of a text that switch the fan
-unfoldable pub words_in : Machine → List ℕ → List FanWord
-words_in m text = fan_words 0 (outcome_of m text).deeds (lines_of text)
+unfoldable pub fan_words_in : Machine → List ℕ → List FanWord
+fan_words_in m text = fan_words 0 (outcome_of m text).deeds (lines_of text)

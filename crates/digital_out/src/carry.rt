@@ -4,7 +4,7 @@ ghost use Rattle.std.specs.Prelude.{◌≡◌, ◌⊎◌, ◌++◌, ◌+◌, ◌
 ghost use Rattle.plan_types.specs.Clock.{tick_limit};
 ghost use Rattle.digital_out.specs.declared.want.Want.{Want};
 ghost use Rattle.digital_out.specs.Carried.{AreFrom, AreInTime, BeginsFrom, CanCarry, ready_at};
-ghost use Rattle.digital_out.specs.Rising.{RiseFrom, no_want};
+ghost use Rattle.digital_out.specs.Rising.{WantsRiseFrom, no_want};
 
 use crate::OutOfMemory;
 use crate::queue::{OutQueue, OutWhat};
@@ -28,7 +28,7 @@ fn run_to(queue: &mut OutQueue, until: u64, made: &mut Vec<Want>) -> Result<(), 
     requires safe { (more : List Want)
         × AreInTime queue.old.max queue.old.level queue.old.last (queue.old.pending ++ more) × BeginsFrom until more }
     ensures made { OnOk result (made.new.items ++ queue.new.pending ≡ made.old.items ++ queue.old.pending) }
-    ensures from { OnOk result (RiseFrom 0 queue.old.pending → AreFrom until queue.new.pending) }
+    ensures from { OnOk result (WantsRiseFrom 0 queue.old.pending → AreFrom until queue.new.pending) }
     ensures well { OnOk result (queue.new.missed ≡ false) }
     ensures in_time { OnOk result ((more : List Want) →
         AreInTime queue.old.max queue.old.level queue.old.last (queue.old.pending ++ more) →

@@ -12,8 +12,8 @@ ghost use Rattle.section_plan.specs.Runs.{IsPlannable};
 ghost use Rattle.digital_out.specs.Ends.{AreWordsOf, last_time, moves_in};
 ghost use Rattle.digital_out.specs.Rising.{Alternate, AreRising, NeverFall};
 ghost use Rattle.digital_out.specs.Wants as specs;
-ghost use Rattle.digital_out.specs.Wants.{all_wants, ends, own_clocks, own_line, want_at};
-ghost use Rattle.digital_out.specs.Words.{words_in};
+ghost use Rattle.digital_out.specs.Wants.{all_wants, switch_times, own_clocks, own_line, want_at};
+ghost use Rattle.digital_out.specs.Words.{fan_words_in};
 
 use crate::OutOfMemory;
 use crate::settle::{changes, last_ones};
@@ -76,7 +76,7 @@ fn section_at(sections: &[Section], i: usize) -> &Section
 fn ends_of(alloc: Global, machine: &Machine, sections: &[Section]) -> Result<Vec<u128>, OutOfMemory>
     requires machine { IsValidMachine machine.now }
     requires sections { ArePlannable sections.now }
-    ensures value { IfOk result (λ times. times.items ≡ ends machine.now sections.now) }
+    ensures value { IfOk result (λ times. times.items ≡ switch_times machine.now sections.now) }
     ensures ordered { IfOk result (λ times. UpFrom 0 times.items) }
     ensures soon { IfOk result (λ times. All (λ t. t ≤ last_time) times.items) }
     ensures count { IfOk result (λ times. length times.items ≡ moves_in sections.now + 1) }

@@ -7,7 +7,7 @@ ghost use Rattle.plan_types.specs.Clock.{tick_limit};
 ghost use Rattle.digital_out.specs.declared.want.Want.{Want};
 ghost use Rattle.digital_out.specs.Calls.{new_queue};
 ghost use Rattle.digital_out.specs.Outputs as specs;
-ghost use Rattle.digital_out.specs.Outputs.{behind, event_next, missed_of, with_time, with_want};
+ghost use Rattle.digital_out.specs.Outputs.{output_behind, event_next, missed_of, with_time, with_want};
 
 use crate::want::Want;
 use board_step::nearest_tick;
@@ -166,7 +166,7 @@ impl OutQueue {
         requires later { self.old.time ≤ until }
         ensures some { IfSome result (λ e. event_next until self.old ≡ Some e) }
         ensures none { IfNone result (event_next until self.old ≡ None) }
-        ensures behind { self.new ≡ behind until self.old }
+        ensures behind { self.new ≡ output_behind until self.old }
     {
         self.time = until;
         if self.missed {

@@ -2,8 +2,8 @@
 
 ghost use Rattle.std.specs.Prelude.{◌≡◌, ◌++◌, ◌<◌, ◌≤◌, ◌+◌, ◌*◌, ◌^◌, List, All, IfOk, OnOk};
 ghost use Rattle.digital_out.specs.declared.want.Want.{Want};
-ghost use Rattle.digital_out.specs.Refreshes.{AreBehind, AreOns, AreRefreshed};
-ghost use Rattle.digital_out.specs.Rising.{AreRising, RiseFrom};
+ghost use Rattle.digital_out.specs.Refreshes.{AreBehindWant, AreOns, AreRefreshed};
+ghost use Rattle.digital_out.specs.Rising.{AreRising, WantsRiseFrom};
 
 use crate::OutOfMemory;
 use crate::want::{Want, behind, nth};
@@ -34,9 +34,10 @@ fn put_behind(
     requires some { 0 < every }
     requires small { want.tick + 2 * every < 2 ^ 64 }
     requires others { All (λ w. w.tick + 2 * every < 2 ^ 64) others.now }
-    requires rise { RiseFrom (want.tick + 1) others.now }
+    requires rise { WantsRiseFrom (want.tick + 1) others.now }
     ensures { OnOk result
-        ((behind : List Want) × (out.new.items ≡ out.old.items ++ behind) × AreBehind every want others.now behind) }
+        ((behind : List Want) × (out.new.items ≡ out.old.items ++ behind)
+        × AreBehindWant every want others.now behind) }
 {
     if !want.on {
         return Ok(());

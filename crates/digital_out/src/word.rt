@@ -32,7 +32,7 @@ fn one_if(named: bool) -> u64
 
 /// How many moves an action makes.
 fn moves_of(action: &Action) -> u64
-    ensures value { result ≡ specs.moves_of action.now }
+    ensures value { result ≡ specs.moves_by action.now }
     ensures small { result ≤ weight action.now }
     ensures few { result ≤ 3 }
 {
@@ -63,14 +63,14 @@ fn put_word(words: &mut Vec<FanWord>, moves: u64, line: &[u8]) -> Result<(), Out
 }
 
 /// The lines that switch the fan, among those that are accepted.
-#[tactic(auto, unfolding(crate::specs::Words::words_in))]
+#[tactic(auto, unfolding(crate::specs::Words::fan_words_in))]
 pub fn read_words(
     alloc: Global,
     machine: &Machine,
     text: &[u8],
 ) -> Result<Vec<FanWord>, OutOfMemory>
     requires { IsValidMachine machine.now }
-    ensures { IfOk result (λ words. words.items ≡ specs.words_in machine.now text.now) }
+    ensures { IfOk result (λ words. words.items ≡ specs.fan_words_in machine.now text.now) }
 {
     let mut modes = Modes::new(machine);
     let mut words = Vec::new(alloc);

@@ -17,7 +17,7 @@ use Rattle.frame_dump.specs.declared.line.DumpLine.{DumpLine}
 use Rattle.frame_dump.specs.declared.line.DumpLine.TheVariants as line
 use Rattle.frame_dump.specs.declared.trace.TraceTurn.{TraceTurn}
 use Rattle.frame_dump.specs.Things.{HasNumber, Thing, AreIn, AreThings, all_taken, is_taken, taken_behind}
-use Rattle.frame_dump.specs.Dumps.{Adds, AreContent, IsBlockIn, IsDump, ShowAll, Shows, end_behind, open_lines}
+use Rattle.frame_dump.specs.Dumps.{AddsLines, AreContent, IsBlockIn, IsDump, ShowAll, Shows, end_behind, open_lines}
 use Rattle.frame_dump.specs.Sofar.{DumpSofar, LineSofar, ListsLine}
 
 -- what is left of a list behind its first elements
@@ -25,11 +25,11 @@ pub rest_all : {X : Type 0} → (n : ℕ) (xs : List X) → take (length xs - n)
 rest_all n xs = rw (← length-drop n xs) (take-length (drop n xs))
 
 -- a content
-pub content_none : (es : List Named) (content : List ℕ) (xs : List DumpLine) → content ≡ [] → Adds (AreContent es content) xs xs
+pub content_none : (es : List Named) (content : List ℕ) (xs : List DumpLine) → content ≡ [] → AddsLines (AreContent es content) xs xs
 content_none es content xs none = ([], none, sym (append-nil xs))
 
 pub content_more : (es : List Named) (content : List ℕ) (len : ℕ) (c : Cmd) (xs ys zs : List DumpLine) → IsText es c (take len content) → ys ≡ xs ++ line.Command c ∷ []
-    → Adds (AreContent es (take (length content - len) (drop len content))) ys zs → Adds (AreContent es content) xs zs
+    → AddsLines (AreContent es (take (length content - len) (drop len content))) ys zs → AddsLines (AreContent es content) xs zs
 content_more es content len c xs ys zs is pushed (more, are, added) =
     let At : List ℕ → Type 0 = λ t. AreContent es t more in (
       line.Command c ∷ more,
@@ -38,7 +38,7 @@ content_more es content len c xs ys zs is pushed (more, are, added) =
     )
 
 pub content_rest : (es : List Named) (content : List ℕ) (kind : CodeFault) (xs ys : List DumpLine) → (content ≡ [] → ⊥) → Refuses es content kind → ys ≡ xs ++ line.Rest (length content) kind ∷ []
-    → Adds (AreContent es content) xs ys
+    → AddsLines (AreContent es content) xs ys
 content_rest es [] kind xs ys some refuses pushed = absurd (some refl)
 content_rest es (b ∷ content) kind xs ys some refuses pushed = (line.Rest (length (b ∷ content)) kind ∷ [], (omega arith, refl, refuses, refl), pushed)
 
@@ -51,7 +51,7 @@ same_test false number end (to, from) = let e : number ≡ end → ⊥ = λ h. n
     no h = cc
 
 pub block_listed : (es : List Named) (turn number end : ℕ) (accepted : Bool) (content : List ℕ) (xs ys zs : List DumpLine) → IsTrue accepted ↔ (number ≡ end) → ys ≡ xs ++ line.Block turn number accepted ∷ []
-    → Adds (AreContent es content) ys zs → Adds (IsBlockIn es turn number end content) xs zs
+    → AddsLines (AreContent es content) ys zs → AddsLines (IsBlockIn es turn number end content) xs zs
 block_listed es turn number end accepted content xs ys zs test pushed (more, are, added) = (
   line.Block turn number accepted ∷ more,
   (more, are, ap (λ (b : Bool). line.Block turn number b ∷ more) (same_test accepted number end test)),
@@ -59,10 +59,10 @@ block_listed es turn number end accepted content xs ys zs test pushed (more, are
 )
 
 pub found_block : (es : List Named) (f : Found) (turn number end count taken : ℕ) (content : ArrayVec ℕ) (xs zs : List DumpLine) → f ≡ Block number content → end ≡ taken % 16
-    → Adds (IsBlockIn es turn number end content.items) xs zs → Adds (Shows es taken turn f count) xs zs
+    → AddsLines (IsBlockIn es turn number end content.items) xs zs → AddsLines (Shows es taken turn f count) xs zs
 found_block es f turn number end count taken content xs zs is same adds =
-    let At : ℕ → Type 0 = λ e. Adds (IsBlockIn es turn number e content.items) xs zs in
-    let Of : Found → Type 0 = λ g. Adds (Shows es taken turn g count) xs zs in
+    let At : ℕ → Type 0 = λ e. AddsLines (IsBlockIn es turn number e content.items) xs zs in
+    let Of : Found → Type 0 = λ g. AddsLines (Shows es taken turn g count) xs zs in
     subst Of (sym is) (subst At same adds)
 
 pub next_number : (taken : ℕ) → (taken % 16 + 1) % 16 ≡ (taken + 1) % 16
@@ -111,7 +111,7 @@ line_none es turn taken d bytes before end same = record {
 }
 
 pub line_more : (es : List Named) (turn taken : ℕ) (d d1 d2 : Bool) (bytes : List ℕ) (xs ys zs : List DumpLine) (at count end end' : ℕ) (f : Found) → LineSofar es turn taken d bytes xs at d1 end ys
-    → Scans d1 (drop at bytes) f count d2 → (f ≡ NeedMore → ⊥) → ((k : ℕ) → end ≡ k % 16 → Adds (Shows es k turn f count) ys zs) → ((k : ℕ) → end ≡ k % 16 → end' ≡ taken_behind k f % 16)
+    → Scans d1 (drop at bytes) f count d2 → (f ≡ NeedMore → ⊥) → ((k : ℕ) → end ≡ k % 16 → AddsLines (Shows es k turn f count) ys zs) → ((k : ℕ) → end ≡ k % 16 → end' ≡ taken_behind k f % 16)
     → LineSofar es turn taken d bytes xs (at + count) d2 end' zs
 line_more es turn taken d d1 d2 bytes xs ys zs at count end end' f h scans other shows numbers =
     let took = takes_some d1 (drop at bytes) f count d2 scans other in

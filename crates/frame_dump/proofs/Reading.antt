@@ -7,7 +7,7 @@ use Rattle.text_core.specs.Bytes.{Text}
 use Rattle.frame_dump.proofs.Dumping.{rest_all}
 use Rattle.frame_dump.specs.declared.fault.TraceFault.{TraceFault}
 use Rattle.frame_dump.specs.declared.trace.TraceTurn.{TraceTurn}
-use Rattle.frame_dump.specs.Traces.{AreTurns, before_bytes, byte_of, hex_bytes, hex_value, rising, turn_of, turns_from, with_first}
+use Rattle.frame_dump.specs.Traces.{AreTurns, before_bytes, byte_of, hex_bytes, hex_value, rising, trace_turn, turns_from, with_first}
 use Rattle.frame_dump.specs.Sofar.{BytesSofar, low_after, low_behind, with_bytes, with_turns}
 
 start : (o : Option (List ℕ)) → with_bytes [] o ≡ o
@@ -69,7 +69,7 @@ fronts front t (Ok turns) = ap (λ (l : List TraceTurn). Ok l) (append_assoc fro
 fronts front t (Err fault) = refl
 
 pub turn_more : (last : Option ℕ) (number : ℕ) (front new : List TraceTurn) (t : TraceTurn) (words : List Text) (lines later : List (ℕ × List Text))
-    → rising last (turn_of words) ≡ Ok t → new ≡ front ++ t ∷ [] → lines ≡ (number, words) ∷ later
+    → rising last (trace_turn words) ≡ Ok t → new ≡ front ++ t ∷ [] → lines ≡ (number, words) ∷ later
     → with_turns new (turns_from (Some t.turn) later) ≡ with_turns front (turns_from last lines)
 turn_more last number front new t words lines later is add lines_are = rw (add, lines_are, is) (fronts front t (turns_from (Some t.turn) later))
 

@@ -19,14 +19,14 @@ use Rattle.msg_dict.specs.Own.{own_formats}
 use Rattle.msg_dict.specs.Dictionary.{Named}
 use Rattle.msg_code.specs.declared.cmd.Cmd.{Cmd}
 use Rattle.board_sim.specs.Rig.{Rig, new_rig, passes, takes_all}
-use Rattle.board_sim.specs.Turn.{AreHeard, Expected, Heard, Holds, IsHeard, IsTurn, Noise, Other, Simulated, Station, accepted, expected_after, hears_all}
+use Rattle.board_sim.specs.Turn.{AreHeard, Expected, Heard, Holds, IsHeard, IsTurn, Noise, Other, Simulated, Station, accepted_commands, expected_after, hears_all}
 use Rattle.board_sim.proofs.Hearing.{expected_is, takes_some}
 use Rattle.board_sim.proofs.Heeding.{heeds_all}
 use Rattle.frame_dump.specs.declared.trace.TraceTurn.{TraceTurn}
 use Rattle.frame_dump.specs.Things.{Thing, AreIn, all_taken, is_taken, taken_behind}
 use Rattle.frame_dump.specs.Traces.{AreTurns}
 use Rattle.frame_dump.specs.Replays.{AreGiven, Given, GiveAll, Gives, GivesContent, IsReplay, Played, plays, plays_to, with_pulses}
-use Rattle.frame_dump.specs.Played.{PlayedSofar, PlaysTurn, StandsAt, next_turn, plays_on}
+use Rattle.frame_dump.specs.Played.{PlayedSofar, PlaysTurn, StandsAt, run_until, plays_on}
 use Rattle.frame_dump.proofs.Dumping.{next_number, rest_all, split, at_end}
 
 -- what was found, with how many bytes each thing takes
@@ -52,9 +52,9 @@ nothing_read [] left drops r = (refl, r.1, r.0.2)
 nothing_read (f ∷ fs) left drops (count, next, some, scans, rest) = absurd (none_found f count next scans some)
 
 -- the commands that are taken
-accepted_append : (xs ys : List Heard) → accepted (xs ++ ys) ≡ accepted xs ++ accepted ys
+accepted_append : (xs ys : List Heard) → accepted_commands (xs ++ ys) ≡ accepted_commands xs ++ accepted_commands ys
 accepted_append [] ys = refl
-accepted_append (Expected cs ∷ xs) ys = ap (λ (l : List Cmd). cs ++ l) (accepted_append xs ys) ∙ sym (append_assoc cs (accepted xs) (accepted ys))
+accepted_append (Expected cs ∷ xs) ys = ap (λ (l : List Cmd). cs ++ l) (accepted_append xs ys) ∙ sym (append_assoc cs (accepted_commands xs) (accepted_commands ys))
 accepted_append (Other ∷ xs) ys = accepted_append xs ys
 accepted_append (Noise ∷ xs) ys = accepted_append xs ys
 
@@ -72,14 +72,14 @@ test_false n m e = grind (arith, nat_tests)
 
 -- what a thing gives, and how many blocks are taken behind it
 record Heeds (taken e : ℕ) (f : Found) (hs : List Heard) : Type 0 where
-  gives : Gives own_formats taken f (accepted hs)
+  gives : Gives own_formats taken f (accepted_commands hs)
   number : expected_after e hs ≡ taken_behind taken f % 16
 
 heeds : (taken e : ℕ) (f : Found) (hs : List Heard) → e ≡ taken % 16 → IsHeard e f hs → Heeds taken e f hs
 heeds taken e (Block number content) hs same (inl (is, cs, holds, heard)) =
     let test : is_taken taken number ≡ true = test_true number (taken % 16) (is ∙ same) in
-    let commands : accepted hs ≡ cs = ap accepted heard ∙ append-nil cs in
-    let At : Bool → Type 0 = λ b. GivesContent own_formats b content.items (accepted hs) in
+    let commands : accepted_commands hs ≡ cs = ap accepted_commands heard ∙ append-nil cs in
+    let At : Bool → Type 0 = λ b. GivesContent own_formats b content.items (accepted_commands hs) in
     let Of : List Cmd → Type 0 = λ l. Holds own_formats content.items l in
     record {
       gives = subst At (sym test) (subst Of (sym commands) holds);
@@ -87,26 +87,26 @@ heeds taken e (Block number content) hs same (inl (is, cs, holds, heard)) =
     }
 heeds taken e (Block number content) hs same (inr (other, heard)) =
     let test : is_taken taken number ≡ false = test_false number (taken % 16) (λ k. other (k ∙ sym same)) in
-    let At : Bool → Type 0 = λ b. GivesContent own_formats b content.items (accepted hs) in
+    let At : Bool → Type 0 = λ b. GivesContent own_formats b content.items (accepted_commands hs) in
     record {
-      gives = subst At (sym test) (ap accepted heard);
+      gives = subst At (sym test) (ap accepted_commands heard);
       number = ap (expected_after e) heard ∙ same ∙ ap (λ (b : Bool). cond b (taken + 1) taken % 16) (sym test);
     }
-heeds taken e Skip hs same heard = record { gives = ap accepted heard; number = ap (expected_after e) heard ∙ same }
-heeds taken e NeedMore hs same heard = record { gives = ap accepted heard; number = ap (expected_after e) heard ∙ same }
-heeds taken e Bad hs same heard = record { gives = ap accepted heard; number = ap (expected_after e) heard ∙ same }
+heeds taken e Skip hs same heard = record { gives = ap accepted_commands heard; number = ap (expected_after e) heard ∙ same }
+heeds taken e NeedMore hs same heard = record { gives = ap accepted_commands heard; number = ap (expected_after e) heard ∙ same }
+heeds taken e Bad hs same heard = record { gives = ap accepted_commands heard; number = ap (expected_after e) heard ∙ same }
 
 record HeedsAll (taken e : ℕ) (ts : List Thing) (hs : List Heard) : Type 0 where
-  gives : GiveAll own_formats taken ts (accepted hs)
+  gives : GiveAll own_formats taken ts (accepted_commands hs)
   number : expected_after e hs ≡ all_taken taken ts % 16
 
 heeds_each : (taken e : ℕ) (ts : List Thing) (hs : List Heard) → e ≡ taken % 16 → AreHeard e (founds ts) hs → HeedsAll taken e ts hs
-heeds_each taken e [] hs same none = record { gives = ap accepted none; number = ap (expected_after e) none ∙ same }
+heeds_each taken e [] hs same none = record { gives = ap accepted_commands none; number = ap (expected_after e) none ∙ same }
 heeds_each taken e (t ∷ ts) hs same (first, rest, is, others, joined) =
     let one = heeds taken e t.found first same is in
     let more = heeds_each (taken_behind taken t.found) (expected_after e first) ts rest one.number others in
     record {
-      gives = (accepted first, accepted rest, ap accepted joined ∙ accepted_append first rest, one.gives, more.gives);
+      gives = (accepted_commands first, accepted_commands rest, ap accepted_commands joined ∙ accepted_append first rest, one.gives, more.gives);
       number = ap (expected_after e) joined ∙ expected_append e first rest ∙ more.number;
     }
 
@@ -118,7 +118,7 @@ with_end : (p : Played) → p ≡ with_pulses p.pulses (record { rig = p.rig; pu
 with_end p = ap (λ (l : List Pulse). let q : Played = record { rig = p.rig; pulses = l } in q) (sym (append-nil p.pulses))
 
 plays_next : (b : BoardDef) (turn taken : ℕ) (d : Bool) (left : List ℕ) (turns : List TraceTurn) (gs : List Given) (r : Rig) → AreGiven own_formats taken d left turns gs
-    → plays b turn r gs ≡ with_pulses (plays_to b (next_turn turn turns) r).pulses (plays_on b (plays_to b (next_turn turn turns) r).rig gs)
+    → plays b turn r gs ≡ with_pulses (plays_to b (run_until turn turns) r).pulses (plays_on b (plays_to b (run_until turn turns) r).rig gs)
 plays_next b turn taken d left [] gs r none =
     ap (plays b turn r) none ∙ with_end (plays_to b (turn + 1001) r) ∙ ap (λ (l : List Given). with_pulses (plays_to b (turn + 1001) r).pulses (plays_on b (plays_to b (turn + 1001) r).rig l)) (sym none)
 plays_next b turn taken d left (t ∷ turns) [] r h = absurd h
@@ -127,7 +127,7 @@ plays_next b turn taken d left (t ∷ turns) (g ∷ gs) r (things, kept, drops, 
 
 -- the first stretch, before any bytes come
 pub played_none : (b : BoardDef) (turns : List TraceTurn) (s0 s : Simulated) (until : ℕ) (bytes : List ℕ) (xs ps : List Pulse) → bytes ≡ [] → xs ≡ []
-    → s0 ≡ record { station = record { rig = new_rig b []; expected = 0; told = false }; dropping = false; left = [] } → until ≡ board_tick (clock_of b) (next_turn 0 turns)
+    → s0 ≡ record { station = record { rig = new_rig b []; expected = 0; told = false }; dropping = false; left = [] } → until ≡ board_tick (clock_of b) (run_until 0 turns)
     → PlaysTurn s0 bytes until s xs ps → PlayedSofar b turns turns s ps
 played_none b turns s0 s until bytes xs ps no_bytes no_pulses new at p =
     let first : Simulated = record { station = record { rig = new_rig b []; expected = 0; told = false }; dropping = false; left = [] } in
@@ -138,7 +138,7 @@ played_none b turns s0 s until bytes xs ps no_bytes no_pulses new at p =
     let Read : List Found → Type 0 = λ fs. AreHeard 0 fs t.heard in
     let quiet : t.heard ≡ [] = subst Read none.0 t.are in
     let start = new_rig b [] in
-    let to = next_turn 0 turns in
+    let to = run_until 0 turns in
     let station : s.station ≡ record { rig = (passes start until).rig; expected = 0; told = false } = t.station ∙ ap (λ (hs : List Heard). (stands hs)) quiet in
     let pulses : ps ≡ (plays_to b to start).pulses =
     p.added ∙ ap (λ (l : List Pulse). l ++ p.pulses) no_pulses ∙ t.pulses_are ∙ ap (λ (hs : List Heard). (passes (hears_all first.station hs).station.rig until).pulses) quiet ∙ ap (λ (k : ℕ). (passes start k).pulses) at in
@@ -160,19 +160,19 @@ played_none b turns s0 s until bytes xs ps no_bytes no_pulses new at p =
 
 -- one turn more
 turn_played : (b : BoardDef) (turns others : List TraceTurn) (t : TraceTurn) (s s' : Simulated) (until : ℕ) (ps qs : List Pulse) → PlayedSofar b turns (t ∷ others) s ps
-    → until ≡ board_tick (clock_of b) (next_turn t.turn others) → PlaysTurn s t.bytes until s' ps qs → PlayedSofar b turns others s' qs
+    → until ≡ board_tick (clock_of b) (run_until t.turn others) → PlaysTurn s t.bytes until s' ps qs → PlayedSofar b turns others s' qs
 turn_played b turns others t s s' until ps qs h at p =
     let i = p.turn in
     let read = things_of t.turn s.dropping (s.left ++ t.bytes) i.found s'.left s'.dropping i.reads in
     let things = read.0 in
     let Heard_of : List Found → Type 0 = λ fs. AreHeard s.station.expected fs i.heard in
     let all = heeds_each h.taken s.station.expected things i.heard h.expected (subst Heard_of (sym read.2) i.are) in
-    let cs = accepted i.heard in
+    let cs = accepted_commands i.heard in
     let g : Given = record { turn = t.turn; commands = cs } in
     let r0 = new_rig b [] in
     let r1 = (takes_all s.station.rig cs).rig in
     let taken = all_taken h.taken things in
-    let to = next_turn t.turn others in
+    let to = run_until t.turn others in
     let gives : (gs : List Given) → AreGiven own_formats taken s'.dropping s'.left others gs → AreGiven own_formats h.taken s.dropping s.left (t ∷ others) (g ∷ gs) =
     λ gs r. (things, s'.left, s'.dropping, refl, read.1, all.gives, r) in
     let heard : (hears_all s.station i.heard).station.rig ≡ r1 = heeds_all s.station i.heard in
@@ -196,7 +196,7 @@ turn_played b turns others t s s' until ps qs h at p =
     }
 
 pub played_more : (b : BoardDef) (turns rest : List TraceTurn) (t : TraceTurn) (s s' : Simulated) (until : ℕ) (bytes : List ℕ) (ps qs : List Pulse) → PlayedSofar b turns rest s ps
-    → 1 ≤ length rest → t ≡ get_or rest 0 t → bytes ≡ t.bytes → until ≡ board_tick (clock_of b) (next_turn t.turn (take (length rest - 1) (drop 1 rest))) → PlaysTurn s bytes until s' ps qs
+    → 1 ≤ length rest → t ≡ get_or rest 0 t → bytes ≡ t.bytes → until ≡ board_tick (clock_of b) (run_until t.turn (take (length rest - 1) (drop 1 rest))) → PlaysTurn s bytes until s' ps qs
     → PlayedSofar b turns (take (length rest - 1) (drop 1 rest)) s' qs
 played_more b turns rest t s s' until bytes ps qs h some is same at p =
     let others = drop 1 rest in
@@ -204,7 +204,7 @@ played_more b turns rest t s s' until bytes ps qs h some is same at p =
     let Of : List TraceTurn → Type 0 = λ l. PlayedSofar b turns l s ps in
     let Bytes : List ℕ → Type 0 = λ l. PlaysTurn s l until s' ps qs in
     let At : List TraceTurn → Type 0 = λ l. PlayedSofar b turns l s' qs in
-    subst At (sym left) (turn_played b turns others t s s' until ps qs (subst Of (split rest t some is) h) (at ∙ ap (λ (l : List TraceTurn). board_tick (clock_of b) (next_turn t.turn l)) left) (subst Bytes same p))
+    subst At (sym left) (turn_played b turns others t s s' until ps qs (subst Of (split rest t some is) h) (at ∙ ap (λ (l : List TraceTurn). board_tick (clock_of b) (run_until t.turn l)) left) (subst Bytes same p))
 
 pub played_all : (b : BoardDef) (turns rest : List TraceTurn) (s : Simulated) (ps : List Pulse) (state : BoardState) → PlayedSofar b turns rest s ps → length rest < 1 → state ≡ s.station.rig.controller.state
     → IsReplay b turns ps state
@@ -220,7 +220,7 @@ played_all b turns rest s ps state h none is =
     }
 
 -- where a board stands
-pub stands_next : (b : BoardDef) (tick turn : ℕ) (turns : List TraceTurn) → tick ≡ board_tick (clock_of b) (next_turn turn turns) → StandsAt b tick turns
+pub stands_next : (b : BoardDef) (tick turn : ℕ) (turns : List TraceTurn) → tick ≡ board_tick (clock_of b) (run_until turn turns) → StandsAt b tick turns
 stands_next b tick turn [] at = tt
 stands_next b tick turn (t ∷ turns) at = at
 
@@ -228,20 +228,20 @@ pub rise_next : (low : ℕ) (rest : List TraceTurn) → AreTurns low rest → (n
 rise_next low [] h = (low, h)
 rise_next low (t ∷ turns) h = let At : List TraceTurn → Type 0 = λ l. AreTurns (t.turn + 1) l in (t.turn + 1, subst At (sym (rest_all 1 (t ∷ turns))) h.2)
 
-later_turn : (turn : ℕ) (turns : List TraceTurn) → AreTurns (turn + 1) turns → turn ≤ next_turn turn turns
+later_turn : (turn : ℕ) (turns : List TraceTurn) → AreTurns (turn + 1) turns → turn ≤ run_until turn turns
 later_turn turn [] h = omega arith
 later_turn turn (t ∷ turns) h = omega (arith, h.0)
 
 pub later : (b : BoardDef) (tick low : ℕ) (rest : List TraceTurn) (t : TraceTurn) → StandsAt b tick rest → AreTurns low rest → 1 ≤ length rest → t ≡ get_or rest 0 t
-    → tick ≤ board_tick (clock_of b) (next_turn t.turn (take (length rest - 1) (drop 1 rest)))
+    → tick ≤ board_tick (clock_of b) (run_until t.turn (take (length rest - 1) (drop 1 rest)))
 later b tick low [] t stands h some is = absurd (omega arith)
 later b tick low (u ∷ turns) t stands h some is =
     let same : t ≡ u = is in
     let number : t.turn ≡ u.turn = ap (λ (x : TraceTurn). x.turn) same in
-    let next : next_turn t.turn (take (length (u ∷ turns) - 1) turns) ≡ next_turn u.turn turns = ap (λ (n : ℕ). next_turn n (take (length (u ∷ turns) - 1) turns)) number ∙ ap (next_turn u.turn) (rest_all 1 (u ∷ turns)) in
-    let up = rise b.start b.freq u.turn (next_turn u.turn turns) b.drift (later_turn u.turn turns h.2) in
+    let next : run_until t.turn (take (length (u ∷ turns) - 1) turns) ≡ run_until u.turn turns = ap (λ (n : ℕ). run_until n (take (length (u ∷ turns) - 1) turns)) number ∙ ap (run_until u.turn) (rest_all 1 (u ∷ turns)) in
+    let up = rise b.start b.freq u.turn (run_until u.turn turns) b.drift (later_turn u.turn turns h.2) in
     let At : ℕ → Type 0 = λ n. tick ≤ board_tick (clock_of b) n in
-    let Tick : ℕ → Type 0 = λ k. k ≤ board_tick (clock_of b) (next_turn u.turn turns) in
+    let Tick : ℕ → Type 0 = λ k. k ≤ board_tick (clock_of b) (run_until u.turn turns) in
     subst At (sym next) (subst Tick (sym stands) up)
 
 pub from_start : (b : BoardDef) (turn : ℕ) → b.start ≤ board_tick (clock_of b) turn
@@ -258,9 +258,9 @@ few_ticks start freq turn drift s f d t =
     let product : turn * freq * rate drift ≤ 1_000_001_001 * 200_000_000 * 1_000_200 = mul-le-mul (mul-le-mul t f) (rate_most drift d) in
     omega (arith, product)
 
-next_few : (turn low : ℕ) (rest : List TraceTurn) → turn ≤ 1_000_000_000 → AreTurns low rest → next_turn turn rest ≤ 1_000_001_001
+next_few : (turn low : ℕ) (rest : List TraceTurn) → turn ≤ 1_000_000_000 → AreTurns low rest → run_until turn rest ≤ 1_000_001_001
 next_few turn low [] h r = omega arith
 next_few turn low (t ∷ turns) h r = omega (arith, r.1)
 
-pub tick_small : (b : BoardDef) (turn low : ℕ) (rest : List TraceTurn) → IsValidBoard b → turn ≤ 1_000_000_000 → AreTurns low rest → board_tick (clock_of b) (next_turn turn rest) < tick_limit
-tick_small b turn low rest v h r = few_ticks b.start b.freq (next_turn turn rest) b.drift v.start v.freq.high v.drift_high (next_few turn low rest h r)
+pub tick_small : (b : BoardDef) (turn low : ℕ) (rest : List TraceTurn) → IsValidBoard b → turn ≤ 1_000_000_000 → AreTurns low rest → board_tick (clock_of b) (run_until turn rest) < tick_limit
+tick_small b turn low rest v h r = few_ticks b.start b.freq (run_until turn rest) b.drift v.start v.freq.high v.drift_high (next_few turn low rest h r)

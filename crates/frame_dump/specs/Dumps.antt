@@ -61,5 +61,5 @@ pub record IsDump (es : List Named) (turns : List TraceTurn) (lines : List DumpL
   pub lines_are : lines ≡ shown ++ open_lines waits
 
 -- lines of a kind were added behind others
-abbrev pub Adds : (List DumpLine → Type 0) → List DumpLine → List DumpLine → Type 0
-Adds Are before after = (more : List DumpLine) × Are more × (after ≡ before ++ more)
+abbrev pub AddsLines : (List DumpLine → Type 0) → List DumpLine → List DumpLine → Type 0
+AddsLines Are before after = (more : List DumpLine) × Are more × (after ≡ before ++ more)

@@ -11,9 +11,9 @@ use Rattle.frame_dump.specs.declared.trace.TraceTurn.{TraceTurn}
 use Rattle.frame_dump.specs.Replays.{AreGiven, Given, Played, plays, with_pulses}
 
 -- the turn up to which a board runs behind this one
-abbrev pub next_turn : ℕ → List TraceTurn → ℕ
-next_turn turn [] = turn + 1_001
-next_turn turn (t ∷ turns) = t.turn
+abbrev pub run_until : ℕ → List TraceTurn → ℕ
+run_until turn [] = turn + 1_001
+run_until turn (t ∷ turns) = t.turn
 
 -- what a board that stands at the next turn makes of it and of those that follow
 abbrev pub plays_on : BoardDef → Rig → List Given → Played

@@ -51,10 +51,10 @@ turn_with (Some turn) None = None
 turn_with (Some turn) (Some content) = Some (record { turn = turn; bytes = content })
 
 -- what the words of a line say: `turn`, a number and the bytes of that turn
-abbrev pub turn_of : List Text → Option TraceTurn
-turn_of (word ∷ number ∷ digits ∷ []) =
+abbrev pub trace_turn : List Text → Option TraceTurn
+trace_turn (word ∷ number ∷ digits ∷ []) =
     if bytes_eq word (codes "turn") then turn_with (turn_number number) (content_of digits) else None
-turn_of other = None
+trace_turn other = None
 
 -- a turn has to be above the last one
 abbrev pub rising : Option ℕ → Option TraceTurn → Result TraceTurn TraceKind
@@ -75,11 +75,12 @@ then_turns number (Err kind) later = Err (At number kind)
 -- the turns of lines that have words, behind a turn of this number, or the first fault among them
 abbrev pub turns_from : Option ℕ → List (ℕ × List Text) → Result (List TraceTurn) TraceFault
 turns_from last [] = Ok []
-turns_from last (line ∷ lines) = then_turns line.0 (rising last (turn_of line.1)) (λ turn. turns_from (Some turn) lines)
+turns_from last (line ∷ lines) =
+    then_turns line.0 (rising last (trace_turn line.1)) (λ turn. turns_from (Some turn) lines)
 
 -- the turns of a text, or its first fault; `#` begins a comment
-unfoldable pub reading : Text → Result (List TraceTurn) TraceFault
-reading text =
+unfoldable pub trace_of_text : Text → Result (List TraceTurn) TraceFault
+trace_of_text text =
     if nat_lt 16_777_216 (length text) then Err (At 0 TooLarge) else turns_from None (worded_lines 35 1 (lines_of text))
 
 -- the numbers of turns rise from one on that is allowed, up to 10^9
@@ -88,10 +89,10 @@ AreTurns low [] = Unit {0}
 AreTurns low (t ∷ turns) = (low ≤ t.turn) × (t.turn ≤ 1_000_000_000) × AreTurns (t.turn + 1) turns
 
 -- a reader's answer is this, but for want of memory
-abbrev pub Answers : Result (List TraceTurn) TraceFault → Result (List TraceTurn) TraceFault → Type 0
-Answers (Ok turns) wanted = wanted ≡ Ok turns
-Answers (Err Memory) wanted = ⊤
-Answers (Err (At line kind)) wanted = wanted ≡ Err (At line kind)
+abbrev pub AnswersTrace : Result (List TraceTurn) TraceFault → Result (List TraceTurn) TraceFault → Type 0
+AnswersTrace (Ok turns) wanted = wanted ≡ Ok turns
+AnswersTrace (Err Memory) wanted = ⊤
+AnswersTrace (Err (At line kind)) wanted = wanted ≡ Err (At line kind)
 
 -- a line's fault is of this kind, but for want of memory
 abbrev pub IsFaultAt : ℕ → Result TraceTurn TraceKind → TraceFault → Type 0

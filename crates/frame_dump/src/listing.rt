@@ -2,7 +2,7 @@
 
 ghost use Rattle.std.specs.Prelude.{◌≡◌, ℕ, ◌%◌, ◌<◌, ◌≤◌, ◌++◌, length, drop, OnOk, IfOk, ◌≢◌};
 ghost use Rattle.frame_dump.specs.Things.{HasNumber, taken_behind};
-ghost use Rattle.frame_dump.specs.Dumps.{Adds, AreContent, IsBlockIn, IsDump, Shows, end_behind, open_lines};
+ghost use Rattle.frame_dump.specs.Dumps.{AddsLines, AreContent, IsBlockIn, IsDump, Shows, end_behind, open_lines};
 ghost use Rattle.frame_dump.specs.Sofar.{ListsLine};
 ghost use Rattle.block_frame.specs.declared.Found.TheVariants.{NeedMore};
 
@@ -16,7 +16,7 @@ use std::alloc::{AllocError, Global};
 
 /// Adds the lines of a block's content: its commands, and what is left where none can be read.
 fn list_content(d: &Dict, content: &[u8], lines: &mut Vec<DumpLine>) -> Result<(), AllocError>
-    ensures { OnOk result (Adds (AreContent d.now.formats content.now) lines.old.items lines.new.items) }
+    ensures { OnOk result (AddsLines (AreContent d.now.formats content.now) lines.old.items lines.new.items) }
 {
     if content.is_empty() {
         return Ok(());
@@ -48,7 +48,7 @@ fn list_block(
 ) -> Result<(), AllocError>
     requires { number < 16 }
     ensures lines { OnOk result
-        (Adds (IsBlockIn d.now.formats turn number end.old content.now) lines.old.items lines.new.items) }
+        (AddsLines (IsBlockIn d.now.formats turn number end.old content.now) lines.old.items lines.new.items) }
     ensures end { OnOk result (end.new ≡ end_behind end.old number) }
 {
     let taken = end.arrive(number).accepted;
@@ -72,7 +72,7 @@ fn list_found(
     requires number { HasNumber found.now }
     requires found { found.now ≢ NeedMore }
     ensures shows { OnOk result ((taken : ℕ) → end.old ≡ taken % 16 →
-        Adds (Shows d.now.formats taken turn found.now count) lines.old.items lines.new.items) }
+        AddsLines (Shows d.now.formats taken turn found.now count) lines.old.items lines.new.items) }
     ensures number { OnOk result ((taken : ℕ) → end.old ≡ taken % 16 → end.new ≡ taken_behind taken found.now % 16) }
 {
     match found {

@@ -4,7 +4,7 @@ ghost use Rattle.std.specs.Prelude.{◌≡◌, ℕ, ◌<◌, ◌≤◌, ◌++◌
 ghost use Rattle.plan_types.specs.Clock.{board_tick, clock_of, tick_limit};
 ghost use Rattle.plan_types.specs.Machines.{IsValidBoard};
 ghost use Rattle.frame_dump.specs.Replays.{IsReplay};
-ghost use Rattle.frame_dump.specs.Played.{PlaysTurn, next_turn};
+ghost use Rattle.frame_dump.specs.Played.{PlaysTurn, run_until};
 ghost use Rattle.frame_dump.specs.Traces.{AreTurns};
 
 use crate::trace::{Trace, TraceTurn};
@@ -25,7 +25,7 @@ const TURNS_BEHIND: u64 = 1_001;
 /// The turn up to which a board runs behind this one.
 fn next_turn(turn: u64, rest: &[TraceTurn]) -> u64
     requires { turn ≤ 1000000000 }
-    ensures { result ≡ next_turn turn rest.now }
+    ensures { result ≡ run_until turn rest.now }
 {
     match rest {
         [next, ..] => next.turn,
@@ -38,7 +38,7 @@ fn tick_behind(board: &BoardDef, turn: u64, rest: &[TraceTurn]) -> u64
     requires board { IsValidBoard board.now }
     requires turn { turn ≤ 1000000000 }
     requires rest { (low : ℕ) × AreTurns low rest.now }
-    ensures tick { result ≡ board_tick (clock_of board.now) (next_turn turn rest.now) }
+    ensures tick { result ≡ board_tick (clock_of board.now) (run_until turn rest.now) }
     ensures small { result < tick_limit }
 {
     board.clock().tick(next_turn(turn, rest))

@@ -4,7 +4,7 @@ ghost use Rattle.std.specs.Prelude.{◌≡◌, ◌+◌, ◌<◌, ◌≤◌, ◌^
 ghost use Rattle.plan_types.specs.Numbers.{is_above};
 ghost use Rattle.text_core.specs.Lines.{lines_of};
 ghost use Rattle.text_core.specs.Words.{words_of, worded_lines};
-ghost use Rattle.frame_dump.specs.Traces.{Answers, AnswersTurns, AreTurns, turns_from, IsFaultAt, byte_of, content_of, hex_bytes, hex_value, reading, rising, turn_number, turn_of};
+ghost use Rattle.frame_dump.specs.Traces.{AnswersTrace, AnswersTurns, AreTurns, turns_from, IsFaultAt, byte_of, content_of, hex_bytes, hex_value, trace_of_text, rising, turn_number, trace_turn};
 
 use crate::fault::TraceFault;
 use crate::trace::{Trace, TraceTurn};
@@ -93,7 +93,7 @@ fn turn_number(word: &[u8]) -> Option<u64>
 /// The number and the digits of a line whose words are `turn` and these two.
 fn operands(words: &[u8]) -> Option<(&[u8], &[u8])>
     ensures some { IfSome result (λ found. words_of words.now ≡ codes "turn" ∷ found.0.now ∷ found.1.now ∷ []) }
-    ensures none { IfNone result (turn_of (words_of words.now) ≡ None) }
+    ensures none { IfNone result (trace_turn (words_of words.now) ≡ None) }
 {
     let (word, rest) = next_word(words)?;
     if word != b"turn".as_slice() {
@@ -109,8 +109,8 @@ fn operands(words: &[u8]) -> Option<(&[u8], &[u8])>
 
 /// What the words of a line say.
 fn turn_of(alloc: Global, words: &[u8]) -> Result<Option<TraceTurn>, AllocError>
-    ensures some { IfOk result (λ found. IfSome found (λ t. turn_of (words_of words.now) ≡ Some t)) }
-    ensures none { IfOk result (λ found. IfNone found (turn_of (words_of words.now) ≡ None)) }
+    ensures some { IfOk result (λ found. IfSome found (λ t. trace_turn (words_of words.now) ≡ Some t)) }
+    ensures none { IfOk result (λ found. IfNone found (trace_turn (words_of words.now) ≡ None)) }
     ensures small { IfOk result (λ found. IfSome found (λ t. t.turn ≤ 1000000000)) }
 {
     let Some((number, digits)) = operands(words) else {
@@ -140,10 +140,10 @@ fn is_above(number: u64, last: Option<u64>) -> bool
 
 /// The turn of a line behind the last one.
 fn read_turn(alloc: Global, line: &WordedLine, last: Option<u64>) -> Result<TraceTurn, TraceFault>
-    ensures turn { IfOk result (λ t. rising last (turn_of (words_of line.now.words.now)) ≡ Ok t) }
+    ensures turn { IfOk result (λ t. rising last (trace_turn (words_of line.now.words.now)) ≡ Ok t) }
     ensures small { IfOk result (λ t. t.turn ≤ 1000000000) }
     ensures above { IfOk result (λ t. is_above t.turn last ≡ true) }
-    ensures fault { IfErr result (IsFaultAt line.now.number (rising last (turn_of (words_of line.now.words.now)))) }
+    ensures fault { IfErr result (IsFaultAt line.now.number (rising last (trace_turn (words_of line.now.words.now)))) }
 {
     let Some(turn) = turn_of(alloc, line.words)? else {
         return Err(TraceFault::At {
@@ -195,9 +195,9 @@ fn read_turns(alloc: Global, text: &[u8]) -> Result<Vec<TraceTurn>, TraceFault>
 ///
 /// The first fault: `TooLarge` above 16,777,216 bytes, at line 0, before the others; then line by line `BadLine` before
 /// `NotRising`. `Memory` where memory is wanted.
-#[tactic(auto, unfolding(crate::specs::Traces::reading))]
+#[tactic(auto, unfolding(crate::specs::Traces::trace_of_text))]
 pub fn read_trace(alloc: Global, text: &[u8]) -> Result<Trace, TraceFault>
-    ensures answer { Answers result (reading text.now) }
+    ensures answer { AnswersTrace result (trace_of_text text.now) }
 {
     if text.len() > LIMIT {
         return Err(TraceFault::At {

@@ -7,7 +7,7 @@ use Rattle.gcode_state.specs.declared.state.State.{State}
 use Rattle.gcode_state.specs.declared.state.Action.{Action}
 use Rattle.gcode_state.specs.declared.state.Action.TheVariants as actions
 use Rattle.gcode_program.specs.Readings.{Deed, deed_of, line_result, is_passed, outcome, with_front, Outcome, behind_action, behind_line}
-use Rattle.gcode_program.specs.Pieces.{final, state_if, state_behind, bytes_of}
+use Rattle.gcode_program.specs.Pieces.{final, state_if, state_behind, lines_length}
 
 same_state : (s t : State) → Some s ≡ Some t → s ≡ t
 same_state s t h = cc
@@ -36,12 +36,12 @@ after_line number p s (Ok step) o o' q behind t h next = after_action number p s
 
 pub joined : (size : ℕ) (lines more : List (List ℕ)) (s t : State) (number start : ℕ) → final size s start lines ≡ Some t
     → outcome size s number start (lines ++ more) ≡ with_front (outcome size s number start lines).deeds (outcome size s number start lines).passed
-    (outcome size t (number + length lines) (start + bytes_of lines) more)
+    (outcome size t (number + length lines) (start + lines_length lines) more)
 joined size [] more s t number start h = let e : number + 0 ≡ number = omega arith in let f : start + 0 ≡ start = omega arith in
     rw (e, f) (ap (λ u. outcome size u number start more) (same_state s t h) ∙ sym (nothing_before (outcome size t number start more)))
 joined size (line ∷ lines) more s t number start h = after_line number (is_passed line) s (line_result size start s line)
     (λ u. outcome size u (number + 1) (start + (length line + 1)) (lines ++ more)) (λ u. outcome size u (number + 1) (start + (length line + 1)) lines)
-    (outcome size t (number + length (line ∷ lines)) (start + bytes_of (line ∷ lines)) more) (λ u. final size u (start + (length line + 1)) lines) t h
+    (outcome size t (number + length (line ∷ lines)) (start + lines_length (line ∷ lines)) more) (λ u. final size u (start + (length line + 1)) lines) t h
     (λ u g. let e : number + suc (length lines) ≡ number + 1 + length lines = omega arith in
-    let f : start + (length line + 1 + bytes_of lines) ≡ start + (length line + 1) + bytes_of lines = omega arith in
+    let f : start + (length line + 1 + lines_length lines) ≡ start + (length line + 1) + lines_length lines = omega arith in
     rw (e, f) (joined size lines more u t (number + 1) (start + (length line + 1)) g))

@@ -20,7 +20,7 @@ use Rattle.gcode_program.specs.declared.items.Opening.{Opening}
 use Rattle.gcode_program.specs.declared.reading.Reading.{Reading}
 use Rattle.gcode_program.specs.Items.{IsGood, ending, items_by, items_of, opening_by}
 use Rattle.gcode_program.specs.Programs.{outcome_of, program_end, program_sections}
-use Rattle.gcode_program.specs.Reader.{AreReading, HasNoEnd, IsAll, IsComing, IsKnown, IsOn, IsRead, items_from, stop_by}
+use Rattle.gcode_program.specs.Reader.{AreReading, HasNoEnd, IsAll, IsComing, AreBytesKnown, IsOn, IsRead, items_from, stop_by}
 use Rattle.gcode_program.specs.Readings.{Outcome, applied_line, behind_action, behind_line, deed_of, is_large, is_passed, is_stop, line_result, outcome}
 use Rattle.gcode_program.proofs.Behind.{goes_on}
 use Rattle.gcode_program.proofs.Telling.{end_good, told_all}
@@ -73,13 +73,13 @@ all_stopped m all o s actions.Wait p coming number lines passed told is good was
 all_stopped m all o s (actions.Home axes) p coming number lines passed told is good was = absurd cc
 
 -- what a line does is decided by what is known
-large_same : (known n start : ℕ) (line : List ℕ) → IsKnown known (start + length line) n → is_large known start line ≡ is_large n start line
+large_same : (known n start : ℕ) (line : List ℕ) → AreBytesKnown known (start + length line) n → is_large known start line ≡ is_large n start line
 large_same known n start line is = elim is.1 [
   | inl end ↦ (let k = is.0 in grind (arith, nat_tests))
   | inr same ↦ rw same refl
 ]
 
-pub line_same : (known n start : ℕ) (s : State) (line : List ℕ) → IsKnown known (start + length line) n → line_result known start s line ≡ line_result n start s line
+pub line_same : (known n start : ℕ) (s : State) (line : List ℕ) → AreBytesKnown known (start + length line) n → line_result known start s line ≡ line_result n start s line
 unfolding line_result
 line_same known n start s line is = rw (large_same known n start line is) refl
 
@@ -105,7 +105,7 @@ abbrev pub reading_of : State → Opening → ℕ → ℕ → ℕ → Option Rea
 reading_of s o start lines passed stop = record { modes = s; opening = o; start = start; lines = lines; passed = passed; stop = stop }
 
 -- a line that is accepted
-pub line_accepted : (m : Machine) (all : List ℕ) (known start lines passed : ℕ) (s t : State) (o : Opening) (line : List ℕ) (rest : List (List ℕ)) (a : Action) (p : Bool) (was_stop stop : Option ReadEnd) (told : List Item) → IsKnown known (start + length line) (length all) → line_result known start s line ≡ Ok (t, a) → p ≡ is_passed line → stop ≡ stop_by a (lines + 1) (passed + one_if p)
+pub line_accepted : (m : Machine) (all : List ℕ) (known start lines passed : ℕ) (s t : State) (o : Opening) (line : List ℕ) (rest : List (List ℕ)) (a : Action) (p : Bool) (was_stop stop : Option ReadEnd) (told : List Item) → AreBytesKnown known (start + length line) (length all) → line_result known start s line ≡ Ok (t, a) → p ≡ is_passed line → stop ≡ stop_by a (lines + 1) (passed + one_if p)
     → All IsGood (items_by m o s a) → IsOn m all (reading_of s o start lines passed was_stop) (line ∷ rest) told → IsRead m all (reading_of t (opening_by o a) (start + (length line + 1)) (lines + 1) (passed + one_if p) stop) rest (told ++ items_by m o s a)
 line_accepted m all known start lines passed s t o line rest a p was_stop stop told is accepted passed_is stop_is good on = go (is_stop a) refl
   where
@@ -143,7 +143,7 @@ line_accepted m all known start lines passed s t o line rest a p was_stop stop t
         }
 
 -- a line that is refused
-pub line_refused : (m : Machine) (all : List ℕ) (known start lines passed : ℕ) (s t : State) (o : Opening) (line : List ℕ) (rest : List (List ℕ)) (kind : LineKind) (was_stop : Option ReadEnd) (told : List Item) → IsKnown known (start + length line) (length all) → line_result known start s line ≡ Err kind
+pub line_refused : (m : Machine) (all : List ℕ) (known start lines passed : ℕ) (s t : State) (o : Opening) (line : List ℕ) (rest : List (List ℕ)) (kind : LineKind) (was_stop : Option ReadEnd) (told : List Item) → AreBytesKnown known (start + length line) (length all) → line_result known start s line ≡ Err kind
     → IsOn m all (reading_of s o start lines passed was_stop) (line ∷ rest) told → IsRead m all (reading_of t o start lines passed (Some (record { lines = lines; passed = passed; stop = Refused (lines + 1) kind }))) rest (told ++ ending o.goes)
 line_refused m all known start lines passed s t o line rest kind was_stop told is refused on =
     let same : line_result (length all) start s line ≡ Err kind = sym (line_same known (length all) start s line is) ∙ refused in
@@ -208,7 +208,7 @@ read_none m r carry text told none h = subst (λ t. IsRead m t r [] told) (appen
 
 -- the last line
 pub read_rest : (m : Machine) (r new : Reading) (carry text : List ℕ) (told more : List Item) (b : Bool) → r.stop ≡ None → b ≡ (length carry == 0) → b ≡ false
-    → ((all : List ℕ) (rest : List (List ℕ)) (before : List Item) → IsKnown (r.start + length carry) (r.start + length carry) (length all) → IsOn m all r (carry ∷ rest) (before ++ more) → IsRead m all new rest (before ++ told)) → (before : List Item) → AreReading m r carry text (before ++ more) → IsRead m text new [] (before ++ told)
+    → ((all : List ℕ) (rest : List (List ℕ)) (before : List Item) → AreBytesKnown (r.start + length carry) (r.start + length carry) (length all) → IsOn m all r (carry ∷ rest) (before ++ more) → IsRead m all new rest (before ++ told)) → (before : List Item) → AreReading m r carry text (before ++ more) → IsRead m text new [] (before ++ told)
 read_rest m r new carry text told more b goes some is_some read before h =
     let place = h.place goes in
     let on = (h.read []).goes goes in
@@ -250,7 +250,7 @@ taken_length (suc e) (x ∷ xs) h = let r = taken_length e xs (omega arith) in o
 -- one more whole line
 pub lines_next : (m : Machine) (all more text : List ℕ) (r new : Reading) (start used e n : ℕ) (told old now : List Item) → n ≡ e → used ≤ length text → e < length (drop used text) → get_or (drop used text) e 0 ≡ 10 → ((k : ℕ) → k < e → get_or (drop used text) k 0 ≡ 10 → ⊥)
     → r.stop ≡ None → (r.stop ≡ None → r.start ≡ start + used) → start + length text ≤ length all
-    → ((all : List ℕ) (rest : List (List ℕ)) (told : List Item) → IsKnown (start + length text) (r.start + length (take n (drop used text))) (length all) → IsOn m all r (take n (drop used text) ∷ rest) (told ++ old) → IsRead m all new rest (told ++ now))
+    → ((all : List ℕ) (rest : List (List ℕ)) (told : List Item) → AreBytesKnown (start + length text) (r.start + length (take n (drop used text))) (length all) → IsOn m all r (take n (drop used text) ∷ rest) (told ++ old) → IsRead m all new rest (told ++ now))
     → IsRead m all r (lines_of (drop used text ++ more)) (told ++ old) → IsRead m all new (lines_of (drop (used + (e + 1)) text ++ more)) (told ++ now)
 lines_next m all more text r new start used e n told old now same within inside ends plain none place known read was =
     let rest = drop used text in
@@ -260,7 +260,7 @@ lines_next m all more text r new start used e n told old now same within inside 
     let at = place none in
     let len = length-drop used text in
     let own = taken_length e rest (omega arith) in
-    let Read : ℕ → Type 0 = λ k. (all : List ℕ) (rest' : List (List ℕ)) (told : List Item) → IsKnown (start + length text) (r.start + length (take k rest)) (length all) → IsOn m all r (take k rest ∷ rest') (told ++ old) → IsRead m all new rest' (told ++ now) in
+    let Read : ℕ → Type 0 = λ k. (all : List ℕ) (rest' : List (List ℕ)) (told : List Item) → AreBytesKnown (start + length text) (r.start + length (take k rest)) (length all) → IsOn m all r (take k rest ∷ rest') (told ++ old) → IsRead m all new rest' (told ++ now) in
     subst Read same read all (lines_of (drop (used + (e + 1)) text ++ more)) told (known, inl (omega arith)) (subst (λ (ls : List (List ℕ)). IsOn m all r ls (told ++ old)) lines (was.goes none))
 
 -- more bytes were read

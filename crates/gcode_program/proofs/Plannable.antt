@@ -11,8 +11,8 @@ use Rattle.gcode_state.specs.declared.state.Action.TheVariants as actions
 use Rattle.gcode_state.specs.declared.state.State.{State}
 use Rattle.gcode_state.specs.Starts.{initial}
 use Rattle.gcode_program.specs.declared.cut.Cut.{Cut}
-use Rattle.gcode_program.specs.Cuts.{closed, left, sections_of}
-use Rattle.gcode_program.specs.Held.{ArePlannable, IsHeld}
+use Rattle.gcode_program.specs.Cuts.{closed, dwell_left, sections_of}
+use Rattle.gcode_program.specs.Held.{ArePlannable, AreSectionsHeld}
 use Rattle.gcode_program.specs.Programs.{outcome_of, program_sections}
 use Rattle.gcode_program.specs.Readings.{Outcome, behind_action, behind_line, is_passed, is_stop, line_result, outcome}
 use Rattle.gcode_program.specs.Taken.{no_cut, taken}
@@ -28,12 +28,12 @@ sections_on m c o = c.sections ++ sections_of m c.dwell c.moves o.deeds
 
 -- what lines behind a state and a cut make can be planned
 abbrev CanGoOn : Machine → (State → Outcome) → Type 0
-CanGoOn m rest = (t : State) (c : Cut) → IsRanged t → IsHeld c.sections c.moves c.dwell t.count → ArePlannable (sections_on m c (rest t))
+CanGoOn m rest = (t : State) (c : Cut) → IsRanged t → AreSectionsHeld c.sections c.moves c.dwell t.count → ArePlannable (sections_on m c (rest t))
 
-cut_plannable : (c : Cut) (count : ℕ) → IsHeld c.sections c.moves c.dwell count → ArePlannable (c.sections ++ closed c.dwell c.moves)
-cut_plannable c count held = plannable (c.sections ++ closed c.dwell c.moves) (left c.dwell c.moves) count (closed_held c.sections c.moves c.dwell count held)
+cut_plannable : (c : Cut) (count : ℕ) → AreSectionsHeld c.sections c.moves c.dwell count → ArePlannable (c.sections ++ closed c.dwell c.moves)
+cut_plannable c count held = plannable (c.sections ++ closed c.dwell c.moves) (dwell_left c.dwell c.moves) count (closed_held c.sections c.moves c.dwell count held)
 
-by_action : (m : Machine) (number : ℕ) (p : Bool) (s t : State) (a : Action) (c : Cut) (rest : State → Outcome) (stops : Bool) → is_stop a ≡ stops → IsRanged t → IsHeld (taken m c s a).sections (taken m c s a).moves (taken m c s a).dwell t.count → CanGoOn m rest → ArePlannable (sections_on m c (behind_action number p s a (rest t)))
+by_action : (m : Machine) (number : ℕ) (p : Bool) (s t : State) (a : Action) (c : Cut) (rest : State → Outcome) (stops : Bool) → is_stop a ≡ stops → IsRanged t → AreSectionsHeld (taken m c s a).sections (taken m c s a).moves (taken m c s a).dwell t.count → CanGoOn m rest → ArePlannable (sections_on m c (behind_action number p s a (rest t)))
 by_action m number p s t a c rest false e ranged held ih =
     subst (λ (o : Outcome). ArePlannable (sections_on m c o)) (sym (goes_on number p s a (rest t) e)) (subst ArePlannable (taken_joined m c s a (rest t).deeds) (ih t (taken m c s a) ranged held))
 by_action m number p s t actions.Stop c rest true e ranged held ih = subst ArePlannable (taken_joined m c s actions.Stop []) (cut_plannable (taken m c s actions.Stop) t.count held)
@@ -43,14 +43,14 @@ by_action m number p s t (actions.Dwell ms) c rest true e ranged held ih = absur
 by_action m number p s t actions.Wait c rest true e ranged held ih = absurd cc
 by_action m number p s t (actions.Home axes) c rest true e ranged held ih = absurd cc
 
-by_line : (m : Machine) (number : ℕ) (p : Bool) (s : State) (r : Result (State × Action) LineKind) (c : Cut) (rest : State → Outcome) → IsValidMachine m → IsRanged s → IsHeld c.sections c.moves c.dwell s.count → IfOk r (IsAccepted s) → CanGoOn m rest → ArePlannable (sections_on m c (behind_line number p s r rest))
+by_line : (m : Machine) (number : ℕ) (p : Bool) (s : State) (r : Result (State × Action) LineKind) (c : Cut) (rest : State → Outcome) → IsValidMachine m → IsRanged s → AreSectionsHeld c.sections c.moves c.dwell s.count → IfOk r (IsAccepted s) → CanGoOn m rest → ArePlannable (sections_on m c (behind_line number p s r rest))
 by_line m number p s (Err kind) c rest valid ranged held accepted ih = cut_plannable c s.count held
 by_line m number p s (Ok next) c rest valid ranged held accepted ih =
     let d = taken m c s next.1 in
     let few = accepted.ranged.count in
     let count = accepted.count in
     by_action m number p s next.0 next.1 c rest (is_stop next.1) refl accepted.ranged
-    (subst (λ n. IsHeld d.sections d.moves d.dwell n) (sym count) (taken_held m c s next.1 s.count valid (state_room _ ranged) held accepted.valid (omega (arith, few, count)))) ih
+    (subst (λ n. AreSectionsHeld d.sections d.moves d.dwell n) (sym count) (taken_held m c s next.1 s.count valid (state_room _ ranged) held accepted.valid (omega (arith, few, count)))) ih
 
 lines_plannable : (m : Machine) (size : ℕ) → IsValidMachine m → (lines : List (List ℕ)) (number start : ℕ) → CanGoOn m (λ s. outcome size s number start lines)
 lines_plannable m size valid [] number start = λ s c ranged held. cut_plannable c s.count held

@@ -16,7 +16,7 @@ use Rattle.gcode_state.specs.States.{IsValidAction, coordinates_of}
 use Rattle.gcode_program.specs.declared.items.Item.{Item}
 use Rattle.gcode_program.specs.declared.items.Item.TheVariants as items
 use Rattle.gcode_program.specs.declared.items.Opening.{Opening}
-use Rattle.gcode_program.specs.Cuts.{closed, home_of, homes, is_named, left, left_by, left_by_homes, sections_by, sections_of}
+use Rattle.gcode_program.specs.Cuts.{closed, home_of, homes, is_named, dwell_left, dwell_behind_home, left_by_homes, sections_by, sections_of}
 use Rattle.gcode_program.specs.Homes.{IsRoom, homing_move, stood}
 use Rattle.gcode_program.specs.Items.{IsGood, beginning, ending, items_by, items_in, items_of, moves_in, opening_by}
 use Rattle.gcode_program.specs.Reader.{items_from}
@@ -41,7 +41,7 @@ is_some [] = false
 is_some (m ∷ ms) = true
 
 abbrev opening_of : ℕ → List Move → Opening
-opening_of dwell moves = record { goes = is_some moves; dwell = left dwell moves }
+opening_of dwell moves = record { goes = is_some moves; dwell = dwell_left dwell moves }
 
 closed_items : (dwell : ℕ) (moves : List Move) → items_of (closed dwell moves) ≡ head_items dwell moves ++ ending (is_some moves)
 closed_items dwell [] = refl
@@ -60,11 +60,11 @@ by_action m dwell (x ∷ xs) s (actions.Move one) rest ih =
     let more = items_from m (record { goes = true; dwell = 0 }) rest in
     ih dwell ((x ∷ xs) ++ one ∷ []) ∙ ap (λ (ms : List Item). (items.Begin Moves dwell ∷ items.Move x ∷ ms) ++ more) (moves_append xs one)
     ∙ append_assoc (items.Begin Moves dwell ∷ moves_in (x ∷ xs)) (items.Move one ∷ []) more
-by_action m dwell moves s (actions.Dwell ms) rest ih = closing dwell moves (sections_of m (left dwell moves + ms) [] rest) (items_from m (opening_of (left dwell moves + ms) []) rest) (ih (left dwell moves + ms) [])
-by_action m dwell moves s actions.Wait rest ih = closing dwell moves (sections_of m (left dwell moves) [] rest) (items_from m (opening_of (left dwell moves) []) rest) (ih (left dwell moves) [])
-by_action m dwell moves s actions.Stop rest ih = closing dwell moves (sections_of m (left dwell moves) [] rest) (items_from m (opening_of (left dwell moves) []) rest) (ih (left dwell moves) [])
+by_action m dwell moves s (actions.Dwell ms) rest ih = closing dwell moves (sections_of m (dwell_left dwell moves + ms) [] rest) (items_from m (opening_of (dwell_left dwell moves + ms) []) rest) (ih (dwell_left dwell moves + ms) [])
+by_action m dwell moves s actions.Wait rest ih = closing dwell moves (sections_of m (dwell_left dwell moves) [] rest) (items_from m (opening_of (dwell_left dwell moves) []) rest) (ih (dwell_left dwell moves) [])
+by_action m dwell moves s actions.Stop rest ih = closing dwell moves (sections_of m (dwell_left dwell moves) [] rest) (items_from m (opening_of (dwell_left dwell moves) []) rest) (ih (dwell_left dwell moves) [])
 by_action m dwell moves s (actions.Home axes) rest ih =
-    let d = left dwell moves in
+    let d = dwell_left dwell moves in
     let own = homes m (coordinates_of s) s.acceleration d axes in
     let later = sections_of m (left_by_homes d axes) [] rest in
     let more = items_from m (opening_of (left_by_homes d axes) []) rest in
@@ -105,13 +105,13 @@ homes_good m at a dwell axes valid room =
     let room1 = stood_room m at a 0 x valid (omega arith) room in
     let room2 = stood_room m at1 a 1 y valid (omega arith) room1 in
     let one = home_of m at a dwell 0 x in
-    let two = home_of m at1 a (left_by dwell x) 1 y in
-    let three = home_of m at2 a (left_by (left_by dwell x) y) 2 z in
+    let two = home_of m at1 a (dwell_behind_home dwell x) 1 y in
+    let three = home_of m at2 a (dwell_behind_home (dwell_behind_home dwell x) y) 2 z in
     let e : items_of (homes m at a dwell axes) ≡ (items_of one ++ items_of two) ++ items_of three = items_append (one ++ two) three ∙ ap (λ is. is ++ items_of three) (items_append one two) in
     subst (λ (is : List Item). All IsGood is) (sym e)
     (All-append IsGood (items_of one ++ items_of two) (items_of three)
-    (All-append IsGood (items_of one) (items_of two) (home_good m at a dwell 0 x valid (omega arith) room) (home_good m at1 a (left_by dwell x) 1 y valid (omega arith) room1))
-    (home_good m at2 a (left_by (left_by dwell x) y) 2 z valid (omega arith) room2))
+    (All-append IsGood (items_of one) (items_of two) (home_good m at a dwell 0 x valid (omega arith) room) (home_good m at1 a (dwell_behind_home dwell x) 1 y valid (omega arith) room1))
+    (home_good m at2 a (dwell_behind_home (dwell_behind_home dwell x) y) 2 z valid (omega arith) room2))
 
 pub items_good : (m : Machine) (o : Opening) (s : State) (a : Action) → IsValidMachine m → IsSound s → IsValidAction a → All IsGood (items_by m o s a)
 items_good m o s actions.None machine sound valid = All-nil IsGood

@@ -13,7 +13,7 @@ use Rattle.gcode_program.specs.declared.items.Item.{Item}
 use Rattle.gcode_program.specs.declared.items.Item.TheVariants as items
 use Rattle.gcode_program.specs.declared.items.Opening.{Opening}
 use Rattle.gcode_program.specs.Cuts.{homes, left_by_homes}
-use Rattle.gcode_program.specs.Held.{IsNear}
+use Rattle.gcode_program.specs.Held.{IsShortOrNear}
 
 -- moves one behind the other
 abbrev pub moves_in : List Move → List Item
@@ -31,7 +31,7 @@ items_of (s ∷ ss) = items_in s ++ items_of ss
 
 -- a move that can be planned
 abbrev pub IsGood : Item → Type 0
-IsGood (items.Move one) = IsValidMove one × IsNear one
+IsGood (items.Move one) = IsValidMove one × IsShortOrNear one
 IsGood other = Unit {0}
 
 -- the section of moves that goes on ends

@@ -23,6 +23,6 @@ final size s start (line ∷ lines) =
     state_behind (line_result size start s line) (λ t. final size t (start + (length line + 1)) lines)
 
 -- how many bytes these lines take, each with its LF
-abbrev pub bytes_of : List (List ℕ) → ℕ
-bytes_of [] = 0
-bytes_of (line ∷ lines) = length line + 1 + bytes_of lines
+abbrev pub lines_length : List (List ℕ) → ℕ
+lines_length [] = 0
+lines_length (line ∷ lines) = length line + 1 + lines_length lines

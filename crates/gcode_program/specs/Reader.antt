@@ -18,8 +18,8 @@ items_from m o [] = ending o.goes
 items_from m o (d ∷ rest) = items_by m o d.before d.action ++ items_from m (opening_by o d.action) rest
 
 -- so many bytes are known of a text of n, and a line that ends there is whole
-abbrev pub IsKnown : ℕ → ℕ → ℕ → Type 0
-IsKnown known end n = (known ≤ n) × ((end < known) ⊎ (known ≡ n))
+abbrev pub AreBytesKnown : ℕ → ℕ → ℕ → Type 0
+AreBytesKnown known end n = (known ≤ n) × ((end < known) ⊎ (known ≡ n))
 
 -- how the reading stops behind an action, if it does
 abbrev pub stop_by : Action → ℕ → ℕ → Option ReadEnd

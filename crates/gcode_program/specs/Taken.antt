@@ -6,7 +6,7 @@ use Rattle.gcode_state.specs.declared.state.Action.TheVariants as actions
 use Rattle.gcode_state.specs.declared.state.State.{State}
 use Rattle.gcode_state.specs.States.{coordinates_of}
 use Rattle.gcode_program.specs.declared.cut.Cut.{Cut}
-use Rattle.gcode_program.specs.Cuts.{closed, left, home_of, left_by, is_named}
+use Rattle.gcode_program.specs.Cuts.{closed, dwell_left, home_of, dwell_behind_home, is_named}
 use Rattle.gcode_program.specs.Homes.{stood}
 
 -- nothing cut yet
@@ -15,7 +15,12 @@ no_cut = record { sections = []; moves = []; dwell = 0 }
 
 -- the open piece ended
 abbrev pub closed_cut : Cut → Cut
-closed_cut c = record { sections = c.sections ++ closed c.dwell c.moves; moves = []; dwell = left c.dwell c.moves }
+closed_cut c = record {
+  sections = c.sections ++ closed c.dwell c.moves;
+  moves = [];
+  dwell =
+      dwell_left c.dwell c.moves;
+}
 
 -- a section that homes one axis, where it is named
 abbrev pub homed_one : Machine → List ℤ → ℕ → Cut → ℕ → Bool → Cut
@@ -23,7 +28,7 @@ homed_one m at acceleration c axis named =
     record {
       sections = c.sections ++ home_of m at acceleration c.dwell axis named;
       moves = c.moves;
-      dwell = left_by c.dwell named;
+      dwell = dwell_behind_home c.dwell named;
     }
 
 -- the sections of a home
@@ -39,7 +44,7 @@ abbrev pub taken : Machine → Cut → State → Action → Cut
 taken m c s actions.None = c
 taken m c s (actions.Move one) = record c { moves = c.moves ++ one ∷ [] }
 taken m c s (actions.Dwell ms) =
-    record { sections = c.sections ++ closed c.dwell c.moves; moves = []; dwell = left c.dwell c.moves + ms }
+    record { sections = c.sections ++ closed c.dwell c.moves; moves = []; dwell = dwell_left c.dwell c.moves + ms }
 taken m c s actions.Wait = closed_cut c
 taken m c s actions.Stop = closed_cut c
 taken m c s (actions.Home axes) = homed_cut m (coordinates_of s) s.acceleration (closed_cut c) axes

@@ -6,7 +6,7 @@ ghost use Rattle.gcode_state.specs.Sound.{IsSound};
 ghost use Rattle.gcode_state.specs.States.{IsValidAction, coordinates_of};
 ghost use Rattle.gcode_state.specs.declared.state.Action.TheVariants as actions;
 ghost use Rattle.gcode_program.specs.declared.items.Item.TheVariants as told;
-ghost use Rattle.gcode_program.specs.Cuts.{home_of, homes, left_by, left_by_homes};
+ghost use Rattle.gcode_program.specs.Cuts.{home_of, homes, dwell_behind_home, left_by_homes};
 ghost use Rattle.gcode_program.specs.Homes.{IsRoom, stood};
 ghost use Rattle.gcode_program.specs.Items.{IsGood, beginning, ending, items_by, items_of, opening_by};
 
@@ -96,7 +96,7 @@ fn home_one(
 
 /// The dwells that are left behind a home, where it is named.
 fn left_by(dwell: u64, named: bool) -> u64
-    ensures { result ≡ left_by dwell named }
+    ensures { result ≡ dwell_behind_home dwell named }
 {
     if named { 0 } else { dwell }
 }

@@ -13,7 +13,7 @@ ghost use Rattle.gcode_program.specs.Items.{items_of, moves_in};
 ghost use Rattle.gcode_program.specs.Programs.{program_sections};
 ghost use Rattle.gcode_program.specs.Readers.{IsReaderOf, section_with};
 ghost use Rattle.gcode_program.specs.Readings.{outcome, with_front};
-ghost use Rattle.gcode_program.specs.Pieces.{final, bytes_of};
+ghost use Rattle.gcode_program.specs.Pieces.{final, lines_length};
 
 /// Lines that are all accepted can be read first, and the rest from the state behind them.
 pub fn reads_in_pieces()
@@ -21,7 +21,7 @@ pub fn reads_in_pieces()
         final size s start lines ≡ Some t →
         outcome size s number start (lines ++ more)
         ≡ with_front (outcome size s number start lines).deeds (outcome size s number start lines).passed
-        (outcome size t (number + length lines) (start + bytes_of lines) more) }
+        (outcome size t (number + length lines) (start + lines_length lines) more) }
 {}
 
 /// What a reader told of a text is the first of what the text's sections are, whatever follows.

@@ -4,7 +4,7 @@ ghost use Rattle.std.specs.Prelude.{◌≡◌, ℕ, ◌+◌, ◌*◌, ◌≤◌,
 ghost use Rattle.text_core.specs.Lines.{lines_of};
 ghost use Rattle.plan_types.specs.Machines.{IsValidMachine};
 ghost use Rattle.plan_types.specs.declared.machine.Machine.{Machine};
-ghost use Rattle.gcode_program.specs.Reader.{AreReading, HasNoEnd, IsAll, IsKnown, IsOn, IsRead, stop_by};
+ghost use Rattle.gcode_program.specs.Reader.{AreReading, HasNoEnd, IsAll, AreBytesKnown, IsOn, IsRead, stop_by};
 ghost use Rattle.gcode_program.specs.Small.{IsSmallReading};
 
 use crate::cut::OutOfMemory;
@@ -74,7 +74,7 @@ fn read_line(
     ensures start { OnOk result
         (reading.new.stop ≡ None → reading.new.start ≡ reading.old.start + (length line.now + 1)) }
     ensures read { OnOk result ((all : List ℕ) (rest : List (List ℕ)) (told : List Item) →
-        IsKnown size (reading.old.start + length line.now) (length all) →
+        AreBytesKnown size (reading.old.start + length line.now) (length all) →
         IsOn machine.now all reading.old (line.now ∷ rest) (told ++ items.old.items) →
         IsRead machine.now all reading.new rest (told ++ items.new.items)) }
 {

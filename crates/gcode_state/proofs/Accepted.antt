@@ -12,7 +12,7 @@ use Rattle.gcode_state.specs.declared.state.Aim.{Aim}
 use Rattle.gcode_state.specs.declared.state.StateFault.{StateFault}
 use Rattle.gcode_state.specs.declared.state.StateFault.TheVariants.{OutOfRange, NotHomed, BadSpeed, MoveTooLong, TooMany}
 use Rattle.gcode_state.specs.Sound.{IsWithin, IsSteady, IsSound}
-use Rattle.gcode_state.specs.States.{differs, is_slow, is_any_unhomed, is_any_outside, is_long, is_too_many, target_of, is_outside, is_unhomed, placed, first, move_fault, moves, moved, aim_of, e_target_of, speed_of, stretched, given_number}
+use Rattle.gcode_state.specs.States.{differs, is_slow, is_any_unhomed, is_any_outside, is_long, is_too_many, target_of, is_outside, is_unhomed, placed, first_that_holds, move_fault, moves, moved, aim_of, e_target_of, speed_of, stretched, given_number}
 
 -- no test of the list holds
 pub record NoFault (s : State) (aim : Aim) : Type 0 where
@@ -22,7 +22,7 @@ pub record NoFault (s : State) (aim : Aim) : Type 0 where
   pub short : unsigned_abs (aim.e.at -ℤ s.e_at) ≤ 500000000
   pub room : moves s aim ≡ true → s.count < 2000000
 
-none_of : (a b c d e : Bool) (f g h i j : StateFault) → first ((a, f) ∷ (b, g) ∷ (c, h) ∷ (d, i) ∷ (e, j) ∷ []) ≡ None → (c ≡ false) × (d ≡ false) × (e ≡ false)
+none_of : (a b c d e : Bool) (f g h i j : StateFault) → first_that_holds ((a, f) ∷ (b, g) ∷ (c, h) ∷ (d, i) ∷ (e, j) ∷ []) ≡ None → (c ≡ false) × (d ≡ false) × (e ≡ false)
 none_of true b c d e f g h i j none = absurd cc
 none_of false true c d e f g h i j none = absurd cc
 none_of false false true d e f g h i j none = absurd cc

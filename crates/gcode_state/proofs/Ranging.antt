@@ -19,7 +19,7 @@ use Rattle.gcode_state.specs.declared.state.State.{State}
 use Rattle.gcode_state.specs.declared.state.StateFault.{StateFault}
 use Rattle.gcode_state.specs.declared.state.StateFault.TheVariants.{OutOfRange, TooMany}
 use Rattle.gcode_state.specs.Sound.{IsSound, IsSteady, IsWithin}
-use Rattle.gcode_state.specs.States.{◌>>=◌, IsValidAction, acceleration, aim_of, applied, axes_in, axes_of, commanded, counted, differs, dwell, e_factor, given_number, home, homed_by, homed_if, in_range, is_any_outside, is_any_unhomed, is_long, is_slow, is_too_many, linear, move_fault, move_of, moved, moves, readings_set, speed_factor, unless, unmeasured}
+use Rattle.gcode_state.specs.States.{◌>>=◌, IsValidAction, acceleration, aim_of, applied, axes_in, axes_of, commanded, with_count, differs, dwell, e_factor, given_number, home, homed_by, homed_if, in_range, is_any_outside, is_any_unhomed, is_long, is_slow, is_too_many, linear, move_fault, move_of, moved, moves, readings_set, speed_factor, unless, unmeasured}
 use Rattle.gcode_state.proofs.Accepted.{count_on, e_on, no_fault, same_place, stays, steady_behind}
 use Rattle.gcode_state.proofs.Counted.{counted_sound}
 use Rattle.gcode_state.proofs.ValidMoves.{reachable_move, valid_move}
@@ -164,7 +164,7 @@ more_counted : (s : State) (more : ℕ) (b : Bool) → b ≡ nat_lt 2000000 (s.c
 more_counted s more true e h = tt
 more_counted s more false e h = counted_sound (plain s) more h (grind (arith, nat_tests))
 
-counted_ranged : (s : State) (more : ℕ) → IsRanged s → IfOk (counted s more) IsRanged
+counted_ranged : (s : State) (more : ℕ) → IsRanged s → IfOk (with_count s more) IsRanged
 counted_ranged s more h = more_counted s more (nat_lt 2000000 (s.count + more)) refl h
 
 short_dwell : (p : ℕ) → p ≤ 3600000000000 → (p + 999999) / 1000000 ≤ 3600000
@@ -174,7 +174,7 @@ dwell_fine : (s : State) (letters : List (Option Given)) → IsRanged s → IfOk
 unfolding dwell
 dwell_fine s letters h =
     bound_fine s (IsBetween 0 3600000000000) (in_range 0 3600000000000 0 (given_number letters 80)) _ (in_range_between 0 3600000000000 0 (given_number letters 80) (omega arith) (omega arith))
-    (λ p between. bound_fine s IsRanged (counted s 1) _ (counted_ranged s 1 h) (λ t ranged. record { ranged = ranged; valid = short_dwell p between.to }))
+    (λ p between. bound_fine s IsRanged (with_count s 1) _ (counted_ranged s 1 h) (λ t ranged. record { ranged = ranged; valid = short_dwell p between.to }))
 
 homed_steady : (named : Bool) (a : Axis) → IsSteady (plain_axis a) → IsSteady (plain_axis (homed_if named a))
 homed_steady false a h = h
@@ -207,7 +207,7 @@ homed_ranged s axes h = record {
 home_fine : (s : State) (letters : List (Option Given)) → IsRanged s → IfOk (home s letters) (IsFine s)
 unfolding home
 home_fine s letters h =
-    bound_fine s IsRanged (counted s (axes_in (axes_of letters))) _ (counted_ranged s (axes_in (axes_of letters)) h) (λ t ranged. record { ranged = homed_ranged t (axes_of letters) ranged; valid = tt })
+    bound_fine s IsRanged (with_count s (axes_in (axes_of letters))) _ (counted_ranged s (axes_in (axes_of letters)) h) (λ t ranged. record { ranged = homed_ranged t (axes_of letters) ranged; valid = tt })
 
 speed_fine : (s : State) (letters : List (Option Given)) → IsRanged s → IfOk (speed_factor s letters) (IsFine s)
 unfolding speed_factor

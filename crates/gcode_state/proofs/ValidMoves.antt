@@ -13,7 +13,7 @@ use Rattle.gcode_state.specs.declared.state.Aim.{Aim}
 use Rattle.gcode_state.specs.declared.state.StateFault.{StateFault}
 use Rattle.gcode_state.specs.declared.state.StateFault.TheVariants.{OutOfRange, NotHomed, BadSpeed, MoveTooLong, TooMany}
 use Rattle.gcode_state.specs.Sound.{IsWithin, IsSound}
-use Rattle.gcode_state.specs.States.{differs, first, is_slow, is_any_unhomed, is_any_outside, is_long, is_too_many, move_fault, moves, moved, move_of, unmeasured, speed_of}
+use Rattle.gcode_state.specs.States.{differs, first_that_holds, is_slow, is_any_unhomed, is_any_outside, is_long, is_too_many, move_fault, moves, moved, move_of, unmeasured, speed_of}
 use Rattle.gcode_state.proofs.Accepted.{no_fault}
 
 -- how far two places within a range are apart
@@ -33,7 +33,7 @@ differs_some a b h = grind (arith, ints)
 last_of : (a b c d : Bool) → (a || (b || (c || d))) ≡ true → a ≡ false → b ≡ false → c ≡ false → d ≡ true
 last_of a b c d h x y z = grind (arith, nat_tests)
 
-first_none : (a b c d e : Bool) (f g h i j : StateFault) → first ((a, f) ∷ (b, g) ∷ (c, h) ∷ (d, i) ∷ (e, j) ∷ []) ≡ None → a ≡ false
+first_none : (a b c d e : Bool) (f g h i j : StateFault) → first_that_holds ((a, f) ∷ (b, g) ∷ (c, h) ∷ (d, i) ∷ (e, j) ∷ []) ≡ None → a ≡ false
 first_none true b c d e f g h i j none = absurd cc
 first_none false b c d e f g h i j none = refl
 

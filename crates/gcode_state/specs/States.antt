@@ -22,14 +22,14 @@ use Rattle.gcode_state.specs.declared.state.StateFault.{StateFault}
 use Rattle.gcode_state.specs.declared.state.StateFault.TheVariants.{OutOfRange, NotHomed, BadSpeed, MoveTooLong, TooMany}
 
 -- the number in millionths that is given, 0 for a bare letter
-abbrev pub number_of : Option Given → Option ℤ
-number_of None = None
-number_of (Some Bare) = None
-number_of (Some (Number n)) = Some n
+abbrev pub millionths_of : Option Given → Option ℤ
+millionths_of None = None
+millionths_of (Some Bare) = None
+millionths_of (Some (Number n)) = Some n
 
 -- the number given behind a letter, where one is
 abbrev pub given_number : List (Option Given) → ℕ → Option ℤ
-given_number letters letter = number_of (given_of letters letter)
+given_number letters letter = millionths_of (given_of letters letter)
 
 -- what a coordinate reads behind a word
 abbrev pub reading_after : Bool → ℤ → Option ℤ → ℤ
@@ -92,9 +92,9 @@ moves s aim =
     differs s.x.at aim.x.at || (differs s.y.at aim.y.at || (differs s.z.at aim.z.at || differs s.e_at aim.e.at))
 
 -- the first fault whose test holds
-abbrev pub first : List (Bool × StateFault) → Option StateFault
-first [] = None
-first (fault ∷ faults) = if fault.0 then Some fault.1 else first faults
+abbrev pub first_that_holds : List (Bool × StateFault) → Option StateFault
+first_that_holds [] = None
+first_that_holds (fault ∷ faults) = if fault.0 then Some fault.1 else first_that_holds faults
 
 -- the speed is below 0.1 mm/s, in a line that moves something or sets a speed
 unfoldable pub is_slow : State → Aim → Bool → Bool
@@ -119,7 +119,8 @@ is_too_many s aim = moves s aim && nat_le 2000000 s.count
 -- the first thing that is wrong with a G0 or G1, in the order of these five
 unfoldable pub move_fault : State → Aim → Bool → Option StateFault
 move_fault s aim has_feed =
-    first ((is_slow s aim has_feed, BadSpeed) ∷ (is_any_unhomed s aim, NotHomed) ∷ (is_any_outside s aim, OutOfRange)
+    first_that_holds ((is_slow s aim has_feed, BadSpeed) ∷ (is_any_unhomed s aim, NotHomed) ∷
+    (is_any_outside s aim, OutOfRange)
     ∷ (is_long s aim, MoveTooLong) ∷ (is_too_many s aim, TooMany) ∷ [])
 
 -- an axis at its target
@@ -177,14 +178,14 @@ abbrev pub ◌>>=◌ : {A B : Type 0} → Result A StateFault → (A → Result 
 (Err e) >>= f = Err e
 
 -- so many more actions, if the file may have them
-abbrev pub counted : State → ℕ → Result State StateFault
-counted s more = if nat_lt 2000000 (s.count + more) then Err TooMany else Ok (record s { count = s.count + more })
+abbrev pub with_count : State → ℕ → Result State StateFault
+with_count s more = if nat_lt 2000000 (s.count + more) then Err TooMany else Ok (record s { count = s.count + more })
 
 -- what G4 does, with P in millionths of a millisecond, rounded up
 unfoldable pub dwell : State → List (Option Given) → Result (State × Action) StateFault
 dwell s letters = do
   p ← in_range 0 3600000000000 0 (given_number letters 80)
-  t ← counted s 1
+  t ← with_count s 1
   Ok (t, actions.Dwell ((p + 999999) / 1000000))
 
 -- a letter is given, bare or with a number
@@ -221,7 +222,7 @@ axes_in axes =
 -- what G28 does
 unfoldable pub home : State → List (Option Given) → Result (State × Action) StateFault
 home s letters = do
-  t ← counted s (axes_in (axes_of letters))
+  t ← with_count s (axes_in (axes_of letters))
   Ok (homed_by t (axes_of letters), actions.Home (axes_of letters))
 
 -- what M220 does

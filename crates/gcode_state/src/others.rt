@@ -2,7 +2,7 @@
 
 ghost use Rattle.std.specs.Prelude.{◌≡◌, ℕ, ◌+◌, ◌*◌, ◌^◌, ◌≤◌, ◌<◌, ◌≤ℤ◌, IsTrue, IfOk, Result};
 ghost use Rattle.gcode_state.specs.Sound.{IsWithin, IsSteady, IsSound};
-ghost use Rattle.gcode_state.specs.States.{in_range, counted, dwell, is_named, axes_of, homed_if, one_if, homed_by, axes_in, home, speed_factor, e_factor, acceleration, reading_set, read_as, readings_set, sets_some, is_set, commanded, homed_here, axis_of, homed_at, IsValidAction};
+ghost use Rattle.gcode_state.specs.States.{in_range, with_count, dwell, is_named, axes_of, homed_if, one_if, homed_by, axes_in, home, speed_factor, e_factor, acceleration, reading_set, read_as, readings_set, sets_some, is_set, commanded, homed_here, axis_of, homed_at, IsValidAction};
 
 use crate::linear::{MOST, linear_action, number_behind};
 use crate::state::{Action, Axis, State, StateFault};
@@ -32,7 +32,7 @@ fn bounded(low: u64, high: u64, default: u64, given: Option<i64>) -> Result<u64,
 fn with_more(state: &State, more: u64) -> Result<State, StateFault>
     requires sound { IsSound state.now }
     requires more { more ≤ 3 }
-    ensures value { result ≡ counted state.now more }
+    ensures value { result ≡ with_count state.now more }
     ensures sound { IfOk result (λ next. IsSound next) }
     ensures lines { IfOk result (λ next. next.lines ≡ state.now.lines) }
 {

@@ -30,8 +30,8 @@ m_entry n =
     else (if n == 221 then Known M221 else (if n == 400 then Known M400 else Unknown))))))
 
 -- what the table says of a letter and a number
-unfoldable pub entry_of : ℕ → ℕ → Entry
-entry_of letter n = if letter == 71 then g_entry n else (if letter == 77 then m_entry n else Unknown)
+unfoldable pub table_entry : ℕ → ℕ → Entry
+table_entry letter n = if letter == 71 then g_entry n else (if letter == 77 then m_entry n else Unknown)
 
 -- a letter, the number of the digits behind it, and what follows
 pub record Head : Type 0 where

@@ -6,7 +6,7 @@ use Rattle.gcode_text.specs.declared.word.Given.TheVariants.{Number}
 use Rattle.gcode_text.specs.declared.fault.FaultKind.{FaultKind}
 use Rattle.gcode_text.specs.Blanks.{is_blank}
 use Rattle.gcode_text.specs.Commands.{Head, head_of, unnumbered}
-use Rattle.gcode_text.specs.Lines.{given_of, text_of, words_of}
+use Rattle.gcode_text.specs.Lines.{given_of, text_of, given_words}
 
 -- words, where they are readable
 abbrev pub readable : Result (List (Option Given)) FaultKind → Option (List (Option Given))
@@ -18,12 +18,12 @@ abbrev pub words_for : ℕ → ℕ → Option Head → Option (List (Option Give
 words_for letter number None = None
 words_for letter number (Some head) =
     if (head.letter == capital letter) && (head.number == number)
-    then readable (words_of ((head.letter == 71) && (head.number == 28)) head.rest)
+    then readable (given_words ((head.letter == 71) && (head.number == 28)) head.rest)
     else None
 
 -- the words of a line whose command has this letter and this number, also where the table has no such command
-unfoldable pub words_in : List ℕ → ℕ → ℕ → Option (List (Option Given))
-words_in line letter number =
+unfoldable pub words_behind : List ℕ → ℕ → ℕ → Option (List (Option Given))
+words_behind line letter number =
     if nat_lt 1024 (length line) then None
     else words_for letter number (head_of (unnumbered (behind is_blank (text_of line))))
 
@@ -44,4 +44,4 @@ fan_by None on = option_map switches_on on
 
 -- to what a line switches the part fan: M107 off, M106 by its S
 unfoldable pub fan_of : List ℕ → Option Bool
-fan_of line = fan_by (words_in line 77 107) (words_in line 77 106)
+fan_of line = fan_by (words_behind line 77 107) (words_behind line 77 106)

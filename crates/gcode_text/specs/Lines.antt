@@ -14,7 +14,7 @@ use Rattle.gcode_text.specs.declared.table.Entry.TheVariants as entries
 use Rattle.text_core.specs.Bytes.{is_digit, is_letter, is_sign, is_point, capital, behind, before, begins, ends_or_begins}
 use Rattle.text_core.specs.Numbers.{number_at}
 use Rattle.gcode_text.specs.Blanks.{is_blank}
-use Rattle.gcode_text.specs.Commands.{Head, head_of, unnumbered, entry_of}
+use Rattle.gcode_text.specs.Commands.{Head, head_of, unnumbered, table_entry}
 
 -- what is given behind a letter, if behind it and blanks a word begins or the text ends
 abbrev pub if_word_next : {X : Type 0} → List ℕ → X → Result X FaultKind
@@ -58,8 +58,8 @@ abbrev pub HasWordsOf : List ℕ → List ℕ → Type 0
 HasWordsOf text rest = (bare : Bool) (slots : List (Option Given)) → row bare slots rest ≡ row bare slots text
 
 -- the words of a text, all of it
-unfoldable pub words_of : Bool → List ℕ → Result (List (Option Given)) FaultKind
-words_of bare text = if_word_next text no_words >>= λ slots. row bare slots text
+unfoldable pub given_words : Bool → List ℕ → Result (List (Option Given)) FaultKind
+given_words bare text = if_word_next text no_words >>= λ slots. row bare slots text
 
 -- in G28 a letter may stand bare
 abbrev pub takes_bare : Command → Bool
@@ -78,14 +78,14 @@ word_with name letters = words.Command name letters
 
 -- what stands behind a command is read as words where the table has the command
 abbrev pub reading_behind : Entry → List ℕ → Result Word FaultKind
-reading_behind (entries.Known name) rest = words_of (takes_bare name) rest >>= λ slots. Ok (word_with name slots)
+reading_behind (entries.Known name) rest = given_words (takes_bare name) rest >>= λ slots. Ok (word_with name slots)
 reading_behind entries.Unsupported rest = Err kinds.Unsupported
 reading_behind entries.Unknown rest = Ok words.Passed
 
 -- the reading of a line by its command; a line that begins otherwise is passed over
 abbrev pub reading_of_head : Option Head → Result Word FaultKind
 reading_of_head None = Ok words.Passed
-reading_of_head (Some head) = reading_behind (entry_of head.letter head.number) head.rest
+reading_of_head (Some head) = reading_behind (table_entry head.letter head.number) head.rest
 
 -- the reading of a line without its comment; a line of blanks is blank
 abbrev pub reading_of_text : List ℕ → Result Word FaultKind

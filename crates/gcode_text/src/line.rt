@@ -5,8 +5,8 @@ ghost use Rattle.text_core.specs.Bytes as bytes;
 ghost use Rattle.text_core.specs.Bytes.{ends_or_begins, begins, behind};
 ghost use Rattle.gcode_text.specs.Blanks as blanks;
 ghost use Rattle.gcode_text.specs.Commands.{head_of, head_with, is_command_letter, unnumbered};
-ghost use Rattle.gcode_text.specs.Lines.{HasWordsOf, begins_number, given_at, words_of, takes_bare, word_with, reading_behind, reading_of_head, reading_of_text, reading, at_line};
-ghost use Rattle.gcode_text.specs.Fans.{words_in, words_for};
+ghost use Rattle.gcode_text.specs.Lines.{HasWordsOf, begins_number, given_at, given_words, takes_bare, word_with, reading_behind, reading_of_head, reading_of_text, reading, at_line};
+ghost use Rattle.gcode_text.specs.Fans.{words_behind, words_for};
 ghost use Rattle.gcode_text.specs.Sorts.{finished};
 ghost use Rattle.gcode_text.specs.declared.fault.FaultKind.TheVariants.{BadLetter};
 
@@ -70,10 +70,10 @@ fn given(bare: bool, text: &[u8]) -> Result<(Given, &[u8]), FaultKind>
 }
 
 /// The words of a text, all of it.
-#[tactic(auto, unfolding(crate::specs::Lines::words_of))]
+#[tactic(auto, unfolding(crate::specs::Lines::given_words))]
 fn words(bare: bool, text: &[u8]) -> Result<Letters, FaultKind>
-    ensures { MatchResult result (λ values. words_of bare text.now ≡ Ok values)
-        (λ kind. words_of bare text.now ≡ Err kind) }
+    ensures { MatchResult result (λ values. given_words bare text.now ≡ Ok values)
+        (λ kind. given_words bare text.now ≡ Err kind) }
 {
     let mut letters = Letters::new();
     let mut rest = next_word(text)?;
@@ -256,9 +256,9 @@ fn words_for(head: Head<'_>, letter: u8, number: u32) -> Option<Letters>
 
 /// The words of a line whose command has this letter and this number, also where the table has no such
 /// command. None where the line has another command or none, or its words can't be read.
-#[tactic(auto, unfolding(crate::specs::Fans::words_in))]
+#[tactic(auto, unfolding(crate::specs::Fans::words_behind))]
 pub fn read_of(line: &[u8], letter: u8, number: u32) -> Option<Letters>
-    ensures { result ≡ words_in line.now letter number }
+    ensures { result ≡ words_behind line.now letter number }
 {
     if LONGEST < line.len() {
         return None;

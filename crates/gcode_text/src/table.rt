@@ -1,7 +1,7 @@
 //! The table of commands.
 
 ghost use Rattle.std.specs.Prelude.{◌≡◌};
-ghost use Rattle.gcode_text.specs.Commands.{entry_of};
+ghost use Rattle.gcode_text.specs.Commands.{table_entry};
 
 use crate::word::Command;
 
@@ -14,9 +14,9 @@ pub(crate) enum Entry {
 }
 
 /// Looks a command up.
-#[tactic(auto, unfolding(crate::specs::Commands::entry_of))]
+#[tactic(auto, unfolding(crate::specs::Commands::table_entry))]
 pub(crate) fn look_up(letter: u8, number: u64) -> Entry
-    ensures { result ≡ entry_of letter number }
+    ensures { result ≡ table_entry letter number }
 {
     match (letter, number) {
         (b'G', 0) => Entry::Known(Command::G0),

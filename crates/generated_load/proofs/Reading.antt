@@ -5,8 +5,8 @@ use Rattle.std.proofs.Math.Seq.{take-append-add, take-add, take_at}
 use mathlib.Core.Logic.{inl, inr}
 use borrow.Rule.Slice.PartMut.{mid_of, put_mid, mid_len, same_len_mid}
 use Rattle.std.proofs.lemmas.Grind.{common_steps}
-use Rattle.generated_load.specs.Text.{load_moves, move_line, next, upper}
-use Rattle.generated_load.specs.Places.{IsLineAt, IsRead}
+use Rattle.generated_load.specs.Text.{load_moves, move_line, next_random, upper}
+use Rattle.generated_load.specs.Places.{IsLineAt, IsPieceRead}
 
 drop-more : (n m : ℕ) (xs : List ℕ) → drop (m + n) xs ≡ drop n (drop m xs)
 drop-more n m xs = grind (arith, common_steps)
@@ -14,16 +14,16 @@ drop-more n m xs = grind (arith, common_steps)
 drop-line : (line rest : List ℕ) → drop (length line) (line ++ rest) ≡ rest
 drop-line line rest = grind (arith, common_steps)
 
-moves_left : (left fewer x : ℕ) → left ≡ fewer + 1 → load_moves left x ≡ move_line (upper (next x)) ++ load_moves fewer (next x)
+moves_left : (left fewer x : ℕ) → left ≡ fewer + 1 → load_moves left x ≡ move_line (upper (next_random x)) ++ load_moves fewer (next_random x)
 moves_left left fewer x e = rw (e, add-one) refl
 
 -- behind a line begins that of the next move
-pub next_line : (text line new : List ℕ) (at left fewer x y : ℕ) → IsLineAt text at line left x → left ≡ fewer + 1 → y ≡ next x → new ≡ move_line (upper y) → IsLineAt text (at + length line) new fewer y
+pub next_line : (text line new : List ℕ) (at left fewer x y : ℕ) → IsLineAt text at line left x → left ≡ fewer + 1 → y ≡ next_random x → new ≡ move_line (upper y) → IsLineAt text (at + length line) new fewer y
 next_line text line new at left fewer x y here e is_y is_new =
     drop-more (length line) at text ∙ ap (λ t. drop (length line) t) here ∙ drop-line line (load_moves left x) ∙ moves_left left fewer x e ∙ (rw (is_new, is_y) refl)
 
 -- the front of what the text has from a place on, copied into the front of a piece
-read_front : (text rest tail old new : List ℕ) (from count : ℕ) → drop from text ≡ rest ++ tail → count ≡ min (length rest) (length old) → new ≡ take count rest ++ drop count old → IsRead text from old count new
+read_front : (text rest tail old new : List ℕ) (from count : ℕ) → drop from text ≡ rest ++ tail → count ≡ min (length rest) (length old) → new ≡ take count rest ++ drop count old → IsPieceRead text from old count new
 read_front text rest tail old new from count here counted is =
     let few : count ≤ length rest = omega arith in
     let fits : count ≤ length old = omega arith in
@@ -38,7 +38,7 @@ read_front text rest tail old new from count here counted is =
 
 -- the bytes of a line from a place on, copied into the front of a piece
 pub read_in_line : (text line rest old new : List ℕ) (at left state from skipped count : ℕ) → IsLineAt text at line left state → at ≤ from → (from < at + length line) ⊎ (left ≡ 0) → skipped ≡ min (from - at) (length line) → rest ≡ drop skipped line
-    → count ≡ min (length rest) (length old) → new ≡ take count rest ++ drop count old → IsRead text from old count new
+    → count ≡ min (length rest) (length old) → new ≡ take count rest ++ drop count old → IsPieceRead text from old count new
 read_in_line text line rest old new at left state from skipped count here behind within skips is_rest counted is =
     let place : at + (from - at) ≡ from = omega arith in
     let text_there : drop from text ≡ drop (from - at) (line ++ load_moves left state) = ap (λ n. drop n text) (sym place) ∙ drop-more (from - at) at text ∙ ap (λ t. drop (from - at) t) here in
@@ -49,8 +49,8 @@ read_in_line text line rest old new at left state from skipped count here behind
     ]
 
 -- a read that goes on behind another
-pub read_on : (text text_there old piece new : List ℕ) (from place count more : ℕ) → text_there ≡ text → place ≡ from + count → IsRead text from old count piece → IsRead text_there place (mid_of count (length piece - count) piece) more new
-    → IsRead text from old (count + more) (put_mid count (length piece - count) piece new)
+pub read_on : (text text_there old piece new : List ℕ) (from place count more : ℕ) → text_there ≡ text → place ≡ from + count → IsPieceRead text from old count piece → IsPieceRead text_there place (mid_of count (length piece - count) piece) more new
+    → IsPieceRead text from old (count + more) (put_mid count (length piece - count) piece new)
 read_on text text_there old piece new from place count more same on front r =
     let front_size = front.size in
     let fits = front.fits in

@@ -8,7 +8,7 @@ IsLineAt text at line left state = drop at text ≡ line ++ load_moves left stat
 
 -- so many bytes of a text, from a place on, were read into the front of a piece: what the piece was, and what
 -- it is then
-pub record IsRead (text : List ℕ) (from : ℕ) (old : List ℕ) (count : ℕ) (new : List ℕ) : Type 0 where
+pub record IsPieceRead (text : List ℕ) (from : ℕ) (old : List ℕ) (count : ℕ) (new : List ℕ) : Type 0 where
   pub size : length new ≡ length old
   pub fits : count ≤ length old
   pub there : count ≤ length text - from

@@ -2,8 +2,8 @@
 use Rattle.std.specs.Prelude.{ℕ, ◌+◌, ◌*◌, ◌/◌, ◌%◌, ◌^◌, List, [], ◌∷◌, ◌++◌, codes, decimal, zero, suc}
 
 -- one step of the generator, a linear congruence modulo 2^64
-abbrev pub next : ℕ → ℕ
-next x = (x * 6_364_136_223_846_793_005 + 1_442_695_040_888_963_407) % 2 ^ 64
+abbrev pub next_random : ℕ → ℕ
+next_random x = (x * 6_364_136_223_846_793_005 + 1_442_695_040_888_963_407) % 2 ^ 64
 
 -- its upper 31 bits, of which the places are made
 abbrev pub upper : ℕ → ℕ
@@ -25,7 +25,7 @@ move_line u =
 -- so many moves behind a state of the generator
 abbrev pub load_moves : ℕ → ℕ → List ℕ
 load_moves zero x = []
-load_moves (suc n) x = move_line (upper (next x)) ++ load_moves n (next x)
+load_moves (suc n) x = move_line (upper (next_random x)) ++ load_moves n (next_random x)
 
 -- the first line: the speed is 100 mm/s
 abbrev pub first_line : List ℕ

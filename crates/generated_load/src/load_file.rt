@@ -2,8 +2,8 @@
 //! nowhere as a whole.
 
 ghost use Rattle.std.specs.Prelude.{◌≡◌, ℕ, ◌+◌, ◌-◌, ◌<◌, ◌≤◌, ◌^◌, ◌⊎◌, ◌++◌, List, Option, Some, length, take, drop, min, IfOk, IsOk, OnOk, OnErr};
-ghost use Rattle.generated_load.specs.Text.{load_text, move_line, next, upper};
-ghost use Rattle.generated_load.specs.Places.{IsLineAt, IsRead, IsEmptyAtEnd};
+ghost use Rattle.generated_load.specs.Text.{load_text, move_line, next_random, upper};
+ghost use Rattle.generated_load.specs.Places.{IsLineAt, IsPieceRead, IsEmptyAtEnd};
 
 use crate::Line;
 use io_core::{Failed, Files};
@@ -81,7 +81,7 @@ impl LoadFiles {
     fn read_line(&mut self, from: u64, into: &mut [u8]) -> usize
         ensures seed { self.new.seed ≡ self.old.seed }
         ensures moves { self.new.moves ≡ self.old.moves }
-        ensures read { IsRead (load_text self.old.seed self.old.moves) from into.old result into.new }
+        ensures read { IsPieceRead (load_text self.old.seed self.old.moves) from into.old result into.new }
         ensures end { IsEmptyAtEnd (load_text self.old.seed self.old.moves) from into.old result }
     {
         self.seek(from);

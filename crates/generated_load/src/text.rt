@@ -18,7 +18,7 @@ pub type Line = ArrayVec<u8, 21>;
 
 /// One step of the generator.
 pub fn next(state: u64) -> u64
-    ensures { result ≡ specs.next state }
+    ensures { result ≡ specs.next_random state }
 {
     state
         .wrapping_mul(6_364_136_223_846_793_005)

@@ -8,7 +8,7 @@ use Rattle.plan_types.specs.declared.cause.Cause.{Cause}
 use Rattle.plan_types.specs.declared.cause.Cause.TheVariants as cause
 use Rattle.session_run.specs.declared.ended.Ended.{Ended}
 use Rattle.session_run.specs.declared.ended.Report.{Report}
-use Rattle.host_cli.specs.Promises.{EndsAlone, EndsFor}
+use Rattle.host_cli.specs.Promises.{EndsAlone, EndsBeforeRun}
 use Rattle.host_cli.specs.Traffic.{EndsCleanly}
 use Rattle.host_cli.specs.Asks.{Answers, CountsFaults}
 
@@ -40,6 +40,6 @@ counts-refused f0 s0 s1 c given own other write quiet = record {
   quiet_output = quiet;
 }
 
-pub ends-both : (given : Cause) (old new : Option (List ℕ)) (shown : Report) → EndsFor cause.Memory old new given shown → EndsAlone cause.Memory old new given shown
+pub ends-both : (given : Cause) (old new : Option (List ℕ)) (shown : Report) → EndsBeforeRun cause.Memory old new given shown → EndsAlone cause.Memory old new given shown
 ends-both given old new shown (inl e) = e
 ends-both given old new shown (inr e) = e

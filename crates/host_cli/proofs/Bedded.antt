@@ -8,7 +8,7 @@ use Rattle.bed_mesh.specs.declared.fault.MeshFault.TheVariants as fault
 use Rattle.bed_mesh.specs.declared.mesh.Mesh.{Mesh}
 use Rattle.bed_mesh.specs.Tables as tables
 use Rattle.cfg_lines.specs.declared.fault.CfgFault.TheVariants.{At}
-use Rattle.cfg_text.specs.Reading.{reading}
+use Rattle.cfg_text.specs.Reading.{machine_of_text}
 use Rattle.plan_types.specs.declared.cause.Cause.{Cause}
 use Rattle.plan_types.specs.declared.cause.Cause.TheVariants as cause
 use Rattle.plan_types.specs.declared.cause.CfgKind.{CfgKind}
@@ -26,15 +26,15 @@ use Rattle.host_cli.proofs.Scened.{NoMachine}
 is-large-table : (n : ℕ) → 1_048_576 < n → nat_lt 1_048_576 n ≡ true
 is-large-table n h = grind (arith, nat_tests)
 
-pub table-cut : (t : List ℕ) → tables.reading (take (1_048_576 + 1) t) ≡ tables.reading t
-unfolding tables.reading
+pub table-cut : (t : List ℕ) → tables.mesh_of_text (take (1_048_576 + 1) t) ≡ tables.mesh_of_text t
+unfolding tables.mesh_of_text
 table-cut t = elim (cases_lt 1_048_576 (length t)) [
   | inl large ↦ (
       let count : length (take 1_048_577 t) ≡ 1_048_577 = length-take-le 1_048_577 t (omega arith) in
       let one = is-large-table (length (take 1_048_577 t)) (omega arith) in
       let two = is-large-table (length t) large in
       rw (one, two) refl)
-  | inr small ↦ ap tables.reading (take_all 1_048_577 t (omega arith))
+  | inr small ↦ ap tables.mesh_of_text (take_all 1_048_577 t (omega arith))
 ]
 
 -- nothing is written where memory is wanted for the end line
@@ -74,32 +74,32 @@ module _ (old new : Option (List ℕ)) (given : Cause) (shown : Report) where
   own-marked wanted c e (inl w) = inl (subst (λ (d : Cause). WritesMarked [] d old new given shown) e w)
   own-marked wanted c e (inr w) = inr (inl w)
 
-  pub table-unread : (told : Option (List ℕ)) (c wanted : Cause) (code text : List ℕ) (t : Mesh) → IsTableFault told c → Marked c → told ≡ Some text → tables.reading text ≡ Ok t → ShowsMarked code wanted old new given shown
+  pub table-unread : (told : Option (List ℕ)) (c wanted : Cause) (code text : List ℕ) (t : Mesh) → IsTableFault told c → Marked c → told ≡ Some text → tables.mesh_of_text text ≡ Ok t → ShowsMarked code wanted old new given shown
   table-unread told c wanted code text t (inl x) w seen is = absurd (let q = sym is ∙ x.3 text seen in cc)
   table-unread told c wanted code text t (inr st) w seen is = any-marked code wanted c st w
 
-  pub table-refused : (told : Option (List ℕ)) (c : Cause) (text : List ℕ) (line : ℕ) (kind : MeshKind) → IsTableFault told c → Marked c → told ≡ Some text → tables.reading text ≡ Err (fault.At line kind)
+  pub table-refused : (told : Option (List ℕ)) (c : Cause) (text : List ℕ) (line : ℕ) (kind : MeshKind) → IsTableFault told c → Marked c → told ≡ Some text → tables.mesh_of_text text ≡ Err (fault.At line kind)
       → ShowsMarked [] (cause.Mesh line kind) old new given shown
   table-refused told c text line kind (inl x) w seen is =
       let same : cause.Mesh x.0 x.1 ≡ cause.Mesh line kind = (let q = sym (x.3 text seen) ∙ is in cc) in
       own-marked (cause.Mesh line kind) c (x.2 ∙ same) w
   table-refused told c text line kind (inr st) w seen is = any-marked [] (cause.Mesh line kind) c st w
 
-  pub machine-unmarked : (told : Option (List ℕ)) (c wanted : Cause) (code printer : List ℕ) (m : Machine) → NoMachine told c → Marked c → told ≡ Some printer → reading printer ≡ Ok m → ShowsMarked code wanted old new given shown
+  pub machine-unmarked : (told : Option (List ℕ)) (c wanted : Cause) (code printer : List ℕ) (m : Machine) → NoMachine told c → Marked c → told ≡ Some printer → machine_of_text printer ≡ Ok m → ShowsMarked code wanted old new given shown
   machine-unmarked told c wanted code printer m (inl x) w seen is = absurd (let e = sym is ∙ x.3 printer seen in cc)
   machine-unmarked told c wanted code printer m (inr st) w seen is = any-marked code wanted c st w
 
-  pub config-marked : (told : Option (List ℕ)) (c : Cause) (printer : List ℕ) (line : ℕ) (kind : CfgKind) → NoMachine told c → Marked c → told ≡ Some printer → reading printer ≡ Err (At line kind)
+  pub config-marked : (told : Option (List ℕ)) (c : Cause) (printer : List ℕ) (line : ℕ) (kind : CfgKind) → NoMachine told c → Marked c → told ≡ Some printer → machine_of_text printer ≡ Err (At line kind)
       → ShowsMarked [] (cause.Config line kind) old new given shown
   config-marked told c printer line kind (inl x) w seen is =
       let same : cause.Config x.0 x.1 ≡ cause.Config line kind = (let e = sym (x.3 printer seen) ∙ is in cc) in
       own-marked (cause.Config line kind) c (x.2 ∙ same) w
   config-marked told c printer line kind (inr st) w seen is = any-marked [] (cause.Config line kind) c st w
 
-pub one-bed : (told : Option (List ℕ)) (x t : Mesh) (text : List ℕ) → IsMeshIn told x → told ≡ Some text → tables.reading text ≡ Ok t → x ≡ t
+pub one-bed : (told : Option (List ℕ)) (x t : Mesh) (text : List ℕ) → IsMeshIn told x → told ≡ Some text → tables.mesh_of_text text ≡ Ok t → x ≡ t
 one-bed told x t text is seen r = let q = sym (is text seen) ∙ r in cc
 
-pub no-bed : (told : Option (List ℕ)) (x : Mesh) (text : List ℕ) (line : ℕ) (kind : MeshKind) → IsMeshIn told x → told ≡ Some text → tables.reading text ≡ Err (fault.At line kind) → ⊥
+pub no-bed : (told : Option (List ℕ)) (x : Mesh) (text : List ℕ) (line : ℕ) (kind : MeshKind) → IsMeshIn told x → told ≡ Some text → tables.mesh_of_text text ≡ Err (fault.At line kind) → ⊥
 no-bed told x text line kind is seen r = let q = sym (is text seen) ∙ r in cc
 
 -- the file of a text that was read whole

@@ -6,7 +6,7 @@ use Rattle.std.proofs.lemmas.Bool.{cases_lt}
 use Rattle.std.proofs.lemmas.List.{take_all, length-take-le}
 use Rattle.std.proofs.lemmas.Bool.Decides.{nat_tests}
 use Rattle.cfg_lines.specs.declared.fault.CfgFault.TheVariants.{At}
-use Rattle.cfg_text.specs.Reading.{reading}
+use Rattle.cfg_text.specs.Reading.{machine_of_text}
 use Rattle.frame_dump.specs.declared.fault.TraceFault.TheVariants as fault
 use Rattle.frame_dump.specs.declared.trace.TraceTurn.{TraceTurn}
 use Rattle.frame_dump.specs.Traces as traces
@@ -21,7 +21,7 @@ use Rattle.plan_types.specs.Machines.{IsValidBoard}
 use Rattle.session_run.specs.declared.ended.Report.{Report}
 use Rattle.session_run.specs.Ends.{status_of}
 use Rattle.report_text.specs.Written.{WritesAll, WritesFront}
-use Rattle.host_cli.specs.Promises.{EndsFor, IsRefused}
+use Rattle.host_cli.specs.Promises.{EndsBeforeRun, IsRefused}
 use Rattle.session_run.specs.Reported.{GivenFor}
 use Rattle.host_cli.specs.Traffic.{EndsCleanly, IsTraceFault, IsTraceIn, IsTrafficText, ShowsTraffic, board_named, with_end}
 use Rattle.host_cli.proofs.Scened.{any-refused, for-refused}
@@ -44,15 +44,15 @@ front-both old mid new x y first second = λ before b.
 is-large-trace : (n : ℕ) → 16_777_216 < n → nat_lt 16_777_216 n ≡ true
 is-large-trace n h = grind (arith, nat_tests)
 
-pub trace-cut : (t : List ℕ) → traces.reading (take (16_777_216 + 1) t) ≡ traces.reading t
-unfolding traces.reading
+pub trace-cut : (t : List ℕ) → traces.trace_of_text (take (16_777_216 + 1) t) ≡ traces.trace_of_text t
+unfolding traces.trace_of_text
 trace-cut t = elim (cases_lt 16_777_216 (length t)) [
   | inl large ↦ (
       let count : length (take 16_777_217 t) ≡ 16_777_217 = length-take-le 16_777_217 t (omega arith) in
       let one = is-large-trace (length (take 16_777_217 t)) (omega arith) in
       let two = is-large-trace (length t) large in
       rw (one, two) refl)
-  | inr small ↦ ap traces.reading (take_all 16_777_217 t (omega arith))
+  | inr small ↦ ap traces.trace_of_text (take_all 16_777_217 t (omega arith))
 ]
 
 -- how a command ends that is refused
@@ -101,22 +101,22 @@ trace-unwritten told c (inr (inl x)) u = let q = sym u ∙ x in cc
 trace-unwritten told c (inr (inr x)) u = let q = sym u ∙ x in cc
 
 module _ (old new : Option (List ℕ)) (given : Cause) (shown : Report) where
-  pub trace-unread : (told : Option (List ℕ)) (c wanted : Cause) (text : List ℕ) (turns : List TraceTurn) → IsTraceFault told c → EndsFor c old new given shown → told ≡ Some text → traces.reading text ≡ Ok turns
+  pub trace-unread : (told : Option (List ℕ)) (c wanted : Cause) (text : List ℕ) (turns : List TraceTurn) → IsTraceFault told c → EndsBeforeRun c old new given shown → told ≡ Some text → traces.trace_of_text text ≡ Ok turns
       → IsRefused wanted old new given shown
   trace-unread told c wanted text turns (inl x) r t is = absurd (let q = sym is ∙ x.3 text t in cc)
   trace-unread told c wanted text turns (inr st) r t is = any-refused old new given shown wanted c st r
 
-  pub trace-refused : (told : Option (List ℕ)) (c : Cause) (text : List ℕ) (line : ℕ) (kind : TraceKind) → IsTraceFault told c → EndsFor c old new given shown → told ≡ Some text
-      → traces.reading text ≡ Err (fault.At line kind) → IsRefused (cause.Trace line kind) old new given shown
+  pub trace-refused : (told : Option (List ℕ)) (c : Cause) (text : List ℕ) (line : ℕ) (kind : TraceKind) → IsTraceFault told c → EndsBeforeRun c old new given shown → told ≡ Some text
+      → traces.trace_of_text text ≡ Err (fault.At line kind) → IsRefused (cause.Trace line kind) old new given shown
   trace-refused told c text line kind (inl x) r t is =
       let same : cause.Trace x.0 x.1 ≡ cause.Trace line kind = (let q = sym (x.3 text t) ∙ is in cc) in
       subst (λ d. IsRefused d old new given shown) (x.2 ∙ same) (for-refused old new given shown c r)
   trace-refused told c text line kind (inr st) r t is = any-refused old new given shown (cause.Trace line kind) c st r
 
-pub one-trace : (told : Option (List ℕ)) (x turns : List TraceTurn) (text : List ℕ) → IsTraceIn told x → told ≡ Some text → traces.reading text ≡ Ok turns → x ≡ turns
+pub one-trace : (told : Option (List ℕ)) (x turns : List TraceTurn) (text : List ℕ) → IsTraceIn told x → told ≡ Some text → traces.trace_of_text text ≡ Ok turns → x ≡ turns
 one-trace told x turns text is t r = let q = sym (is text t) ∙ r in cc
 
-pub no-trace : (told : Option (List ℕ)) (x : List TraceTurn) (text : List ℕ) (line : ℕ) (kind : TraceKind) → IsTraceIn told x → told ≡ Some text → traces.reading text ≡ Err (fault.At line kind) → ⊥
+pub no-trace : (told : Option (List ℕ)) (x : List TraceTurn) (text : List ℕ) (line : ℕ) (kind : TraceKind) → IsTraceIn told x → told ≡ Some text → traces.trace_of_text text ≡ Err (fault.At line kind) → ⊥
 no-trace told x text line kind is t r = let q = sym (is text t) ∙ r in cc
 
 pub one-board : (o : Option BoardDef) (x b : BoardDef) → o ≡ Some x → o ≡ Some b → x ≡ b

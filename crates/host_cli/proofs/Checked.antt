@@ -1,6 +1,6 @@
 -- The check of a log.
 use Rattle.std.proofs.Common.{◌≡◌, ◌≢◌, ◌∙◌, inl, inr, ℕ, ◌+◌, ◌≤◌, ◌<◌, List, Option, Some, sym, subst, All, length, get_or, arith}
-use Rattle.gcode_program.specs.Held.{ArePlannable, IsNear}
+use Rattle.gcode_program.specs.Held.{ArePlannable, IsShortOrNear}
 use Rattle.log_check.specs.Steps.{CanPlan}
 use Rattle.log_check.specs.Verdicts.{IsJudged}
 use Rattle.plan_types.specs.declared.cause.Cause.{Cause}
@@ -13,9 +13,9 @@ use Rattle.section_plan.proofs.Shorts.{short-move}
 use Rattle.host_cli.specs.Answers.{IsRunCause}
 
 -- sections of a text can be planned
-near-short : (moves : List Move) → All IsValidMove moves → All IsNear moves → All IsShortMove moves
+near-short : (moves : List Move) → All IsValidMove moves → All IsShortOrNear moves → All IsShortMove moves
 near-short moves valid near = λ k d lt. by-near (get_or moves k d) (valid k d lt) (near k d lt) where
-  by-near : (m : Move) → IsValidMove m → IsNear m → IsShortMove m
+  by-near : (m : Move) → IsValidMove m → IsShortOrNear m → IsShortMove m
   by-near m ok n = elim n [ inl reach ↦ short-move m ok reach | inr small ↦ record { valid = ok; short = omega (arith, small) } ]
 
 pub can_plan : (sections : List Section) → ArePlannable sections → CanPlan sections

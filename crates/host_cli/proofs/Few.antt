@@ -5,9 +5,9 @@ use Rattle.std.specs.List.{list_all}
 use Rattle.std.specs.Str.{bytes_eq}
 use Rattle.std.specs.Str.Parse.{digits_value}
 use Rattle.std.proofs.lemmas.Bool.Decides.{nat_tests}
-use Rattle.command_words.specs.Forms.{asked, check, dump, fan, form_of, form_of_three, form_of_two, is_name, is_numeral, make, make_of, mesh, moves_of, number_of, replay, run, scene, seed_of}
+use Rattle.command_words.specs.Forms.{asked, check, dump, fan, form_of, form_of_three, form_of_two, is_name, is_numeral, make, make_of, mesh, move_count, bounded_number, replay, run, scene, seed_of}
 
-number-few : (most limit : ℕ) (text : List ℕ) (n : ℕ) → number_of most limit text ≡ Some n → n ≤ limit
+number-few : (most limit : ℕ) (text : List ℕ) (n : ℕ) → bounded_number most limit text ≡ Some n → n ≤ limit
 number-few most limit text n e = by (is_numeral most text) (nat_le (digits_value 10 text) limit) refl e where
   by : (a b : Bool) → nat_le (digits_value 10 text) limit ≡ b → (if a && b then Some (digits_value 10 text) else None) ≡ Some n → n ≤ limit
   by true true small is = (let same : digits_value 10 text ≡ n = cc in let under : digits_value 10 text ≤ limit = grind (arith, nat_tests) in omega (arith, same, under))
@@ -21,9 +21,9 @@ made-few (Some s) (Some n) seed moves e = cc
 
 two-few : (w a b : List ℕ) (seed moves : ℕ) → form_of_two w a b ≡ Some (make seed moves) → moves ≤ 1_000_000
 two-few w a b seed moves e = by (bytes_eq w (codes "run")) (bytes_eq w (codes "make")) (bytes_eq w (codes "fan")) e where
-  by : (x y z : Bool) → (if x then Some (run a b) else (if y then make_of (seed_of a) (moves_of b) else (if z then Some (fan a b) else None))) ≡ Some (make seed moves) → moves ≤ 1_000_000
+  by : (x y z : Bool) → (if x then Some (run a b) else (if y then make_of (seed_of a) (move_count b) else (if z then Some (fan a b) else None))) ≡ Some (make seed moves) → moves ≤ 1_000_000
   by true y z is = absurd cc
-  by false true z is = number-few 7 1_000_000 b moves (made-few (seed_of a) (moves_of b) seed moves is)
+  by false true z is = number-few 7 1_000_000 b moves (made-few (seed_of a) (move_count b) seed moves is)
   by false false true is = absurd cc
   by false false false is = absurd cc
 

@@ -4,7 +4,7 @@ use Rattle.std.proofs.lemmas.List.Elements.{All-nil}
 use Rattle.io_core.specs.declared.traits.Files.{Ghosts as Files}
 use Rattle.io_core.specs.declared.traits.Sink.{Ghosts as Sink}
 use Rattle.cfg_lines.specs.declared.fault.CfgFault.TheVariants.{At}
-use Rattle.cfg_text.specs.Reading.{reading}
+use Rattle.cfg_text.specs.Reading.{machine_of_text}
 use Rattle.plan_types.specs.declared.cause.Cause.{Cause}
 use Rattle.plan_types.specs.declared.cause.Cause.TheVariants as cause
 use Rattle.plan_types.specs.declared.cause.CfgKind.{CfgKind}
@@ -18,7 +18,7 @@ use Rattle.wire_scene.specs.Valid.{IsValidEntry, IsValidScene, IsValidSwitch}
 use Rattle.host_cli.specs.Answers.{IsMachineFault}
 use Rattle.laws_report.specs.reports.Read.{no_scene}
 use Rattle.laws_report.specs.reports.Promises.{IsCauseOf}
-use Rattle.host_cli.specs.Promises.{EndsAlone, EndsFor, IsCut, IsRefused}
+use Rattle.host_cli.specs.Promises.{EndsAlone, EndsBeforeRun, IsCut, IsRefused}
 use Rattle.host_cli.specs.Scenes.{IsSceneFault, ShowsRun}
 
 -- memory was wanted, or a file can't be read
@@ -27,7 +27,7 @@ Stops c = (c ≡ cause.Memory) ⊎ (c ≡ cause.ReadFault)
 
 -- why a scene isn't there
 abbrev pub NoScene : Machine → Option (List ℕ) → Cause → Type 0
-NoScene m told c = ((line : ℕ) × (kind : SceneKind) × (c ≡ cause.Scene line kind) × ((text : List ℕ) → told ≡ Some text → scenes.reading m text ≡ Err (fault.At line kind))) ⊎ Stops c
+NoScene m told c = ((line : ℕ) × (kind : SceneKind) × (c ≡ cause.Scene line kind) × ((text : List ℕ) → told ≡ Some text → scenes.scene_of_text m text ≡ Err (fault.At line kind))) ⊎ Stops c
 
 pub no-scene : (m : Machine) (told : Option (List ℕ)) (c : Cause) → IsSceneFault m told c → NoScene m told c
 no-scene m told (cause.Scene line kind) h = inl (line, kind, refl, h)
@@ -52,7 +52,7 @@ no-scene m told (cause.Misfit line kind) h = absurd h
 
 -- why a machine isn't there
 abbrev pub NoMachine : Option (List ℕ) → Cause → Type 0
-NoMachine told c = ((line : ℕ) × (kind : CfgKind) × (c ≡ cause.Config line kind) × ((printer : List ℕ) → told ≡ Some printer → reading printer ≡ Err (At line kind))) ⊎ Stops c
+NoMachine told c = ((line : ℕ) × (kind : CfgKind) × (c ≡ cause.Config line kind) × ((printer : List ℕ) → told ≡ Some printer → machine_of_text printer ≡ Err (At line kind))) ⊎ Stops c
 
 pub no-machine : (told : Option (List ℕ)) (c : Cause) → IsMachineFault told c → NoMachine told c
 no-machine told (cause.Config line kind) h = inl (line, kind, refl, h)
@@ -77,19 +77,19 @@ no-machine told (cause.Misfit line kind) h = absurd h
 
 module _ (old new : Option (List ℕ)) (given : Cause) (shown : Report) where
   -- whatever was wanted, it is refused where it stops
-  pub stop-cut : (c : Cause) → Stops c → EndsFor c old new given shown → IsCut old new given shown
+  pub stop-cut : (c : Cause) → Stops c → EndsBeforeRun c old new given shown → IsCut old new given shown
   stop-cut c (inl m) (inl x) = inl (let E : Cause → Type 0 = λ d. EndsAlone d old new given shown in subst E m x)
   stop-cut c (inr r) (inl x) = inr (let E : Cause → Type 0 = λ d. EndsAlone d old new given shown in subst E r x)
   stop-cut c st (inr x) = inl x
 
-  pub any-refused : (wanted c : Cause) → Stops c → EndsFor c old new given shown → IsRefused wanted old new given shown
+  pub any-refused : (wanted c : Cause) → Stops c → EndsBeforeRun c old new given shown → IsRefused wanted old new given shown
   any-refused wanted c st r = inr (stop-cut c st r)
 
-  pub for-refused : (c : Cause) → EndsFor c old new given shown → IsRefused c old new given shown
+  pub for-refused : (c : Cause) → EndsBeforeRun c old new given shown → IsRefused c old new given shown
   for-refused c (inl x) = inl x
   for-refused c (inr x) = inr (inl x)
 
-  pub scene-refused : (m : Machine) (told : Option (List ℕ)) (c : Cause) (text : List ℕ) (line : ℕ) (kind : SceneKind) → NoScene m told c → EndsFor c old new given shown → told ≡ Some text → scenes.reading m text ≡ Err (fault.At line kind)
+  pub scene-refused : (m : Machine) (told : Option (List ℕ)) (c : Cause) (text : List ℕ) (line : ℕ) (kind : SceneKind) → NoScene m told c → EndsBeforeRun c old new given shown → told ≡ Some text → scenes.scene_of_text m text ≡ Err (fault.At line kind)
       → IsRefused (cause.Scene line kind) old new given shown
   scene-refused m told c text line kind (inl x) r t is =
       let same : cause.Scene x.0 x.1 ≡ cause.Scene line kind = (let e = sym (x.3 text t) ∙ is in cc) in
@@ -97,11 +97,11 @@ module _ (old new : Option (List ℕ)) (given : Cause) (shown : Report) where
   scene-refused m told c text line kind (inr st) r t is = any-refused (cause.Scene line kind) c st r
 
   -- no scene was looked at
-  pub machine-unread : (m : Machine) (told : Option (List ℕ)) (c wanted : Cause) (printer : List ℕ) → NoMachine told c → EndsFor c old new given shown → told ≡ Some printer → reading printer ≡ Ok m → IsRefused wanted old new given shown
+  pub machine-unread : (m : Machine) (told : Option (List ℕ)) (c wanted : Cause) (printer : List ℕ) → NoMachine told c → EndsBeforeRun c old new given shown → told ≡ Some printer → machine_of_text printer ≡ Ok m → IsRefused wanted old new given shown
   machine-unread m told c wanted printer (inl x) r t is = absurd (let e = sym is ∙ x.3 printer t in cc)
   machine-unread m told c wanted printer (inr st) r t is = any-refused wanted c st r
 
-  pub config-refused : (told : Option (List ℕ)) (c : Cause) (printer : List ℕ) (line : ℕ) (kind : CfgKind) → NoMachine told c → EndsFor c old new given shown → told ≡ Some printer → reading printer ≡ Err (At line kind)
+  pub config-refused : (told : Option (List ℕ)) (c : Cause) (printer : List ℕ) (line : ℕ) (kind : CfgKind) → NoMachine told c → EndsBeforeRun c old new given shown → told ≡ Some printer → machine_of_text printer ≡ Err (At line kind)
       → IsRefused (cause.Config line kind) old new given shown
   config-refused told c printer line kind (inl x) r t is =
       let same : cause.Config x.0 x.1 ≡ cause.Config line kind = (let e = sym (x.3 printer t) ∙ is in cc) in
@@ -109,16 +109,16 @@ module _ (old new : Option (List ℕ)) (given : Cause) (shown : Report) where
   config-refused told c printer line kind (inr st) r t is = any-refused (cause.Config line kind) c st r
 
 module _ {F S : Type 0} (f : Files F) (o : Sink S) (s : Scene) (gcode : List ℕ) (files files' : F) (out out' : S) (given : Cause) (shown : Report) where
-  pub stop-shows : (m : Machine) (c : Cause) → Stops c → EndsFor c (o.written out) (o.written out') given shown → ShowsRun f o m s gcode files files' out out' given shown
+  pub stop-shows : (m : Machine) (c : Cause) → Stops c → EndsBeforeRun c (o.written out) (o.written out') given shown → ShowsRun f o m s gcode files files' out out' given shown
   stop-shows m c st r = inr (stop-cut (o.written out) (o.written out') given shown c st r)
 
   -- of a scene that is read, nothing but a stop
-  pub scene-shows : (m : Machine) (told : Option (List ℕ)) (c : Cause) (text : List ℕ) → NoScene m told c → EndsFor c (o.written out) (o.written out') given shown → told ≡ Some text → scenes.reading m text ≡ Ok s
+  pub scene-shows : (m : Machine) (told : Option (List ℕ)) (c : Cause) (text : List ℕ) → NoScene m told c → EndsBeforeRun c (o.written out) (o.written out') given shown → told ≡ Some text → scenes.scene_of_text m text ≡ Ok s
       → ShowsRun f o m s gcode files files' out out' given shown
   scene-shows m told c text (inl x) r t is = absurd (let e = sym is ∙ x.3 text t in cc)
   scene-shows m told c text (inr st) r t is = stop-shows m c st r
 
-  pub machine-shows : (m : Machine) (told : Option (List ℕ)) (c : Cause) (printer : List ℕ) → NoMachine told c → EndsFor c (o.written out) (o.written out') given shown → told ≡ Some printer → reading printer ≡ Ok m
+  pub machine-shows : (m : Machine) (told : Option (List ℕ)) (c : Cause) (printer : List ℕ) → NoMachine told c → EndsBeforeRun c (o.written out) (o.written out') given shown → told ≡ Some printer → machine_of_text printer ≡ Ok m
       → ShowsRun f o m s gcode files files' out out' given shown
   machine-shows m told c printer (inl x) r t is = absurd (let e = sym is ∙ x.3 printer t in cc)
   machine-shows m told c printer (inr st) r t is = stop-shows m c st r
@@ -142,11 +142,11 @@ machine-named told c given n (inr (inr (inr e))) u = let y = sym u ∙ e in cc
 
 -- it is that of a configuration where this has the fault
 pub config-machine : (told : Option (List ℕ)) (c given : Cause) (printer : List ℕ) (line : ℕ) (kind : CfgKind) → NoMachine told c → (given ≢ cause.WriteFault → given ≢ cause.Memory → given ≡ c) → told ≡ Some printer → given ≡ cause.Config line kind
-    → reading printer ≡ Err (At line kind)
+    → machine_of_text printer ≡ Err (At line kind)
 config-machine told c given printer line kind n own t is =
     let at : c ≡ cause.Config line kind = sym (own (λ e. let y = sym is ∙ e in cc) (λ e. let y = sym is ∙ e in cc)) ∙ is in
     by n at where
-      by : NoMachine told c → c ≡ cause.Config line kind → reading printer ≡ Err (At line kind)
+      by : NoMachine told c → c ≡ cause.Config line kind → machine_of_text printer ≡ Err (At line kind)
       by (inl x) at =
           let same : cause.Config x.0 x.1 ≡ cause.Config line kind = sym x.2 ∙ at in
           let lines : x.0 ≡ line = (let y = same in cc) in
@@ -167,10 +167,10 @@ machine-unwritten told c (inr (inl x)) w = let y = sym w ∙ x in cc
 machine-unwritten told c (inr (inr x)) w = let y = sym w ∙ x in cc
 
 -- a text has one machine
-pub one-machine : (printer : List ℕ) (x m : Machine) → reading printer ≡ Ok x → reading printer ≡ Ok m → x ≡ m
+pub one-machine : (printer : List ℕ) (x m : Machine) → machine_of_text printer ≡ Ok x → machine_of_text printer ≡ Ok m → x ≡ m
 one-machine printer x m e h = let q = sym e ∙ h in cc
 
-pub one-scene : (m : Machine) (text : List ℕ) (x s : Scene) → scenes.reading m text ≡ Ok x → scenes.reading m text ≡ Ok s → x ≡ s
+pub one-scene : (m : Machine) (text : List ℕ) (x s : Scene) → scenes.scene_of_text m text ≡ Ok x → scenes.scene_of_text m text ≡ Ok s → x ≡ s
 one-scene m text x s e h = let q = sym e ∙ h in cc
 
 -- a scene in which nothing stands

@@ -10,7 +10,7 @@ use Rattle.io_core.specs.Faults.{Rose}
 use Rattle.host_cli.specs.Answers.{EndsWith, IsAnswer, IsCutShort, IsEnd, IsRefusal, IsRunCause}
 use Rattle.host_cli.specs.declared.answer.Answer.{Answer}
 use Rattle.laws_report.specs.reports.Promises.{IsCauseOf, WritesText}
-use Rattle.host_cli.specs.Promises.{EndsAlone, EndsAs, EndsFor, IsAlone, IsCut, IsRefused, ShowsAnswer}
+use Rattle.host_cli.specs.Promises.{EndsAlone, EndsAs, EndsBeforeRun, IsAlone, IsCut, IsRefused, ShowsAnswer}
 use Rattle.host_cli.specs.Traffic.{EndsCleanly}
 use Rattle.session_run.specs.declared.ended.Report.{Report}
 use Rattle.session_run.specs.Ends.{IsBare, status_of}
@@ -37,7 +37,7 @@ alone-cause c old new given shown x = by x.given_is where
   by (inr (inl e)) = inr (inl e)
   by (inr (inr e)) = ⊎_elim (λ m. inr (inl m)) (λ w. inr (inr (inr w))) (failed-as c given e)
 
-pub for-cause : (c : Cause) (old new : Option (List ℕ)) (given : Cause) (shown : Report) → EndsFor c old new given shown → IsCauseOf c given
+pub for-cause : (c : Cause) (old new : Option (List ℕ)) (given : Cause) (shown : Report) → EndsBeforeRun c old new given shown → IsCauseOf c given
 for-cause c old new given shown (inl x) = alone-cause c old new given shown x
 for-cause c old new given shown (inr x) = by (alone-cause cause.Memory old new given shown x) where
   by : IsCauseOf cause.Memory given → IsCauseOf c given
@@ -73,7 +73,7 @@ module _ (a : Answer) (shown : Report) (old new : Option (List ℕ)) (given : Ca
   cut-shown (inl is) = inl (end-shown cause.Memory is)
   cut-shown (inr is) = inr (end-shown cause.ReadFault is)
 
-  pub for-shown : (c : Cause) → EndsWith c a → EndsFor c old new given shown
+  pub for-shown : (c : Cause) → EndsWith c a → EndsBeforeRun c old new given shown
   for-shown c (inl is) = inl (end-shown c is)
   for-shown c (inr is) = inr (end-shown cause.Memory is)
 

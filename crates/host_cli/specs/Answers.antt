@@ -1,7 +1,7 @@
 -- What a command answers before its report is written.
 use Rattle.std.specs.Prelude.{◌≡◌, ◌⊎◌, ℕ, List, Option, Some, Ok, Err}
 use Rattle.cfg_lines.specs.declared.fault.CfgFault.TheVariants.{At}
-use Rattle.cfg_text.specs.Reading.{reading}
+use Rattle.cfg_text.specs.Reading.{machine_of_text}
 use Rattle.plan_types.specs.declared.cause.Cause.{Cause}
 use Rattle.plan_types.specs.declared.cause.Cause.TheVariants as cause
 use Rattle.plan_types.specs.declared.machine.Machine.{Machine}
@@ -28,7 +28,7 @@ IsRefusal c a = IsEnd c a ⊎ IsCutShort a
 
 -- an answer of some lines on a machine, which end with the line of a cause, and of nothing else; or one that
 -- is cut short
-pub record IsAnswered (m : Machine) (c : Cause) (wanted : List ReportLine) (a : Answer) : Type 0 where
+pub record IsAnswerOf (m : Machine) (c : Cause) (wanted : List ReportLine) (a : Answer) : Type 0 where
   pub machine : a.machine ≡ m
   pub cause : a.cause ≡ c
   pub lines : a.report.lines ≡ wanted
@@ -36,16 +36,16 @@ pub record IsAnswered (m : Machine) (c : Cause) (wanted : List ReportLine) (a : 
 
 -- an answer of some lines on a machine, with the cause that its last line tells, or one that is cut short
 abbrev pub IsAnswer : Machine → Cause → List ReportLine → Answer → Type 0
-IsAnswer m c wanted a = IsAnswered m c wanted a ⊎ IsCutShort a
+IsAnswer m c wanted a = IsAnswerOf m c wanted a ⊎ IsCutShort a
 
 -- the machine of a configuration, where its bytes are told
 abbrev pub IsMachineOf : Option (List ℕ) → Machine → Type 0
-IsMachineOf told m = (printer : List ℕ) → told ≡ Some printer → reading printer ≡ Ok m
+IsMachineOf told m = (printer : List ℕ) → told ≡ Some printer → machine_of_text printer ≡ Ok m
 
 -- the cause why a configuration has no machine: its first fault, where its bytes are told; or that it can't be read
 abbrev pub IsMachineFault : Option (List ℕ) → Cause → Type 0
 IsMachineFault told (cause.Config line kind) =
-    (printer : List ℕ) → told ≡ Some printer → reading printer ≡ Err (At line kind)
+    (printer : List ℕ) → told ≡ Some printer → machine_of_text printer ≡ Err (At line kind)
 IsMachineFault told cause.Memory = Unit {0}
 IsMachineFault told cause.ReadFault = Unit {0}
 IsMachineFault told other = ⊥
@@ -57,5 +57,5 @@ IsRunCause (cause.Config line kind) = ⊥
 IsRunCause other = Unit {0}
 
 -- an answer whose cause says that a machine was there
-abbrev pub IsRun : Answer → Type 0
-IsRun a = IsRunCause a.cause
+abbrev pub HasMachine : Answer → Type 0
+HasMachine a = IsRunCause a.cause

@@ -6,7 +6,7 @@ use Rattle.bed_mesh.specs.declared.mesh.Mesh.{Mesh}
 use Rattle.bed_mesh.specs.Tables as tables
 use Rattle.cfg_lines.specs.declared.fault.CfgFault.{CfgFault}
 use Rattle.cfg_lines.specs.declared.fault.CfgFault.TheVariants as config
-use Rattle.cfg_text.specs.Reading.{reading}
+use Rattle.cfg_text.specs.Reading.{machine_of_text}
 use Rattle.command_words.specs.Forms.{Asked, check, dump, fan, make, mesh, replay, run, scene}
 use Rattle.frame_dump.specs.declared.fault.TraceFault.{TraceFault}
 use Rattle.frame_dump.specs.declared.fault.TraceFault.TheVariants as trace
@@ -38,7 +38,7 @@ use Rattle.host_cli.specs.Checks.{ShowsCheck}
 use Rattle.host_cli.specs.Fans.{ShowsFan}
 use Rattle.laws_report.specs.reports.Read.{no_scene}
 use Rattle.host_cli.specs.Meshes.{ShowsMesh}
-use Rattle.host_cli.specs.Promises.{EndsFor, IsRefused}
+use Rattle.host_cli.specs.Promises.{EndsBeforeRun, IsRefused}
 use Rattle.host_cli.specs.Scenes.{ShowsRun}
 use Rattle.host_cli.specs.Traffic.{ShowsTraffic, board_named}
 use Rattle.host_cli.specs.Loads.{ShowsLoad}
@@ -99,7 +99,7 @@ module _ {F S L O : Type 0} (f : Files F) (o : Sink S) (loads : Files L) (sure :
 
   -- something of the machine of a configuration, or its first fault
   abbrev pub OnConfig : List ℕ → (Machine → Type 0) → Type 0
-  OnConfig config shows = Holding (f.told files config) (λ printer. OnMachine shows Refuses (reading printer))
+  OnConfig config shows = Holding (f.told files config) (λ printer. OnMachine shows Refuses (machine_of_text printer))
 
   -- a run of a G-code on a machine in a scene
   abbrev pub Runs : List ℕ → Machine → Scene → Type 0
@@ -109,7 +109,7 @@ module _ {F S L O : Type 0} (f : Files F) (o : Sink S) (loads : Files L) (sure :
   abbrev pub Does : Task → List ℕ → List ℕ → Machine → Type 0
   Does task name file m =
       OnThere (λ (b : BoardDef). Holding (f.told files file)
-      (λ text. OnTrace (λ turns. Shown (ShowsTraffic task b turns)) Refuses (traces.reading text)))
+      (λ text. OnTrace (λ turns. Shown (ShowsTraffic task b turns)) Refuses (traces.trace_of_text text)))
       (Refuses cause.NoBoard) (board_named name m.boards)
 
   -- a G-code over the bed of a table, or a first fault, as a comment
@@ -118,11 +118,11 @@ module _ {F S L O : Type 0} (f : Files F) (o : Sink S) (loads : Files L) (sure :
 
   -- What is answered, by what the words ask for. Of a file whose bytes are not told nothing is said.
   abbrev pub Answers : Option Asked → Type 0
-  Answers None = Shown (EndsFor cause.Usage)
+  Answers None = Shown (EndsBeforeRun cause.Usage)
   Answers (Some (run config gcode)) = OnConfig config (λ m. Runs gcode m no_scene)
   Answers (Some (scene config gcode file)) =
       OnConfig config
-      (λ m. Holding (f.told files file) (λ text. OnScene (Runs gcode m) Refuses (scene_text.reading m text)))
+      (λ m. Holding (f.told files file) (λ text. OnScene (Runs gcode m) Refuses (scene_text.scene_of_text m text)))
   Answers (Some (make seed moves)) = Shown (ShowsLoad loads sure seed moves)
   Answers (Some (fan config gcode)) =
       OnConfig config (λ m. OnThere
@@ -136,4 +136,4 @@ module _ {F S L O : Type 0} (f : Files F) (o : Sink S) (loads : Files L) (sure :
   Answers (Some (mesh config gcode table)) =
       Holding (f.told files config) (λ printer. OnMachine (λ m. Holding (f.told files table) (λ rows. OnBed
       (λ t. HoldingText (f.told files gcode) (λ text. Bends (mesh_code m t text) (cause_of (mesh_end m t text).stop)))
-      (Bends []) (tables.reading rows))) (Bends []) (reading printer))
+      (Bends []) (tables.mesh_of_text rows))) (Bends []) (machine_of_text printer))

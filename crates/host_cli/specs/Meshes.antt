@@ -46,12 +46,12 @@ ShowsMesh code c old new given r = ShowsMarked code c old new given r ⊎ EndsAl
 
 -- the bed of a table, where its bytes are told
 abbrev pub IsMeshIn : Option (List ℕ) → Mesh → Type 0
-IsMeshIn told t = (text : List ℕ) → told ≡ Some text → tables.reading text ≡ Ok t
+IsMeshIn told t = (text : List ℕ) → told ≡ Some text → tables.mesh_of_text text ≡ Ok t
 
 -- the cause why there is no bed: its table's first fault, where its bytes are told; or want of memory; or
 -- that it can't be read
 abbrev pub IsTableFault : Option (List ℕ) → Cause → Type 0
 IsTableFault told c =
     ((line : ℕ) × (kind : MeshKind) × (c ≡ cause.Mesh line kind)
-    × ((text : List ℕ) → told ≡ Some text → tables.reading text ≡ Err (fault.At line kind)))
+    × ((text : List ℕ) → told ≡ Some text → tables.mesh_of_text text ≡ Err (fault.At line kind)))
     ⊎ ((c ≡ cause.Memory) ⊎ (c ≡ cause.ReadFault))

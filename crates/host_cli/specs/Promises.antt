@@ -43,8 +43,8 @@ abbrev pub IsCut : Option (List ℕ) → Option (List ℕ) → Cause → Report 
 IsCut old new given r = EndsAlone cause.Memory old new given r ⊎ EndsAlone cause.ReadFault old new given r
 
 -- one of the cause for which nothing is run; or of want of memory
-abbrev pub EndsFor : Cause → Option (List ℕ) → Option (List ℕ) → Cause → Report → Type 0
-EndsFor wanted old new given r = EndsAlone wanted old new given r ⊎ EndsAlone cause.Memory old new given r
+abbrev pub EndsBeforeRun : Cause → Option (List ℕ) → Option (List ℕ) → Cause → Report → Type 0
+EndsBeforeRun wanted old new given r = EndsAlone wanted old new given r ⊎ EndsAlone cause.Memory old new given r
 
 -- or also of a file that can't be read
 abbrev pub IsRefused : Cause → Option (List ℕ) → Option (List ℕ) → Cause → Report → Type 0

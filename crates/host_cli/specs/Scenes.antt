@@ -23,12 +23,12 @@ ShowsRun {F} f o m s gcode files files' out out' c r =
 
 -- the scene of a text for a machine, where its bytes are told
 abbrev pub IsSceneIn : Machine → Option (List ℕ) → Scene → Type 0
-IsSceneIn m told s = (text : List ℕ) → told ≡ Some text → scenes.reading m text ≡ Ok s
+IsSceneIn m told s = (text : List ℕ) → told ≡ Some text → scenes.scene_of_text m text ≡ Ok s
 
 -- the cause why there is no scene: its first fault, where its bytes are told; or that it can't be read
 abbrev pub IsSceneFault : Machine → Option (List ℕ) → Cause → Type 0
 IsSceneFault m told (cause.Scene line kind) =
-    (text : List ℕ) → told ≡ Some text → scenes.reading m text ≡ Err (fault.At line kind)
+    (text : List ℕ) → told ≡ Some text → scenes.scene_of_text m text ≡ Err (fault.At line kind)
 IsSceneFault m told cause.Memory = Unit {0}
 IsSceneFault m told cause.ReadFault = Unit {0}
 IsSceneFault m told other = ⊥

@@ -59,14 +59,14 @@ ShowsTraffic task b turns old new given r = WritesTraffic task b turns old new g
 
 -- the trace of a text, where its bytes are told
 abbrev pub IsTraceIn : Option (List ℕ) → List TraceTurn → Type 0
-IsTraceIn told turns = (text : List ℕ) → told ≡ Some text → traces.reading text ≡ Ok turns
+IsTraceIn told turns = (text : List ℕ) → told ≡ Some text → traces.trace_of_text text ≡ Ok turns
 
 -- the cause why there is no trace: its first fault, where its bytes are told; or want of memory; or that it
 -- can't be read
 abbrev pub IsTraceFault : Option (List ℕ) → Cause → Type 0
 IsTraceFault told c =
     ((line : ℕ) × (kind : TraceKind) × (c ≡ cause.Trace line kind)
-    × ((text : List ℕ) → told ≡ Some text → traces.reading text ≡ Err (fault.At line kind)))
+    × ((text : List ℕ) → told ≡ Some text → traces.trace_of_text text ≡ Err (fault.At line kind)))
     ⊎ ((c ≡ cause.Memory) ⊎ (c ≡ cause.ReadFault))
 
 -- the cause of a command and its status, and that faults are told only where they were counted, before and behind it

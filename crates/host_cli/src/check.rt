@@ -2,13 +2,13 @@
 
 ghost use Rattle.std.specs.Prelude.{◌≡◌, ◌≢◌, ℕ, ◌<◌, ◌^◌, List, Some, Ok, Err, IfOk, length};
 ghost use Rattle.cfg_lines.specs.declared.fault.CfgFault.TheVariants.{At};
-ghost use Rattle.cfg_text.specs.Reading.{reading};
+ghost use Rattle.cfg_text.specs.Reading.{machine_of_text};
 ghost use Rattle.io_core.specs.Faults.{Rose};
 ghost use Rattle.log_check.specs.Verdicts.{IsJudged};
 ghost use Rattle.plan_types.specs.declared.cause.CfgKind.{CfgKind};
 ghost use Rattle.plan_types.specs.declared.machine.Machine.{Machine};
 ghost use Rattle.plan_types.specs.Machines.{IsValidMachine};
-ghost use Rattle.host_cli.specs.Answers.{IsRefusal, IsRun};
+ghost use Rattle.host_cli.specs.Answers.{IsRefusal, HasMachine};
 ghost use Rattle.laws_report.specs.reports.Checks.{check_cause, check_lines};
 ghost use Rattle.host_cli.specs.Checks.{IsCheckAnswer, ShowsCheck};
 ghost use Rattle.host_cli.specs.Promises.{IsRefused};
@@ -42,7 +42,7 @@ fn check_text(alloc: Global, machine: Machine, text: &[u8], log: &[u8]) -> Answe
     requires machine { IsValidMachine machine }
     requires size { length log.now < 2 ^ 63 }
     ensures answer { IsCheckAnswer machine text.now log.now result }
-    ensures configured { IsRun result }
+    ensures configured { HasMachine result }
     ensures no_read { result.cause ≢ Cause.ReadFault }
     ensures no_write { result.cause ≢ Cause.WriteFault }
 {
@@ -67,7 +67,7 @@ fn check_file<F: Files>(
     requires { IsValidMachine machine }
     ensures answer { (text log : List ℕ) → F.told files.old gcode.now ≡ Some text → length text < 2 ^ 62 →
         F.told files.old report.now ≡ Some log → length log < 2 ^ 62 → IsCheckAnswer machine text log result }
-    ensures configured { IsRun result }
+    ensures configured { HasMachine result }
     ensures no_write { result.cause ≢ Cause.WriteFault }
     ensures read { result.cause ≡ Cause.ReadFault → Rose (F.faults files.old) (F.faults files.new) }
     ensures quiet { result.cause ≢ Cause.ReadFault → result.cause ≢ Cause.Memory →
@@ -94,10 +94,10 @@ pub fn check_files<F: Files>(
     report: &str,
 ) -> Answer
     ensures answer { (printer text log : List ℕ) (m : Machine) → F.told files.old config.now ≡ Some printer →
-        reading printer ≡ Ok m → F.told files.old gcode.now ≡ Some text → length text < 2 ^ 62 →
+        machine_of_text printer ≡ Ok m → F.told files.old gcode.now ≡ Some text → length text < 2 ^ 62 →
         F.told files.old report.now ≡ Some log → length log < 2 ^ 62 → IsCheckAnswer m text log result }
     ensures config { (printer : List ℕ) (line : ℕ) (kind : CfgKind) → F.told files.old config.now ≡ Some printer →
-        reading printer ≡ Err (At line kind) → IsRefusal (Cause.Config line kind) result }
+        machine_of_text printer ≡ Err (At line kind) → IsRefusal (Cause.Config line kind) result }
     ensures not_usage { result.cause ≢ Cause.Usage }
     ensures no_write { result.cause ≢ Cause.WriteFault }
     ensures read { result.cause ≡ Cause.ReadFault → Rose (F.faults files.old) (F.faults files.new) }
@@ -120,11 +120,11 @@ pub fn run_check<F: Files, S: Sink>(
     out: &mut S,
 ) -> Ended
     ensures shows { (printer text log : List ℕ) (m : Machine) → F.told files.old config.now ≡ Some printer →
-        reading printer ≡ Ok m → F.told files.old gcode.now ≡ Some text → length text < 2 ^ 62 →
+        machine_of_text printer ≡ Ok m → F.told files.old gcode.now ≡ Some text → length text < 2 ^ 62 →
         F.told files.old report.now ≡ Some log → length log < 2 ^ 62 →
         ShowsCheck m text log (S.written out.old) (S.written out.new) result.cause result.report }
     ensures config { (printer : List ℕ) (line : ℕ) (kind : CfgKind) → F.told files.old config.now ≡ Some printer →
-        reading printer ≡ Err (At line kind) →
+        machine_of_text printer ≡ Err (At line kind) →
         IsRefused (Cause.Config line kind) (S.written out.old) (S.written out.new) result.cause result.report }
     ensures ends { EndsCleanly (F.faults files.old) (F.faults files.new) (S.faults out.old) (S.faults out.new)
         result.status result.cause }

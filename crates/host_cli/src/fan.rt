@@ -2,14 +2,14 @@
 
 ghost use Rattle.std.specs.Prelude.{◌≡◌, ◌≢◌, ◌++◌, ℕ, ◌/◌, ◌<◌, ◌≤◌, ◌^◌, List, Some, None, Ok, Err, IfOk, OnOk, length, map};
 ghost use Rattle.cfg_lines.specs.declared.fault.CfgFault.TheVariants.{At};
-ghost use Rattle.cfg_text.specs.Reading.{reading};
+ghost use Rattle.cfg_text.specs.Reading.{machine_of_text};
 ghost use Rattle.gcode_program.specs.Programs.{program_end};
 ghost use Rattle.io_core.specs.Faults.{Rose};
 ghost use Rattle.plan_types.specs.declared.cause.CfgKind.{CfgKind};
 ghost use Rattle.plan_types.specs.declared.machine.FanDef.{FanDef};
 ghost use Rattle.plan_types.specs.declared.machine.Machine.{Machine};
 ghost use Rattle.plan_types.specs.Machines.{IsValidMachine, board_at};
-ghost use Rattle.host_cli.specs.Answers.{EndsWith, IsRefusal, IsRun};
+ghost use Rattle.host_cli.specs.Answers.{EndsWith, IsRefusal, HasMachine};
 ghost use Rattle.laws_report.specs.reports.Body.{cause_of};
 ghost use Rattle.host_cli.specs.Fans.{IsFanAnswer, ShowsFan, fan_lines, out_line};
 ghost use Rattle.host_cli.specs.Promises.{IsRefused};
@@ -94,7 +94,7 @@ fn fan_of_text(alloc: Global, machine: Machine, fan: FanDef, text: &[u8]) -> Ans
     ensures answer { IsFanAnswer machine fan text.now result }
     ensures no_read { result.cause ≢ Cause.ReadFault }
     ensures no_write { result.cause ≢ Cause.WriteFault }
-    ensures configured { IsRun result }
+    ensures configured { HasMachine result }
 {
     match fan_report(alloc, &machine, fan, text) {
         Ok(FanReport { cause, lines }) => Answer {
@@ -112,7 +112,7 @@ fn fan_of_file<F: Files>(alloc: Global, machine: Machine, files: &mut F, name: &
     ensures answer { (f : FanDef) (text : List ℕ) → machine.fan ≡ Some f → F.told files.old name.now ≡ Some text →
         length text < 2 ^ 62 → IsFanAnswer machine f text result }
     ensures no_fan { machine.fan ≡ None → IsRefusal Cause.NoFan result }
-    ensures configured { IsRun result }
+    ensures configured { HasMachine result }
     ensures no_write { result.cause ≢ Cause.WriteFault }
     ensures read { result.cause ≡ Cause.ReadFault → Rose (F.faults files.old) (F.faults files.new) }
     ensures quiet { result.cause ≢ Cause.ReadFault → result.cause ≢ Cause.Memory →
@@ -131,12 +131,13 @@ fn fan_of_file<F: Files>(alloc: Global, machine: Machine, files: &mut F, name: &
 /// The fan of a file of G-code on the machine of a configuration.
 pub fn fan_of_files<F: Files>(alloc: Global, files: &mut F, config: &str, gcode: &str) -> Answer
     ensures answer { (printer text : List ℕ) (m : Machine) (f : FanDef) → F.told files.old config.now ≡ Some printer →
-        reading printer ≡ Ok m → m.fan ≡ Some f → F.told files.old gcode.now ≡ Some text → length text < 2 ^ 62 →
+        machine_of_text printer ≡ Ok m → m.fan ≡ Some f → F.told files.old gcode.now ≡ Some text →
+        length text < 2 ^ 62 →
         IsFanAnswer m f text result }
     ensures no_fan { (printer : List ℕ) (m : Machine) → F.told files.old config.now ≡ Some printer →
-        reading printer ≡ Ok m → m.fan ≡ None → IsRefusal Cause.NoFan result }
+        machine_of_text printer ≡ Ok m → m.fan ≡ None → IsRefusal Cause.NoFan result }
     ensures config { (printer : List ℕ) (line : ℕ) (kind : CfgKind) → F.told files.old config.now ≡ Some printer →
-        reading printer ≡ Err (At line kind) → IsRefusal (Cause.Config line kind) result }
+        machine_of_text printer ≡ Err (At line kind) → IsRefusal (Cause.Config line kind) result }
     ensures not_usage { result.cause ≢ Cause.Usage }
     ensures no_write { result.cause ≢ Cause.WriteFault }
     ensures read { result.cause ≡ Cause.ReadFault → Rose (F.faults files.old) (F.faults files.new) }
@@ -158,13 +159,14 @@ pub fn run_fan<F: Files, S: Sink>(
     out: &mut S,
 ) -> Ended
     ensures shows { (printer text : List ℕ) (m : Machine) (f : FanDef) → F.told files.old config.now ≡ Some printer →
-        reading printer ≡ Ok m → m.fan ≡ Some f → F.told files.old gcode.now ≡ Some text → length text < 2 ^ 62 →
+        machine_of_text printer ≡ Ok m → m.fan ≡ Some f → F.told files.old gcode.now ≡ Some text →
+        length text < 2 ^ 62 →
         ShowsFan m f text (S.written out.old) (S.written out.new) result.cause result.report }
     ensures no_fan { (printer : List ℕ) (m : Machine) → F.told files.old config.now ≡ Some printer →
-        reading printer ≡ Ok m → m.fan ≡ None →
+        machine_of_text printer ≡ Ok m → m.fan ≡ None →
         IsRefused Cause.NoFan (S.written out.old) (S.written out.new) result.cause result.report }
     ensures config { (printer : List ℕ) (line : ℕ) (kind : CfgKind) → F.told files.old config.now ≡ Some printer →
-        reading printer ≡ Err (At line kind) →
+        machine_of_text printer ≡ Err (At line kind) →
         IsRefused (Cause.Config line kind) (S.written out.old) (S.written out.new) result.cause result.report }
     ensures ends { EndsCleanly (F.faults files.old) (F.faults files.new) (S.faults out.old) (S.faults out.new)
         result.status result.cause }

@@ -1,7 +1,7 @@
 //! A load that is made from a seed and run: how many pulses each stepper made.
 
 ghost use Rattle.std.specs.Prelude.{◌≡◌, ◌≢◌, ◌≤◌, ◌++◌, IfOk, OnOk, false, length};
-ghost use Rattle.host_cli.specs.Answers.{IsRun, IsRunCause};
+ghost use Rattle.host_cli.specs.Answers.{HasMachine, IsRunCause};
 ghost use Rattle.host_cli.specs.Counts.{count_lines, summary};
 ghost use Rattle.host_cli.specs.Loads.{IsLoadAnswer, ShowsLoad};
 ghost use Rattle.io_core.specs.Faults.{Rose};
@@ -72,7 +72,7 @@ fn counted_load<R: Threads + Wait + Sync, G: Gate + Sync>(
 ) -> Result<Answer, AllocError>
     requires few { moves ≤ 1_000_000 }
     ensures load { IfOk result (λ a. IsLoadAnswer ⟦<LoadFiles as Files>⟧ ⟦<SureSink as Sink>⟧ seed moves a) }
-    ensures configured { IfOk result (λ a. IsRun a) }
+    ensures configured { IfOk result (λ a. HasMachine a) }
     ensures no_read { IfOk result (λ a. a.cause ≢ Cause.ReadFault) }
     ensures no_write { IfOk result (λ a. a.cause ≢ Cause.WriteFault) }
 {

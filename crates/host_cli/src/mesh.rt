@@ -6,7 +6,7 @@ ghost use Rattle.bed_mesh.specs.declared.mesh.Mesh.{Mesh};
 ghost use Rattle.bed_mesh.specs.Grids.{IsValidMesh};
 ghost use Rattle.bed_mesh.specs.Tables as tables;
 ghost use Rattle.cfg_lines.specs.declared.fault.CfgFault.TheVariants.{At};
-ghost use Rattle.cfg_text.specs.Reading.{reading};
+ghost use Rattle.cfg_text.specs.Reading.{machine_of_text};
 ghost use Rattle.io_core.specs.Faults.{Rose};
 ghost use Rattle.plan_types.specs.declared.cause.CfgKind.{CfgKind};
 ghost use Rattle.plan_types.specs.declared.cause.MeshKind.{MeshKind};
@@ -162,11 +162,11 @@ fn on_machine<F: Files, S: Sink>(
 ) -> Ended
     requires { IsValidMachine machine.now }
     ensures shows { (rows text : List ℕ) (t : Mesh) → F.told files.old words.now.table.now ≡ Some rows →
-        tables.reading rows ≡ Ok t → F.told files.old words.now.gcode.now ≡ Some text → length text < 2 ^ 62 →
+        tables.mesh_of_text rows ≡ Ok t → F.told files.old words.now.gcode.now ≡ Some text → length text < 2 ^ 62 →
         ShowsMarked (mesh_code machine.now t text) (cause_of (mesh_end machine.now t text).stop) (S.written out.old)
         (S.written out.new) result.cause result.report }
     ensures table { (rows : List ℕ) (line : ℕ) (kind : MeshKind) → F.told files.old words.now.table.now ≡ Some rows →
-        tables.reading rows ≡ Err (fault.At line kind) →
+        tables.mesh_of_text rows ≡ Err (fault.At line kind) →
         ShowsMarked [] (Cause.Mesh line kind) (S.written out.old) (S.written out.new) result.cause result.report }
     ensures ends { EndsCleanly (F.faults files.old) (F.faults files.new) (S.faults out.old) (S.faults out.new)
         result.status result.cause }
@@ -185,17 +185,17 @@ pub fn run_mesh<F: Files, S: Sink>(
     out: &mut S,
 ) -> Ended
     ensures shows { (printer rows text : List ℕ) (m : Machine) (t : Mesh) →
-        F.told files.old words.now.config.now ≡ Some printer → reading printer ≡ Ok m →
-        F.told files.old words.now.table.now ≡ Some rows → tables.reading rows ≡ Ok t →
+        F.told files.old words.now.config.now ≡ Some printer → machine_of_text printer ≡ Ok m →
+        F.told files.old words.now.table.now ≡ Some rows → tables.mesh_of_text rows ≡ Ok t →
         F.told files.old words.now.gcode.now ≡ Some text → length text < 2 ^ 62 →
         ShowsMarked (mesh_code m t text) (cause_of (mesh_end m t text).stop) (S.written out.old) (S.written out.new)
         result.cause result.report }
     ensures table { (printer rows : List ℕ) (m : Machine) (line : ℕ) (kind : MeshKind) →
-        F.told files.old words.now.config.now ≡ Some printer → reading printer ≡ Ok m →
-        F.told files.old words.now.table.now ≡ Some rows → tables.reading rows ≡ Err (fault.At line kind) →
+        F.told files.old words.now.config.now ≡ Some printer → machine_of_text printer ≡ Ok m →
+        F.told files.old words.now.table.now ≡ Some rows → tables.mesh_of_text rows ≡ Err (fault.At line kind) →
         ShowsMarked [] (Cause.Mesh line kind) (S.written out.old) (S.written out.new) result.cause result.report }
     ensures config { (printer : List ℕ) (line : ℕ) (kind : CfgKind) →
-        F.told files.old words.now.config.now ≡ Some printer → reading printer ≡ Err (At line kind) →
+        F.told files.old words.now.config.now ≡ Some printer → machine_of_text printer ≡ Err (At line kind) →
         ShowsMarked [] (Cause.Config line kind) (S.written out.old) (S.written out.new) result.cause result.report }
     ensures ends { EndsCleanly (F.faults files.old) (F.faults files.new) (S.faults out.old) (S.faults out.new)
         result.status result.cause }

@@ -3,11 +3,11 @@
 
 ghost use Rattle.std.specs.Prelude.{◌≡◌, ◌≢◌, ◌⊎◌, ℕ, List, Some, Ok, Err, IfOk, IfErr, IfSome, OnOk, OnErr, map, string_bytes};
 ghost use Rattle.cfg_lines.specs.declared.fault.CfgFault.TheVariants.{At};
-ghost use Rattle.cfg_text.specs.Reading.{reading};
+ghost use Rattle.cfg_text.specs.Reading.{machine_of_text};
 ghost use Rattle.laws_board.specs.causes.Short.{HaveShortDictionaries};
 ghost use Rattle.host_cli.specs.Answers.{IsRunCause};
 ghost use Rattle.laws_report.specs.reports.Read.{IsSceneFor, no_scene};
-ghost use Rattle.host_cli.specs.Promises.{EndsFor, IsRefused};
+ghost use Rattle.host_cli.specs.Promises.{EndsBeforeRun, IsRefused};
 ghost use Rattle.host_cli.specs.Scenes.{IsSceneFault, IsSceneIn, ShowsRun};
 ghost use Rattle.io_core.specs.Faults.{Rose};
 ghost use Rattle.plan_types.specs.declared.cause.CfgKind.{CfgKind};
@@ -110,7 +110,7 @@ fn run_found<R: Threads + Wait + Sync, F: Files, S: Sink, G: Gate + Sync>(
 
 /// An end line alone, of a run that isn't begun.
 pub fn refuse<S: Sink>(alloc: Global, cause: Cause, out: &mut S) -> Ended
-    ensures refused { EndsFor cause (S.written out.old) (S.written out.new) result.cause result.report }
+    ensures refused { EndsBeforeRun cause (S.written out.old) (S.written out.new) result.cause result.report }
     ensures own { result.cause ≢ Cause.WriteFault → result.cause ≢ Cause.Memory → result.cause ≡ cause }
     ensures status { result.status ≡ status_of result.cause }
     ensures write { cause ≢ Cause.WriteFault → result.cause ≡ Cause.WriteFault →
@@ -176,10 +176,10 @@ fn run_in<R: Threads + Wait + Sync, F: Files, S: Sink, G: Gate + Sync>(
 ) -> Ended
     requires machine { IsValidMachine machine.now }
     ensures shows { (text : List ℕ) (s : Scene) → F.told files.old scene.now ≡ Some text →
-        scenes.reading machine.now text ≡ Ok s → HaveShortDictionaries machine.now →
+        scenes.scene_of_text machine.now text ≡ Ok s → HaveShortDictionaries machine.now →
         ShowsRun F.Files S.Sink machine.now s gcode.now files.old files.new out.old out.new result.cause result.report }
     ensures scene { (text : List ℕ) (line : ℕ) (kind : SceneKind) → F.told files.old scene.now ≡ Some text →
-        scenes.reading machine.now text ≡ Err (fault.At line kind) →
+        scenes.scene_of_text machine.now text ≡ Err (fault.At line kind) →
         IsRefused (Cause.Scene line kind) (S.written out.old) (S.written out.new) result.cause result.report }
     ensures not_usage { result.cause ≢ Cause.Usage }
     ensures status { result.status ≡ status_of result.cause }
@@ -206,14 +206,15 @@ pub fn run_scene<R: Threads + Wait + Sync, F: Files, S: Sink, G: Gate + Sync>(
     out: &mut S,
 ) -> Ended
     ensures shows { (printer text : List ℕ) (m : Machine) (s : Scene) → F.told files.old config.now ≡ Some printer →
-        F.told files.old scene.now ≡ Some text → reading printer ≡ Ok m → scenes.reading m text ≡ Ok s →
+        F.told files.old scene.now ≡ Some text → machine_of_text printer ≡ Ok m → scenes.scene_of_text m text ≡ Ok s →
         ShowsRun F.Files S.Sink m s gcode.now files.old files.new out.old out.new result.cause result.report }
     ensures scene { (printer text : List ℕ) (m : Machine) (line : ℕ) (kind : SceneKind) →
-        F.told files.old config.now ≡ Some printer → F.told files.old scene.now ≡ Some text → reading printer ≡ Ok m →
-        scenes.reading m text ≡ Err (fault.At line kind) →
+        F.told files.old config.now ≡ Some printer → F.told files.old scene.now ≡ Some text →
+        machine_of_text printer ≡ Ok m →
+        scenes.scene_of_text m text ≡ Err (fault.At line kind) →
         IsRefused (Cause.Scene line kind) (S.written out.old) (S.written out.new) result.cause result.report }
     ensures config { (printer : List ℕ) (line : ℕ) (kind : CfgKind) → F.told files.old config.now ≡ Some printer →
-        reading printer ≡ Err (At line kind) →
+        machine_of_text printer ≡ Err (At line kind) →
         IsRefused (Cause.Config line kind) (S.written out.old) (S.written out.new) result.cause result.report }
     ensures not_usage { result.cause ≢ Cause.Usage }
     ensures status { result.status ≡ status_of result.cause }
@@ -239,13 +240,13 @@ pub fn run_plain<R: Threads + Wait + Sync, F: Files, S: Sink, G: Gate + Sync>(
     out: &mut S,
 ) -> Ended
     ensures shows { (printer : List ℕ) (m : Machine) → F.told files.old config.now ≡ Some printer →
-        reading printer ≡ Ok m →
+        machine_of_text printer ≡ Ok m →
         ShowsRun F.Files S.Sink m no_scene gcode.now files.old files.new out.old out.new result.cause result.report }
     ensures config { (printer : List ℕ) (line : ℕ) (kind : CfgKind) → F.told files.old config.now ≡ Some printer →
-        reading printer ≡ Err (At line kind) →
+        machine_of_text printer ≡ Err (At line kind) →
         IsRefused (Cause.Config line kind) (S.written out.old) (S.written out.new) result.cause result.report }
     ensures config_only { (printer : List ℕ) (line : ℕ) (kind : CfgKind) → F.told files.old config.now ≡ Some printer →
-        result.cause ≡ Cause.Config line kind → reading printer ≡ Err (At line kind) }
+        result.cause ≡ Cause.Config line kind → machine_of_text printer ≡ Err (At line kind) }
     ensures not_usage { result.cause ≢ Cause.Usage }
     ensures status { result.status ≡ status_of result.cause }
     ensures read { result.cause ≡ Cause.ReadFault → Rose (F.faults files.old) (F.faults files.new) }

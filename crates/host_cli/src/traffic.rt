@@ -2,7 +2,7 @@
 
 ghost use Rattle.std.specs.Prelude.{◌≡◌, ◌≢◌, ◌⊎◌, ℕ, ◌++◌, ◌<◌, All, List, Some, None, Ok, Err, IfOk, IfErr, IfSome, IfNone, OnOk, OnErr, codes};
 ghost use Rattle.cfg_lines.specs.declared.fault.CfgFault.TheVariants.{At};
-ghost use Rattle.cfg_text.specs.Reading.{reading};
+ghost use Rattle.cfg_text.specs.Reading.{machine_of_text};
 ghost use Rattle.frame_dump.specs.declared.fault.TraceFault.TheVariants as fault;
 ghost use Rattle.frame_dump.specs.declared.trace.TraceTurn.{TraceTurn};
 ghost use Rattle.frame_dump.specs.Traces as traces;
@@ -173,10 +173,10 @@ fn run_board<F: Files, S: Sink>(
 ) -> Ended
     requires { IsValidBoard board.now }
     ensures shows { (text : List ℕ) (turns : List TraceTurn) → F.told files.old trace.now ≡ Some text →
-        traces.reading text ≡ Ok turns →
+        traces.trace_of_text text ≡ Ok turns →
         ShowsTraffic task board.now turns (S.written out.old) (S.written out.new) result.cause result.report }
     ensures trace { (text : List ℕ) (line : ℕ) (kind : TraceKind) → F.told files.old trace.now ≡ Some text →
-        traces.reading text ≡ Err (fault.At line kind) →
+        traces.trace_of_text text ≡ Err (fault.At line kind) →
         IsRefused (Cause.Trace line kind) (S.written out.old) (S.written out.new) result.cause result.report }
     ensures ends { EndsCleanly (F.faults files.old) (F.faults files.new) (S.faults out.old) (S.faults out.new)
         result.status result.cause }
@@ -205,11 +205,11 @@ fn run_machine<F: Files, S: Sink>(
     requires { IsValidMachine machine.now }
     ensures shows { (b : BoardDef) (text : List ℕ) (turns : List TraceTurn) →
         specs.board_named words.now.board.now machine.now.boards ≡ Some b →
-        F.told files.old words.now.trace.now ≡ Some text → traces.reading text ≡ Ok turns →
+        F.told files.old words.now.trace.now ≡ Some text → traces.trace_of_text text ≡ Ok turns →
         ShowsTraffic words.now.task b turns (S.written out.old) (S.written out.new) result.cause result.report }
     ensures trace { (b : BoardDef) (text : List ℕ) (line : ℕ) (kind : TraceKind) →
         specs.board_named words.now.board.now machine.now.boards ≡ Some b →
-        F.told files.old words.now.trace.now ≡ Some text → traces.reading text ≡ Err (fault.At line kind) →
+        F.told files.old words.now.trace.now ≡ Some text → traces.trace_of_text text ≡ Err (fault.At line kind) →
         IsRefused (Cause.Trace line kind) (S.written out.old) (S.written out.new) result.cause result.report }
     ensures no_board { specs.board_named words.now.board.now machine.now.boards ≡ None →
         IsRefused Cause.NoBoard (S.written out.old) (S.written out.new) result.cause result.report }
@@ -230,20 +230,20 @@ pub fn run_traffic<F: Files, S: Sink>(
     out: &mut S,
 ) -> Ended
     ensures shows { (printer : List ℕ) (m : Machine) (b : BoardDef) (text : List ℕ) (turns : List TraceTurn) →
-        F.told files.old words.now.config.now ≡ Some printer → reading printer ≡ Ok m →
+        F.told files.old words.now.config.now ≡ Some printer → machine_of_text printer ≡ Ok m →
         specs.board_named words.now.board.now m.boards ≡ Some b → F.told files.old words.now.trace.now ≡ Some text →
-        traces.reading text ≡ Ok turns →
+        traces.trace_of_text text ≡ Ok turns →
         ShowsTraffic words.now.task b turns (S.written out.old) (S.written out.new) result.cause result.report }
     ensures trace { (printer : List ℕ) (m : Machine) (b : BoardDef) (text : List ℕ) (line : ℕ) (kind : TraceKind) →
-        F.told files.old words.now.config.now ≡ Some printer → reading printer ≡ Ok m →
+        F.told files.old words.now.config.now ≡ Some printer → machine_of_text printer ≡ Ok m →
         specs.board_named words.now.board.now m.boards ≡ Some b → F.told files.old words.now.trace.now ≡ Some text →
-        traces.reading text ≡ Err (fault.At line kind) →
+        traces.trace_of_text text ≡ Err (fault.At line kind) →
         IsRefused (Cause.Trace line kind) (S.written out.old) (S.written out.new) result.cause result.report }
     ensures no_board { (printer : List ℕ) (m : Machine) → F.told files.old words.now.config.now ≡ Some printer →
-        reading printer ≡ Ok m → specs.board_named words.now.board.now m.boards ≡ None →
+        machine_of_text printer ≡ Ok m → specs.board_named words.now.board.now m.boards ≡ None →
         IsRefused Cause.NoBoard (S.written out.old) (S.written out.new) result.cause result.report }
     ensures config { (printer : List ℕ) (line : ℕ) (kind : CfgKind) →
-        F.told files.old words.now.config.now ≡ Some printer → reading printer ≡ Err (At line kind) →
+        F.told files.old words.now.config.now ≡ Some printer → machine_of_text printer ≡ Err (At line kind) →
         IsRefused (Cause.Config line kind) (S.written out.old) (S.written out.new) result.cause result.report }
     ensures ends { EndsCleanly (F.faults files.old) (F.faults files.new) (S.faults out.old) (S.faults out.new)
         result.status result.cause }

@@ -28,9 +28,9 @@ use Rattle.board_asking.specs.Connecting.{all_connected, giving_up, listen_all, 
 use Rattle.board_asking.specs.Drift as drift
 use Rattle.board_asking.specs.Drift.{stale}
 use Rattle.axis_homing.specs.Homing.{answer_in, by_answer, hears_all, homing_turn}
-use Rattle.host_reactor.specs.Notes.{noted, news_of, is_out, told, told_all}
+use Rattle.host_reactor.specs.Notes.{noted, news_of, is_out, known_behind, told_all}
 use Rattle.host_reactor.specs.Report.{first_lines}
-use Rattle.host_reactor.specs.Rows.{EndsFor, IsOwn}
+use Rattle.host_reactor.specs.Rows.{MayEndFor, IsOwn}
 use Rattle.host_reactor.specs.Running.{any_out, first_cause, is_finished, late, late_of, or_cause, stop_of}
 use Rattle.host_reactor.specs.Reactor.{Reacted, unless_given_up, carries_on, finishes, unless_homing_ends, cut_line, after_homing, unless_stale, unless_late_stale, by_phase, unless_ended, reacts}
 
@@ -116,7 +116,7 @@ phases Running m switches r k states lines =
 phases (Stopping line) m switches r k states lines = late-stale (stale k 0 (listen_all r.askings.items states)) m r k lines line (stale-own k 0 (listen_all r.askings.items states))
 
 -- what a note tells isn't what the reactor is told to stop for
-told-stays : (m : Machine) (r : Known) (n : NoteNews) → (told m r n).stopped ≡ r.stopped
+told-stays : (m : Machine) (r : Known) (n : NoteNews) → (known_behind m r n).stopped ≡ r.stopped
 told-stays m r (news.Start section kind turn last moving) = refl
 told-stays m r (news.Done section turn) = refl
 told-stays m r (news.Read end sections) = refl
@@ -124,7 +124,7 @@ told-stays m r (news.Line board line from) = refl
 
 all-stay : (m : Machine) (ns : List NoteNews) (r : Known) → (told_all m ns r).stopped ≡ r.stopped
 all-stay m [] r = refl
-all-stay m (n ∷ ns) r = all-stay m ns (told m r n) ∙ told-stays m r n
+all-stay m (n ∷ ns) r = all-stay m ns (known_behind m r n) ∙ told-stays m r n
 
 note-stays : (m : Machine) (note : Option Note) (r : Known) → (noted m note r).stopped ≡ r.stopped
 note-stays m None r = refl
@@ -133,7 +133,7 @@ note-stays m (Some note) r = all-stay m note.news r
 -- the causes that come first
 abbrev First : Option Cause → Option Cause → Type 0
 First stopped None = stopped ≡ None
-First stopped (Some c) = EndsFor stopped c
+First stopped (Some c) = MayEndFor stopped c
 
 own-first : (l : Option Cause) → Own l → First None l
 own-first None h = refl
@@ -152,7 +152,7 @@ first-are out stopped states = first-if (out || any_out states) stopped (or_caus
 
 -- a run that goes on was told nothing, and one that ends has its cause
 pub record Blames (stopped : Option Cause) (x : Reacted) : Type 0 where
-  pub ends : (c : Cause) → x.ordered.end ≡ Some c → EndsFor stopped c
+  pub ends : (c : Cause) → x.ordered.end ≡ Some c → MayEndFor stopped c
   pub goes : x.ordered.end ≡ None → (stopped ≡ None) × (x.known.stopped ≡ None)
   pub stays : x.known.stopped ≡ stopped
 
@@ -161,7 +161,7 @@ own-is o c h e = subst Own e h
 
 ended : (o : Option Cause) (m : Machine) (switches : List Switch) (r : Known) (k : ℕ) (states : List State) (lines : List ReportLine) → First r.stopped o → Blames r.stopped (unless_ended o m switches r k states lines)
 ended (Some c) m switches r k states lines f = record {
-  ends = λ d e. subst (λ x. EndsFor r.stopped x) (let g = e in cc) f;
+  ends = λ d e. subst (λ x. MayEndFor r.stopped x) (let g = e in cc) f;
   goes = λ e. absurd (let g = e in cc);
   stays = refl;
 }

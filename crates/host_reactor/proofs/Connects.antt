@@ -23,7 +23,7 @@ use Rattle.board_asking.specs.Asking.{new_asking, gives_up, is_connected}
 use Rattle.board_asking.specs.Connecting.{giving_up, listen_all, ready_all, ask_all, all_connected}
 use Rattle.board_asking.specs.Drift.{stale}
 use Rattle.board_asking.specs.Drift.{gives_up as is_stale}
-use Rattle.board_asking.specs.Turns.{behind, heard, AreUnanswered, OnceConfigured}
+use Rattle.board_asking.specs.Turns.{asking_in_turn, heard, AreUnanswered, OnceConfigured}
 use Rattle.board_asking.proofs.InTurns.{once-configured, eight-unanswered}
 use Rattle.axis_homing.specs.declared.homing.Homing.{Homing}
 use Rattle.axis_homing.specs.declared.homing.HomingTurn.{HomingTurn}
@@ -31,11 +31,11 @@ use Rattle.axis_homing.specs.Homing.{homing_turn, by_answer, answer_in, hears_al
 use Rattle.host_reactor.specs.declared.ordered.Known.{Known}
 use Rattle.host_reactor.specs.declared.ordered.Phase.{Phase}
 use Rattle.host_reactor.specs.declared.ordered.Phase.TheVariants.{Connecting, Running, Stopping}
-use Rattle.host_reactor.specs.Notes.{told, told_all, noted, news_of, is_out}
+use Rattle.host_reactor.specs.Notes.{known_behind, told_all, noted, news_of, is_out}
 use Rattle.host_reactor.specs.Report.{first_lines}
 use Rattle.host_reactor.specs.Running.{first_cause, is_finished, stop_of}
 use Rattle.host_reactor.specs.Reactor.{Reacted, new_askings, asks_boards, is_connected_now, unless_given_up, cut_line, carries_on, phase_after, finishes, unless_homing_ends, after_homing, unless_stale, unless_late_stale, by_phase, unless_ended, reacts}
-use Rattle.host_reactor.specs.Runs.{Came, known_by, last_turn, GoesOn, HaveStates, state_at, told_by}
+use Rattle.host_reactor.specs.Runs.{Came, known_by, last_reacted, GoesOn, HaveStates, state_at, told_by}
 
 abbrev end_of : Reacted → Option Cause
 end_of x = x.ordered.end
@@ -45,7 +45,7 @@ record Same (a b : Known) : Type 0 where
   pub phase : a.phase ≡ b.phase
   pub askings : a.askings ≡ b.askings
 
-told-keeps : (m : Machine) (r : Known) (n : NoteNews) → Same (told m r n) r
+told-keeps : (m : Machine) (r : Known) (n : NoteNews) → Same (known_behind m r n) r
 told-keeps m r (news.Start section kind turn last moving) = record { phase = refl; askings = refl }
 told-keeps m r (news.Done section turn) = record { phase = refl; askings = refl }
 told-keeps m r (news.Read x sections) = record { phase = refl; askings = refl }
@@ -55,7 +55,7 @@ all-keep : (m : Machine) (ns : List NoteNews) (r : Known) → Same (told_all m n
 all-keep m [] r = record { phase = refl; askings = refl }
 all-keep m (n ∷ ns) r =
     let h = told-keeps m r n in
-    let t = all-keep m ns (told m r n) in
+    let t = all-keep m ns (known_behind m r n) in
     record { phase = t.phase ∙ h.phase; askings = t.askings ∙ h.askings }
 
 noted-keeps : (m : Machine) (note : Option Note) (r : Known) → Same (noted m note r) r
@@ -150,7 +150,7 @@ running-turn m switches r k states note n h =
 -- the boards' askings, by what each board told
 abbrev asking_of : Machine → ℕ → List Came → Asking
 asking_of m b [] = new_asking
-asking_of m b (c ∷ before) = behind (configuration m b) (length (told_by b (c ∷ before))) (heard (configuration m b) (told_by b (c ∷ before)))
+asking_of m b (c ∷ before) = asking_in_turn (configuration m b) (length (told_by b (c ∷ before))) (heard (configuration m b) (told_by b (c ∷ before)))
 
 abbrev askings_from : Machine → ℕ → List BoardDef → List Came → List Asking
 askings_from m b [] came = []
@@ -211,7 +211,7 @@ behind-now : (m : Machine) (b : ℕ) (boards : List BoardDef) (c : Came) (before
     → ask_all m (length before) b (heard_from m b boards (c ∷ before)) ≡ askings_from m b boards (c ∷ before)
 behind-now m b [] c before h l = refl
 behind-now m b (d ∷ boards) c before h l =
-    both-of _ _ _ _ (ap (λ (n : ℕ). behind (configuration m b) n (heard (configuration m b) (told_by b (c ∷ before)))) (sym (told-length m b c before h (omega arith))))
+    both-of _ _ _ _ (ap (λ (n : ℕ). asking_in_turn (configuration m b) n (heard (configuration m b) (told_by b (c ∷ before)))) (sym (told-length m b c before h (omega arith))))
     (behind-now m (b + 1) boards c before h (omega arith))
 
 and-first : (a b : Bool) → (a && b) ≡ true → a ≡ true
@@ -393,7 +393,7 @@ askings-are m r came (inr (n, f)) e = absurd (n e)
 
 pub silent-eight : (m : Machine) (switches : List Switch) (c : Came) (before : List Came) (board turn : ℕ) → GoesOn m switches before → HaveStates m (c ∷ before) → length before < 2 ^ 59
     → first_cause (is_out c.note) (noted m c.note (known_by m switches before)).stopped c.states ≡ None
-    → (last_turn m switches c before).ordered.end ≡ Some (cause.Connect board turn)
+    → (last_reacted m switches c before).ordered.end ≡ Some (cause.Connect board turn)
     → (board < length m.boards) × ((count : ℕ) × (8 ≤ count) × AreUnanswered (configuration m board) (told_by board (c ∷ before)) turn count)
 silent-eight m switches c before board turn g h small first e =
     let k = length before in

@@ -28,7 +28,7 @@ use Rattle.board_asking.specs.declared.asking.Stage.{Stage}
 use Rattle.board_asking.specs.declared.asking.Stage.TheVariants.{Identify, Uptime, Configure, Config, Connected}
 use Rattle.board_asking.specs.declared.setup.Setup.{Setup}
 use Rattle.board_asking.specs.Machine.{configuration, fitting, setup_command}
-use Rattle.board_asking.specs.Asking.{asks, is_due}
+use Rattle.board_asking.specs.Asking.{asks, is_question_due}
 use Rattle.board_asking.specs.Connecting.{asking_controls, all_connected, giving_up, listen_all, ready_all}
 use Rattle.board_asking.specs.Drift.{bytes_of, asks_now, clock_question, stale, waiting}
 use Rattle.axis_homing.specs.declared.homing.Homing.{Homing}
@@ -40,11 +40,11 @@ use Rattle.axis_homing.proofs.Rises.{hears-rises, homing-rises, started-rises}
 use Rattle.host_reactor.specs.declared.ordered.Known.{Known}
 use Rattle.host_reactor.specs.declared.ordered.Phase.{Phase}
 use Rattle.host_reactor.specs.declared.ordered.Phase.TheVariants.{Connecting, Running, Stopping}
-use Rattle.host_reactor.specs.Notes.{told, told_all, noted, news_of, is_out}
+use Rattle.host_reactor.specs.Notes.{known_behind, told_all, noted, news_of, is_out}
 use Rattle.host_reactor.specs.Report.{first_lines, count_lines}
 use Rattle.host_reactor.specs.Running.{first_cause, is_finished, stop_of}
 use Rattle.host_reactor.specs.Reactor.{Reacted, plain_controls, ends, asks_boards, is_connected_now, homing_commands, stop_command, run_controls, unless_given_up, carries_on, finishes, unless_homing_ends, cut_line, after_homing, unless_stale, unless_late_stale, by_phase, unless_ended, reacts}
-use Rattle.host_reactor.specs.Runs.{Came, known_by, last_turn}
+use Rattle.host_reactor.specs.Runs.{Came, known_by, last_reacted}
 use Rattle.host_reactor.specs.Laws.{FitIn}
 
 -- askings
@@ -86,11 +86,11 @@ none-due true = omega arith
 none-due false = omega arith
 
 asks-fit : (setups : List Setup) (k : ℕ) (a : Asking) (stage : Stage) → bytes_of (asks setups k a stage) ≤ 42
-asks-fit setups k a (Identify offset) = where-due (is_due k a.since) (cmd.Identify offset 40) (let h = identify-bytes offset in omega arith)
-asks-fit setups k a Uptime = where-due (is_due k a.since) cmd.GetUptime (let h = uptime-bytes in omega arith)
+asks-fit setups k a (Identify offset) = where-due (is_question_due k a.since) (cmd.Identify offset 40) (let h = identify-bytes offset in omega arith)
+asks-fit setups k a Uptime = where-due (is_question_due k a.since) cmd.GetUptime (let h = uptime-bytes in omega arith)
 asks-fit setups k a (Configure n) = fitting-fits 42 (drop n setups)
-asks-fit setups k a Config = where-due (is_due k a.since) cmd.GetConfig (let h = config-bytes in omega arith)
-asks-fit setups k a Connected = none-due (is_due k a.since)
+asks-fit setups k a Config = where-due (is_question_due k a.since) cmd.GetConfig (let h = config-bytes in omega arith)
+asks-fit setups k a Connected = none-due (is_question_due k a.since)
 
 -- controls
 more-room : (controls : List Control) → FitIn 42 controls → FitIn 43 controls
@@ -223,7 +223,7 @@ ended : (o : Option Cause) (m : Machine) (switches : List Switch) (r : Known) (k
 ended (Some c) m switches r k states lines v h = ended-fits m r k lines c h
 ended None m switches r k states lines v h = phases r.phase m switches r k states lines v h
 
-told-rises : (m : Machine) (r : Known) (n : NoteNews) → HomingRises r.homing → HomingRises (told m r n).homing
+told-rises : (m : Machine) (r : Known) (n : NoteNews) → HomingRises r.homing → HomingRises (known_behind m r n).homing
 told-rises m r (news.Start section kind turn last moving) h = started-rises m section kind turn last moving
 told-rises m r (news.Done section turn) h = h
 told-rises m r (news.Read x sections) h = h
@@ -231,7 +231,7 @@ told-rises m r (news.Line board line from) h = h
 
 all-rise : (m : Machine) (ns : List NoteNews) (r : Known) → HomingRises r.homing → HomingRises (told_all m ns r).homing
 all-rise m [] r h = h
-all-rise m (n ∷ ns) r h = all-rise m ns (told m r n) (told-rises m r n h)
+all-rise m (n ∷ ns) r h = all-rise m ns (known_behind m r n) (told-rises m r n h)
 
 pub noted-rises : (m : Machine) (note : Option Note) (r : Known) → HomingRises r.homing → HomingRises (noted m note r).homing
 noted-rises m None r h = h
@@ -246,9 +246,9 @@ pub run-rises : (m : Machine) (switches : List Switch) (came : List Came) → Is
 run-rises m switches [] v = tt
 run-rises m switches (c ∷ before) v = (turn-fits m switches (known_by m switches before) (length before) c.states c.note v (run-rises m switches before v)).rises
 
-pub all-fit : (m : Machine) (switches : List Switch) (c : Came) (before : List Came) → IsValidMachine m → FitIn 43 (last_turn m switches c before).ordered.controls
+pub all-fit : (m : Machine) (switches : List Switch) (c : Came) (before : List Came) → IsValidMachine m → FitIn 43 (last_reacted m switches c before).ordered.controls
 all-fit m switches c before v = (turn-fits m switches (known_by m switches before) (length before) c.states c.note v (run-rises m switches before v)).all
 
 pub plain-fit : (m : Machine) (switches : List Switch) (c : Came) (before : List Came) → IsValidMachine m
-    → ((line : ℕ) → (last_turn m switches c before).known.phase ≡ Stopping line → ⊥) → FitIn 42 (last_turn m switches c before).ordered.controls
+    → ((line : ℕ) → (last_reacted m switches c before).known.phase ≡ Stopping line → ⊥) → FitIn 42 (last_reacted m switches c before).ordered.controls
 plain-fit m switches c before v = (turn-fits m switches (known_by m switches before) (length before) c.states c.note v (run-rises m switches before v)).plain

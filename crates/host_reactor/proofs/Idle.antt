@@ -14,7 +14,7 @@ use Rattle.msg_code.specs.declared.talk.NoteNews.TheVariants as news
 use Rattle.report_text.specs.declared.line.ReportLine.{ReportLine}
 use Rattle.wire_scene.specs.declared.scene.Switch.{Switch}
 use Rattle.trigger_group.specs.declared.order.Ctl.{Ctl}
-use Rattle.trigger_group.specs.Group.{GroupState, orders, after, ended}
+use Rattle.trigger_group.specs.Group.{GroupState, orders, turned_group, ended}
 use Rattle.board_asking.specs.declared.asking.Asking.{Asking}
 use Rattle.axis_homing.specs.declared.homing.Homing.{Homing}
 use Rattle.axis_homing.specs.declared.homing.HomingTurn.{HomingTurn}
@@ -24,7 +24,7 @@ use Rattle.board_asking.specs.Machine.{control_bytes}
 use Rattle.board_asking.specs.Connecting.{listen_all}
 use Rattle.board_asking.specs.Drift.{bytes_of, asks_now, clock_question, after_question, waiting, new_lines}
 use Rattle.axis_homing.specs.Homing.{commands_to, hears_states, hears_all, answer_in, by_answer, goes_on_homing, homing_turn, homing_after}
-use Rattle.host_reactor.specs.Notes.{are_lines, noted, news_of, is_out, told, told_all}
+use Rattle.host_reactor.specs.Notes.{are_lines, noted, news_of, is_out, known_behind, told_all}
 use Rattle.host_reactor.specs.Report.{first_lines}
 use Rattle.host_reactor.specs.Running.{all_ended, all_idle, is_finished, first_cause}
 use Rattle.host_reactor.specs.Reactor.{Reacted, homing_commands, run_controls, run_askings, homed, carries_on, homes, after_homing, unless_stale, runs, by_phase, unless_ended, reacts}
@@ -62,7 +62,7 @@ after-idle clocks k n states (Some h) are from =
     let same = from.1 in
     let e = states-same clocks 0 h.start k states h.group are (omega arith) in
     ap (goes_on_homing k (hears_all clocks states h)) (not-yet k h.start (hears_states clocks 0 h.start states h.group) (omega arith))
-    ∙ ap (λ (g : GroupState). Some (with_group h (after g k))) e
+    ∙ ap (λ (g : GroupState). Some (with_group h (turned_group g k))) e
     ∙ ap (λ (g : GroupState). Some (with_group h g)) (group-same h.group k (omega arith))
 
 from-later : (o : Option Homing) (a b : ℕ) → b ≤ a → HomesFrom o a → HomesFrom o b
@@ -156,7 +156,7 @@ clear-rests m r k n clear rest = record { phase = rest.phase; resting = rest.res
 lines-rest : (m : Machine) (ns : List NoteNews) (r : Known) (k n : ℕ) → are_lines ns ≡ true → IsAtRest m r k n → IsAtRest m (told_all m ns r) k n
 lines-rest m [] r k n e rest = rest
 lines-rest m (news.Line board line from ∷ ns) r k n e rest =
-    lines-rest m ns (told m r (news.Line board line from)) k n e (record { phase = rest.phase; resting = rest.resting; going = rest.going; homing = rest.homing; asking = rest.asking })
+    lines-rest m ns (known_behind m r (news.Line board line from)) k n e (record { phase = rest.phase; resting = rest.resting; going = rest.going; homing = rest.homing; asking = rest.asking })
 lines-rest m (news.Start section kind turn last moving ∷ ns) r k n e rest = absurd cc
 lines-rest m (news.Done section turn ∷ ns) r k n e rest = absurd cc
 lines-rest m (news.Read end sections ∷ ns) r k n e rest = absurd cc

@@ -6,10 +6,10 @@ use Rattle.plan_types.specs.declared.machine.Machine.{Machine}
 use Rattle.plan_types.specs.Lines.{Clocks}
 use Rattle.plan_types.specs.Machines.{board_at}
 use Rattle.msg_code.specs.declared.talk.State.{State}
-use Rattle.trigger_group.specs.Group.{GroupState, phase, orders, orders_in, after, after_in}
+use Rattle.trigger_group.specs.Group.{GroupState, phase, orders, orders_of_group, turned_group, after_in}
 use Rattle.trigger_group.specs.declared.round.Phase.TheVariants.{Rests}
 use Rattle.board_asking.specs.declared.asking.Asking.{Asking}
-use Rattle.board_asking.specs.Asking.{were_put, was_put, is_in_time, hears, listens, is_out}
+use Rattle.board_asking.specs.Asking.{were_put, was_put, is_in_time, hears_first, listens, is_out}
 use Rattle.board_asking.specs.Connecting.{listen_all}
 use Rattle.board_asking.specs.Drift.{drifts, is_unanswered, gives_up, stale, is_asked_now, waits_in, waiting, new_lines}
 use Rattle.axis_homing.specs.Homing.{hears_state, hears_states, hears_news}
@@ -30,7 +30,7 @@ waits-kept turn (n ∷ ns) a = waits-kept turn ns (was_put turn a n)
 pub listens-put : (a : Asking) (s : State) → a.since ≡ None → listens a s ≡ were_put s.turn s.asked a
 listens-put a s h =
     let w = were_put s.turn s.asked a in
-    picked (is_in_time s.turn w.since) (hears s.turn s.news w) w (ap (is_in_time s.turn) (since-kept s.turn s.asked a ∙ h))
+    picked (is_in_time s.turn w.since) (hears_first s.turn s.news w) w (ap (is_in_time s.turn) (since-kept s.turn s.asked a ∙ h))
 
 pub listened : (askings : List Asking) (states : List State) → Resting askings → Resting (listen_all askings states)
 listened [] states h = tt
@@ -84,7 +84,7 @@ phase-rests start last turn h =
     ∙ picked (start - turn == 0) _ _ (grind (arith, nat_tests))
 
 pub none-ordered : (g : GroupState) (turn : ℕ) → turn + 255 ≤ g.start → orders g turn ≡ []
-none-ordered g turn h = ap (λ p. orders_in p g turn) (phase-rests g.start g.last turn h)
+none-ordered g turn h = ap (λ p. orders_of_group p g turn) (phase-rests g.start g.last turn h)
 
-pub group-same : (g : GroupState) (turn : ℕ) → turn + 255 ≤ g.start → after g turn ≡ g
+pub group-same : (g : GroupState) (turn : ℕ) → turn + 255 ≤ g.start → turned_group g turn ≡ g
 group-same g turn h = ap (λ p. after_in p g turn) (phase-rests g.start g.last turn h)

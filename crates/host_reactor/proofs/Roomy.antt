@@ -25,9 +25,9 @@ use Rattle.axis_homing.proofs.Room.{leaves-room}
 use Rattle.axis_homing.proofs.Rises.{hears-rises}
 use Rattle.axis_homing.proofs.Starts.{after_start, states_start}
 use Rattle.host_reactor.specs.declared.ordered.Known.{Known}
-use Rattle.host_reactor.specs.Notes.{told, told_all, noted, news_of}
+use Rattle.host_reactor.specs.Notes.{known_behind, told_all, noted, news_of}
 use Rattle.host_reactor.specs.Reactor.{homing_commands}
-use Rattle.host_reactor.specs.Room.{HasRoom, HaveRoom, StartFar, BeginFar}
+use Rattle.host_reactor.specs.Room.{HasOrderRoom, HaveRoom, StartFar, BeginFar}
 use Rattle.host_reactor.specs.Runs.{Came, known_by}
 use Rattle.host_reactor.proofs.Fitting.{noted-rises, run-rises}
 use Rattle.host_reactor.proofs.Homes.{turn-leaves}
@@ -81,10 +81,10 @@ begun-far far old m section (kind.Home axis) turn last moving l =
 told-keep : (k old : ℕ) (m : Machine) (ns : List NoteNews) (r : Known) → StartFar k ns → Keeps (k + 255) old (start_of r.homing) → Keeps (k + 255) old (start_of (told_all m ns r).homing)
 told-keep k old m [] r far keep = keep
 told-keep k old m (news.Start section what turn last moving ∷ ns) r far keep =
-    told-keep k old m ns (told m r (news.Start section what turn last moving)) far.1 (begun-far (k + 255) old m section what turn last moving far.0)
-told-keep k old m (news.Done section turn ∷ ns) r far keep = told-keep k old m ns (told m r (news.Done section turn)) far keep
-told-keep k old m (news.Read x sections ∷ ns) r far keep = told-keep k old m ns (told m r (news.Read x sections)) far keep
-told-keep k old m (news.Line board line from ∷ ns) r far keep = told-keep k old m ns (told m r (news.Line board line from)) far keep
+    told-keep k old m ns (known_behind m r (news.Start section what turn last moving)) far.1 (begun-far (k + 255) old m section what turn last moving far.0)
+told-keep k old m (news.Done section turn ∷ ns) r far keep = told-keep k old m ns (known_behind m r (news.Done section turn)) far keep
+told-keep k old m (news.Read x sections ∷ ns) r far keep = told-keep k old m ns (known_behind m r (news.Read x sections)) far keep
+told-keep k old m (news.Line board line from ∷ ns) r far keep = told-keep k old m ns (known_behind m r (news.Line board line from)) far keep
 
 noted-keep : (k old : ℕ) (m : Machine) (note : Option Note) (r : Known) → StartFar k (news_of note) → Keeps (k + 255) old (start_of r.homing) → Keeps (k + 255) old (start_of (noted m note r).homing)
 noted-keep k old m None r far keep = keep
@@ -131,14 +131,14 @@ not-three start k (inr (inr e)) (inl f) g = omega (arith, e, f)
 not-three start k (inr (inr e)) (inr (inl f)) g = omega (arith, e, f)
 not-three start k (inr (inr e)) (inr (inr f)) g = omega (arith, e, f)
 
-in-turn : (m : Machine) (switches : List Switch) (b : ℕ) (c : Came) (before : List Came) → IsValidMachine m → HasRoom m switches b c before ⊎ MayFill (starts_in m switches c before) (length before)
+in-turn : (m : Machine) (switches : List Switch) (b : ℕ) (c : Came) (before : List Came) → IsValidMachine m → HasOrderRoom m switches b c before ⊎ MayFill (starts_in m switches c before) (length before)
 in-turn m switches b c before v =
     let r = known_by m switches before in
     let n = known_in m switches c before in
     turn-room m n.clocks (clocks_at n.clocks b) b (length before) c.states n.homing v (noted-rises m c.note r (run-rises m switches before v))
 
 one-of-three : (m : Machine) (switches : List Switch) (b : ℕ) (c d e : Came) (before : List Came) → IsValidMachine m → BeginFar (c ∷ (d ∷ (e ∷ before)))
-    → HasRoom m switches b c (d ∷ (e ∷ before)) ⊎ (HasRoom m switches b d (e ∷ before) ⊎ HasRoom m switches b e before)
+    → HasOrderRoom m switches b c (d ∷ (e ∷ before)) ⊎ (HasOrderRoom m switches b d (e ∷ before) ⊎ HasOrderRoom m switches b e before)
 one-of-three m switches b c d e before v far = elim (in-turn m switches b c (d ∷ (e ∷ before)) v) [
   | inl room ↦ inl room
   | inr third ↦ elim (in-turn m switches b d (e ∷ before) v) [

@@ -24,12 +24,12 @@ use Rattle.host_reactor.specs.declared.ordered.Known.{Known}
 use Rattle.host_reactor.specs.declared.ordered.Phase.{Phase}
 use Rattle.host_reactor.specs.declared.ordered.Phase.TheVariants.{Connecting, Running, Stopping}
 use Rattle.board_asking.specs.Clocks.{added_at, no_clocks}
-use Rattle.board_asking.specs.Connecting.{ask_all, asking_controls, all_connected, board_lines, clocks_of, giving_up, listen_all, ready_all}
+use Rattle.board_asking.specs.Connecting.{ask_all, asking_controls, all_connected, board_lines, one_line_clocks, giving_up, listen_all, ready_all}
 use Rattle.board_asking.specs.Drift.{stale, waiting}
 use Rattle.axis_homing.specs.Homing.{homing_turn}
-use Rattle.host_reactor.specs.Notes.{noted, news_of, is_out, told, told_all}
+use Rattle.host_reactor.specs.Notes.{noted, news_of, is_out, known_behind, told_all}
 use Rattle.host_reactor.specs.Report.{count_lines, first_lines}
-use Rattle.host_reactor.specs.Rows.{AreControls, IsRow, IsWhole}
+use Rattle.host_reactor.specs.Rows.{AreControls, IsRow, HasEachBoard}
 use Rattle.host_reactor.specs.Running.{first_cause, is_finished, stop_of}
 use Rattle.host_reactor.specs.Reactor.{Reacted, asks_boards, ends, is_connected_now, new_askings, new_known, plain_controls, stop_command, run_askings, run_controls, unless_given_up, carries_on, finishes, stops, unless_homing_ends, cut_line, after_homing, unless_stale, unless_late_stale, by_phase, unless_ended, reacts}
 
@@ -51,7 +51,7 @@ waited : (m : Machine) (k b : ℕ) (askings : List Asking) → length (waiting m
 waited m k b [] = refl
 waited m k b (a ∷ askings) = ap suc (waited m k (b + 1) askings)
 
-lined : (m : Machine) (b : ℕ) (askings : List Asking) → length (clocks_of (board_lines m b askings)) ≡ length askings
+lined : (m : Machine) (b : ℕ) (askings : List Asking) → length (one_line_clocks (board_lines m b askings)) ≡ length askings
 lined m b [] = refl
 lined m b (a ∷ askings) = ap suc (lined m (b + 1) askings)
 
@@ -90,20 +90,20 @@ running-are m k b turn stop (c ∷ clocks) (a ∷ askings) = (refl, refl, runnin
 -- a turn whose orders stand in a row, and whose reactor goes on whole
 pub record Rowed (m : Machine) (k : ℕ) (x : Reacted) : Type 0 where
   pub row : IsRow m k x.ordered
-  pub whole : IsWhole m x.known
+  pub whole : HasEachBoard m x.known
 
 either : (m : Machine) (k : ℕ) (b : Bool) (x y : Reacted) → Rowed m k x → Rowed m k y → Rowed m k (cond b x y)
 either m k true x y h i = h
 either m k false x y h i = i
 
 -- the run ends
-over : (m : Machine) (k : ℕ) (c : Cause) (r : Known) (lines : List ReportLine) → IsWhole m r → Rowed m k (ends m r k lines c)
+over : (m : Machine) (k : ℕ) (c : Cause) (r : Known) (lines : List ReportLine) → HasEachBoard m r → Rowed m k (ends m r k lines c)
 over m k c r lines w = record {
   row = record { count = plain-controlled k [] true true m.boards; controls = plain-are k [] true true m.boards; turn = refl; end = refl };
   whole = w;
 }
 
-given-up : (o : Option Cause) (m : Machine) (r : Known) (k : ℕ) (lines : List ReportLine) (askings : List Asking) → IsWhole m r → length askings ≡ length m.boards → r.phase ≡ Connecting → Rowed m k (unless_given_up o m r k lines askings)
+given-up : (o : Option Cause) (m : Machine) (r : Known) (k : ℕ) (lines : List ReportLine) (askings : List Asking) → HasEachBoard m r → length askings ≡ length m.boards → r.phase ≡ Connecting → Rowed m k (unless_given_up o m r k lines askings)
 given-up (Some c) m r k lines askings w e p = over m k c r lines w
 given-up None m r k lines askings w e p =
     either m k (all_connected askings) (is_connected_now m r k lines askings) (asks_boards m r k lines askings)
@@ -129,34 +129,34 @@ carried m r k lines askings turn stop c e =
       whole = record { askings = run-asked m k 0 turn r.clocks (waiting m k 0 askings) ∙ few ∙ e; clocks = inr c };
     }
 
-finished : (how : ReadStop) (m : Machine) (r : Known) (k : ℕ) (lines : List ReportLine) (askings : List Asking) (turn : HomingTurn) → IsWhole m r → length r.clocks ≡ length m.boards → length askings ≡ length m.boards
+finished : (how : ReadStop) (m : Machine) (r : Known) (k : ℕ) (lines : List ReportLine) (askings : List Asking) (turn : HomingTurn) → HasEachBoard m r → length r.clocks ≡ length m.boards → length askings ≡ length m.boards
     → Rowed m k (finishes how m r k lines askings turn)
 finished (read.Stop line) m r k lines askings turn w c e = carried m r k lines askings turn (Some line) c e
 finished read.End m r k lines askings turn w c e = over m k cause.Done r (lines ++ count_lines r.reading) w
 finished (read.Refused line kind) m r k lines askings turn w c e = over m k (cause.Line line kind) r (lines ++ count_lines r.reading) w
 
 homing-ends : (o : Option Cause) (m : Machine) (r : Known) (k : ℕ) (states : List State) (lines cut : List ReportLine) (askings : List Asking) (turn : HomingTurn)
-    → IsWhole m r → length r.clocks ≡ length m.boards → length askings ≡ length m.boards → Rowed m k (unless_homing_ends o m r k states lines cut askings turn)
+    → HasEachBoard m r → length r.clocks ≡ length m.boards → length askings ≡ length m.boards → Rowed m k (unless_homing_ends o m r k states lines cut askings turn)
 homing-ends (Some c) m r k states lines cut askings turn w s e = over m k c r lines w
 homing-ends None m r k states lines cut askings turn w s e =
     either m k (is_finished r k states) _ _ (finished (stop_of r.reading) m r k (lines ++ cut) askings turn w s e) (carried m r k (lines ++ cut) askings turn None s e)
 
 stale-ends : (o : Option Cause) (m : Machine) (switches : List Switch) (r : Known) (k : ℕ) (states : List State) (lines : List ReportLine) (askings : List Asking)
-    → IsWhole m r → length r.clocks ≡ length m.boards → length askings ≡ length m.boards → Rowed m k (unless_stale o m switches r k states lines askings)
+    → HasEachBoard m r → length r.clocks ≡ length m.boards → length askings ≡ length m.boards → Rowed m k (unless_stale o m switches r k states lines askings)
 stale-ends (Some c) m switches r k states lines askings w s e = over m k c r lines w
 stale-ends None m switches r k states lines askings w s e =
     let turn = homing_turn r.clocks k states r.homing in
     homing-ends turn.end m (after_homing r k states) k states lines (cut_line m switches turn.section (axis_at m turn.axis) turn.cut) askings turn (record { askings = w.askings; clocks = w.clocks }) s e
 
-late-stale : (o : Option Cause) (m : Machine) (r : Known) (k : ℕ) (lines : List ReportLine) (line : ℕ) → IsWhole m r → Rowed m k (unless_late_stale o m r k lines line)
+late-stale : (o : Option Cause) (m : Machine) (r : Known) (k : ℕ) (lines : List ReportLine) (line : ℕ) → HasEachBoard m r → Rowed m k (unless_late_stale o m r k lines line)
 late-stale (Some c) m r k lines line w = over m k c r lines w
 late-stale None m r k lines line w = over m k (cause.Asked line) r (lines ++ count_lines r.reading) w
 
 -- behind connecting there are clock lines
-lines-are : (m : Machine) (r : Known) → IsWhole m r → r.phase ≡ Running → length r.clocks ≡ length m.boards
+lines-are : (m : Machine) (r : Known) → HasEachBoard m r → r.phase ≡ Running → length r.clocks ≡ length m.boards
 lines-are m r w p = ⊎_elim (λ c. absurd (let e = sym c ∙ p in cc)) (λ c. c) w.clocks
 
-phases : (p : Phase) (m : Machine) (switches : List Switch) (r : Known) (k : ℕ) (states : List State) (lines : List ReportLine) → r.phase ≡ p → IsWhole m r → Rowed m k (by_phase p m switches r k states lines)
+phases : (p : Phase) (m : Machine) (switches : List Switch) (r : Known) (k : ℕ) (states : List State) (lines : List ReportLine) → r.phase ≡ p → HasEachBoard m r → Rowed m k (by_phase p m switches r k states lines)
 phases Connecting m switches r k states lines p w =
     let askings = ready_all m 0 (listen_all r.askings.items states) in
     given-up (giving_up k 0 askings) m r k lines askings w (readied m 0 (listen_all r.askings.items states) ∙ listened r.askings.items states ∙ w.askings) p
@@ -165,7 +165,7 @@ phases Running m switches r k states lines p w =
     stale-ends (stale k 0 askings) m switches r k states lines askings w (lines-are m r w p) (listened r.askings.items states ∙ w.askings)
 phases (Stopping line) m switches r k states lines p w = late-stale (stale k 0 (listen_all r.askings.items states)) m r k lines line w
 
-ended : (o : Option Cause) (m : Machine) (switches : List Switch) (r : Known) (k : ℕ) (states : List State) (lines : List ReportLine) → IsWhole m r → Rowed m k (unless_ended o m switches r k states lines)
+ended : (o : Option Cause) (m : Machine) (switches : List Switch) (r : Known) (k : ℕ) (states : List State) (lines : List ReportLine) → HasEachBoard m r → Rowed m k (unless_ended o m switches r k states lines)
 ended (Some c) m switches r k states lines w = over m k c r lines w
 ended None m switches r k states lines w = phases r.phase m switches r k states lines refl w
 
@@ -177,7 +177,7 @@ added-count : (t : Bool) (b : ℕ) (x : Clocks) (clocks : List Clocks) → lengt
 added-count true b x clocks = set-count b x clocks
 added-count false b x clocks = refl
 
-one-told : (m : Machine) (r : Known) (n : NoteNews) → IsWhole m r → IsWhole m (told m r n)
+one-told : (m : Machine) (r : Known) (n : NoteNews) → HasEachBoard m r → HasEachBoard m (known_behind m r n)
 one-told m r (news.Start section kind turn last moving) w = record { askings = w.askings; clocks = w.clocks }
 one-told m r (news.Done section turn) w = record { askings = w.askings; clocks = w.clocks }
 one-told m r (news.Read end sections) w = record { askings = w.askings; clocks = w.clocks }
@@ -186,15 +186,15 @@ one-told m r (news.Line board line from) w = record {
   clocks = ⊎_elim (λ c. inl c) (λ c. inr (added-count (nat_lt board (length r.clocks)) board _ r.clocks ∙ c)) w.clocks;
 }
 
-all-told : (m : Machine) (ns : List NoteNews) (r : Known) → IsWhole m r → IsWhole m (told_all m ns r)
+all-told : (m : Machine) (ns : List NoteNews) (r : Known) → HasEachBoard m r → HasEachBoard m (told_all m ns r)
 all-told m [] r w = w
-all-told m (n ∷ ns) r w = all-told m ns (told m r n) (one-told m r n w)
+all-told m (n ∷ ns) r w = all-told m ns (known_behind m r n) (one-told m r n w)
 
-pub stays-whole : (m : Machine) (note : Option Note) (r : Known) → IsWhole m r → IsWhole m (noted m note r)
+pub stays-whole : (m : Machine) (note : Option Note) (r : Known) → HasEachBoard m r → HasEachBoard m (noted m note r)
 stays-whole m None r w = w
 stays-whole m (Some note) r w = let v = all-told m note.news r w in record { askings = v.askings; clocks = v.clocks }
 
-pub rowed : (m : Machine) (switches : List Switch) (r : Known) (k : ℕ) (states : List State) (note : Option Note) → IsWhole m r → Rowed m k (reacts m switches r k states note)
+pub rowed : (m : Machine) (switches : List Switch) (r : Known) (k : ℕ) (states : List State) (note : Option Note) → HasEachBoard m r → Rowed m k (reacts m switches r k states note)
 rowed m switches r k states note w =
     let s = noted m note r in
     ended (first_cause (is_out note) s.stopped states) m switches s k states (first_lines m s k (news_of note) states) (stays-whole m note r w)
@@ -203,5 +203,5 @@ new-asked : (boards : List BoardDef) → length (new_askings boards) ≡ length 
 new-asked [] = refl
 new-asked (b ∷ boards) = ap suc (new-asked boards)
 
-pub whole-first : (m : Machine) → IsWhole m (new_known m)
+pub whole-first : (m : Machine) → HasEachBoard m (new_known m)
 whole-first m = record { askings = new-asked m.boards; clocks = inl refl }

@@ -16,7 +16,7 @@ use Rattle.board_asking.specs.declared.asking.Stage.TheVariants.{Identify, Uptim
 use Rattle.board_asking.specs.declared.setup.Setup.{Setup}
 use Rattle.board_asking.specs.declared.setup.Setup.TheVariants.{Oids, Stepper, Trsync, Endstop, Finish}
 use Rattle.board_asking.specs.Machine.{setup_command, fitting, control_bytes}
-use Rattle.board_asking.specs.Asking.{asks, is_due}
+use Rattle.board_asking.specs.Asking.{asks, is_question_due}
 use Rattle.axis_homing.specs.Homing.{order_command, command_to, commands_to}
 use Rattle.board_asking.specs.Drift.{asks_now, clock_question}
 use Rattle.host_reactor.specs.Laws.{is_uptime, uptimes}
@@ -43,11 +43,11 @@ where-few true cs h = h
 where-few false cs h = omega arith
 
 pub asks-few : (setups : List Setup) (k : ℕ) (a : Asking) (stage : Stage) → uptimes (asks setups k a stage) ≤ 1
-asks-few setups k a (Identify offset) = where-few (is_due k a.since) (cmd.Identify offset 40 ∷ []) (omega arith)
-asks-few setups k a Uptime = where-few (is_due k a.since) (cmd.GetUptime ∷ []) (omega arith)
+asks-few setups k a (Identify offset) = where-few (is_question_due k a.since) (cmd.Identify offset 40 ∷ []) (omega arith)
+asks-few setups k a Uptime = where-few (is_question_due k a.since) (cmd.GetUptime ∷ []) (omega arith)
 asks-few setups k a (Configure n) = let e = fitting-none control_bytes (drop n setups) in omega arith
-asks-few setups k a Config = where-few (is_due k a.since) (cmd.GetConfig ∷ []) (omega arith)
-asks-few setups k a Connected = where-few (is_due k a.since) [] (omega arith)
+asks-few setups k a Config = where-few (is_question_due k a.since) (cmd.GetConfig ∷ []) (omega arith)
+asks-few setups k a Connected = where-few (is_question_due k a.since) [] (omega arith)
 
 to-none : (b : Bool) (c : Cmd) → is_uptime c ≡ false → uptimes (cond b (c ∷ []) []) ≡ 0
 to-none false c h = refl

@@ -6,7 +6,7 @@ use Rattle.axis_homing.specs.Homing.{StartsTogether}
 use Rattle.host_reactor.specs.declared.ordered.Known.{Known}
 
 -- each board has its asking, and a homing section starts with its group
-pub record IsKept (m : Machine) (r : Known) : Type 0 where
+pub record HasAskings (m : Machine) (r : Known) : Type 0 where
   pub count : length r.askings.items ≡ length m.boards
   pub early : All IsEarly r.askings.items
   pub starts : StartsTogether r.homing

@@ -11,20 +11,20 @@ use Rattle.axis_homing.specs.Homing.{homing_of}
 
 -- what a reactor knows behind one piece of news: that a section was begun, that one ended, how the text was
 -- read, or a further clock line of a board
-abbrev pub told : Machine → Known → NoteNews → Known
-told m r (news.Start section kind turn last moving) =
+abbrev pub known_behind : Machine → Known → NoteNews → Known
+known_behind m r (news.Start section kind turn last moving) =
     record r {
       begun = Some (record { section = section; kind = kind; turn = turn });
       homing = homing_of m section kind turn last moving;
     }
-told m r (news.Done section turn) = record r { done = more r.done; ended = turn }
-told m r (news.Read end sections) = record r { reading = Some (record { end = end; sections = sections }) }
-told m r (news.Line board line from) = record r { clocks = added_at board from line r.clocks }
+known_behind m r (news.Done section turn) = record r { done = more r.done; ended = turn }
+known_behind m r (news.Read end sections) = record r { reading = Some (record { end = end; sections = sections }) }
+known_behind m r (news.Line board line from) = record r { clocks = added_at board from line r.clocks }
 
 -- what it knows behind some news, told one after the other
 abbrev pub told_all : Machine → List NoteNews → Known → Known
 told_all m [] r = r
-told_all m (n ∷ ns) r = told_all m ns (told m r n)
+told_all m (n ∷ ns) r = told_all m ns (known_behind m r n)
 
 -- what it knows behind the note of a turn, if one came: its news, and the next turn whose note may have some
 abbrev pub noted : Machine → Option Note → Known → Known

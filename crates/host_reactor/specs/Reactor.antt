@@ -23,7 +23,7 @@ use Rattle.board_asking.specs.Asking.{new_asking}
 use Rattle.host_reactor.specs.Notes.{noted, news_of, is_out}
 use Rattle.msg_code.specs.declared.talk.NoteNews.{NoteNews}
 use Rattle.host_reactor.specs.Report.{first_lines, count_lines}
-use Rattle.board_asking.specs.Connecting.{listen_all, ready_all, giving_up, all_connected, control, asking_controls, ask_all, board_lines, clocks_of, connected_lines}
+use Rattle.board_asking.specs.Connecting.{listen_all, ready_all, giving_up, all_connected, control, asking_controls, ask_all, board_lines, one_line_clocks, connected_lines}
 use Rattle.plan_types.specs.declared.machine.AxisDef.{AxisDef}
 use Rattle.plan_types.specs.Lines.{Clocks}
 use Rattle.plan_types.specs.Machines.{axis_at}
@@ -98,7 +98,7 @@ is_connected_now m r k lines askings = record {
       record r {
         phase = Running;
         askings = record { items = askings };
-        clocks = clocks_of (board_lines m 0 askings);
+        clocks = one_line_clocks (board_lines m 0 askings);
         ended = k;
       };
   ordered = given k (plain_controls k [] false false m.boards) (word.Lines (board_lines m 0 askings) ∷ [])

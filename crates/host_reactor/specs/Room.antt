@@ -13,8 +13,8 @@ use Rattle.host_reactor.specs.Reactor.{homing_commands}
 use Rattle.host_reactor.specs.Runs.{Came, known_by}
 
 -- in a turn the orders to a board for homing have fewer bytes than a control may have
-abbrev pub HasRoom : Machine → List Switch → ℕ → Came → List Came → Type 0
-HasRoom m switches b c before =
+abbrev pub HasOrderRoom : Machine → List Switch → ℕ → Came → List Came → Type 0
+HasOrderRoom m switches b c before =
     let r = noted m c.note (known_by m switches before) in
     bytes_of (homing_commands m (homing_turn r.clocks (length before) c.states r.homing) (clocks_at r.clocks b) b)
     < control_bytes
@@ -22,7 +22,8 @@ HasRoom m switches b c before =
 -- so in one of any three turns in a row
 abbrev pub HaveRoom : Machine → List Switch → ℕ → List Came → Type 0
 HaveRoom m switches b (c ∷ (d ∷ (e ∷ before))) =
-    (HasRoom m switches b c (d ∷ (e ∷ before)) ⊎ (HasRoom m switches b d (e ∷ before) ⊎ HasRoom m switches b e before))
+    (HasOrderRoom m switches b c (d ∷ (e ∷ before)) ⊎ (HasOrderRoom m switches b d (e ∷ before)
+    ⊎ HasOrderRoom m switches b e before))
     × HaveRoom m switches b (d ∷ (e ∷ before))
 HaveRoom m switches b came = Unit {0}
 

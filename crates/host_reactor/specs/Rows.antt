@@ -10,7 +10,7 @@ use Rattle.host_reactor.specs.declared.ordered.Ordered.{Ordered}
 use Rattle.host_reactor.specs.Reactor.{is_end}
 
 -- there is an asking for each board and, once connecting ended, clock lines for each
-pub record IsWhole (m : Machine) (r : Known) : Type 0 where
+pub record HasEachBoard (m : Machine) (r : Known) : Type 0 where
   pub askings : length r.askings.items ≡ length m.boards
   pub clocks : (r.phase ≡ Connecting) ⊎ (length r.clocks ≡ length m.boards)
 
@@ -37,5 +37,5 @@ IsOwn (cause.Scene line kind) = ⊥
 IsOwn _ = Unit {0}
 
 -- a run ends for want of memory, for what the reactor was told, or, where it was told nothing, for a cause of its own
-abbrev pub EndsFor : Option Cause → Cause → Type 0
-EndsFor stopped c = (c ≡ cause.Memory) ⊎ ((stopped ≡ Some c) ⊎ ((stopped ≡ None) × IsOwn c))
+abbrev pub MayEndFor : Option Cause → Cause → Type 0
+MayEndFor stopped c = (c ≡ cause.Memory) ⊎ ((stopped ≡ Some c) ⊎ ((stopped ≡ None) × IsOwn c))

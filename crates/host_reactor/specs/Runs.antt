@@ -19,13 +19,13 @@ known_by m switches (c ∷ before) =
     (reacts m switches (known_by m switches before) (length before) c.states c.note).known
 
 -- the last of these turns
-abbrev pub last_turn : Machine → List Switch → Came → List Came → Reacted
-last_turn m switches c before = reacts m switches (known_by m switches before) (length before) c.states c.note
+abbrev pub last_reacted : Machine → List Switch → Came → List Came → Reacted
+last_reacted m switches c before = reacts m switches (known_by m switches before) (length before) c.states c.note
 
 -- none of these turns ends the run
 abbrev pub GoesOn : Machine → List Switch → List Came → Type 0
 GoesOn m switches [] = Unit {0}
-GoesOn m switches (c ∷ before) = ((last_turn m switches c before).ordered.end ≡ None) × GoesOn m switches before
+GoesOn m switches (c ∷ before) = ((last_reacted m switches c before).ordered.end ≡ None) × GoesOn m switches before
 
 -- in the first turn there are no states, and in each later one there is one of each board
 abbrev pub HaveStates : Machine → List Came → Type 0

@@ -14,7 +14,7 @@ ghost use Rattle.wire_scene.specs.declared.scene.Switch.{Switch};
 ghost use Rattle.host_reactor.specs.declared.ordered.Known.{Known};
 ghost use Rattle.host_reactor.specs.Notes.{are_lines, news_of, noted, is_out};
 ghost use Rattle.host_reactor.specs.Reactor.{new_known, reacts};
-ghost use Rattle.host_reactor.specs.Rows.{EndsFor, IsRow, IsWhole};
+ghost use Rattle.host_reactor.specs.Rows.{MayEndFor, IsRow, HasEachBoard};
 ghost use Rattle.host_reactor.specs.Free.{IsAtRest, AreOf, EndsOrRests, free_turns};
 ghost use Rattle.axis_homing.specs.Homing.{StartsTogether};
 ghost use Rattle.host_reactor.specs.Laws.{AskOnce, FitIn};
@@ -22,7 +22,7 @@ ghost use Rattle.plan_types.specs.Machines.{IsValidMachine};
 ghost use Rattle.board_asking.specs.Machine.{configuration};
 ghost use Rattle.board_asking.specs.Turns.{AreUnanswered, OnceConfigured};
 ghost use Rattle.host_reactor.specs.Room.{BeginFar, HaveRoom};
-ghost use Rattle.host_reactor.specs.Runs.{Came, known_by, last_turn, GoesOn, HaveStates, told_by};
+ghost use Rattle.host_reactor.specs.Runs.{Came, known_by, last_reacted, GoesOn, HaveStates, told_by};
 
 /// The law of askings: whatever states and notes come, a control asks its board for the clock at most once.
 pub fn asks_once()
@@ -85,7 +85,7 @@ pub fn connects_in_a_run()
     ensures given_up { (m : Machine) (switches : List Switch) (c : Came) (before : List Came) (b turn : ℕ) →
         GoesOn m switches before → HaveStates m (c ∷ before) → length before < 2 ^ 59 →
         first_cause (is_out c.note) (noted m c.note (known_by m switches before)).stopped c.states ≡ None →
-        (last_turn m switches c before).ordered.end ≡ Some (Cause.Connect b turn) →
+        (last_reacted m switches c before).ordered.end ≡ Some (Cause.Connect b turn) →
         (b < length m.boards)
         × ((count : ℕ) × (8 ≤ count) × AreUnanswered (configuration m b) (told_by b (c ∷ before)) turn count) }
 {}
@@ -94,10 +94,10 @@ pub fn connects_in_a_run()
 /// order to stop, where it goes out in the turn, is one byte more.
 pub fn controls_fit()
     ensures plain { (m : Machine) (switches : List Switch) (c : Came) (before : List Came) → IsValidMachine m →
-        ((line : ℕ) → (last_turn m switches c before).known.phase ≡ Stopping line → ⊥) →
-        FitIn 42 (last_turn m switches c before).ordered.controls }
+        ((line : ℕ) → (last_reacted m switches c before).known.phase ≡ Stopping line → ⊥) →
+        FitIn 42 (last_reacted m switches c before).ordered.controls }
     ensures all { (m : Machine) (switches : List Switch) (c : Came) (before : List Came) → IsValidMachine m →
-        FitIn 43 (last_turn m switches c before).ordered.controls }
+        FitIn 43 (last_reacted m switches c before).ordered.controls }
 {}
 
 /// The law of spare room: in any run whose notes begin sections 255 turns before their start or earlier, of
@@ -111,11 +111,11 @@ pub fn turns_leave_room()
 /// whether it ends the run; and the reactor keeps an asking and, once connecting ended, clock lines for each
 /// board.
 pub fn orders_stand_in_rows()
-    ensures first { (m : Machine) → IsWhole m (new_known m) }
+    ensures first { (m : Machine) → HasEachBoard m (new_known m) }
     ensures row { (m : Machine) (switches : List Switch) (r : Known) (k : ℕ) (states : List State)
-        (note : Option Note) → IsWhole m r → IsRow m k (reacts m switches r k states note).ordered }
+        (note : Option Note) → HasEachBoard m r → IsRow m k (reacts m switches r k states note).ordered }
     ensures whole { (m : Machine) (switches : List Switch) (r : Known) (k : ℕ) (states : List State)
-        (note : Option Note) → IsWhole m r → IsWhole m (reacts m switches r k states note).known }
+        (note : Option Note) → HasEachBoard m r → HasEachBoard m (reacts m switches r k states note).known }
 {}
 
 /// The law of blame: a run ends for want of memory, for what the reactor was told, or, where it was told
@@ -123,7 +123,7 @@ pub fn orders_stand_in_rows()
 /// While it goes on it was told nothing.
 pub fn ends_as_told()
     ensures ends { (m : Machine) (switches : List Switch) (r : Known) (k : ℕ) (states : List State) (note : Option Note)
-        (c : Cause) → (reacts m switches r k states note).ordered.end ≡ Some c → EndsFor r.stopped c }
+        (c : Cause) → (reacts m switches r k states note).ordered.end ≡ Some c → MayEndFor r.stopped c }
     ensures goes { (m : Machine) (switches : List Switch) (r : Known) (k : ℕ) (states : List State)
         (note : Option Note) → (reacts m switches r k states note).ordered.end ≡ None →
         (r.stopped ≡ None) × ((reacts m switches r k states note).known.stopped ≡ None) }

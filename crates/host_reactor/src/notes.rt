@@ -2,7 +2,7 @@
 
 ghost use Rattle.std.specs.Prelude.{◌≡◌, ◌≤◌, length, OnOk};
 ghost use Rattle.axis_homing.specs.Homing.{StartsTogether};
-ghost use Rattle.host_reactor.specs.Notes.{told, told_all, noted, news_of, is_out};
+ghost use Rattle.host_reactor.specs.Notes.{known_behind, told_all, noted, news_of, is_out};
 
 use crate::OutOfMemory;
 use crate::ordered::{Begun, Known, Reading};
@@ -16,7 +16,7 @@ fn tell(m: &Machine, r: &mut Known, news: &NoteNews) -> Result<(), OutOfMemory>
     requires boards { length m.now.boards ≤ 8 }
     requires starts { StartsTogether r.old.homing }
     ensures starts { StartsTogether r.new.homing }
-    ensures value { OnOk result (r.new ≡ told m.now r.old news.now) }
+    ensures value { OnOk result (r.new ≡ known_behind m.now r.old news.now) }
     ensures askings { r.new.askings ≡ r.old.askings }
 {
     match *news {

@@ -4,7 +4,7 @@ ghost use Rattle.std.specs.Prelude.{◌≡◌, ◌+◌, ◌<◌, ◌≤◌, ◌^
 ghost use Rattle.plan_types.specs.Machines.{IsValidMachine};
 ghost use Rattle.arrayvec.specs.ArrayVec.{array_vec_len};
 ghost use Rattle.board_asking.specs.Kept.{IsEarly};
-ghost use Rattle.host_reactor.specs.Kept.{IsKept};
+ghost use Rattle.host_reactor.specs.Kept.{HasAskings};
 ghost use Rattle.board_asking.specs.Connecting.{control, board_lines, ready_all, listen_all};
 ghost use Rattle.host_reactor.specs.Reactor.{Reacted, plain_controls, given, ends, asks_boards, is_connected_now, unless_given_up, connects, by_phase, unless_late_stale, unless_ended, reacts_to};
 ghost use Rattle.board_asking.specs.Drift.{stale};
@@ -107,8 +107,8 @@ fn ask_boards(
     requires valid { IsValidMachine m.now }
     requires count { length askings.now ≡ length m.now.boards }
     requires early { All IsEarly askings.now }
-    requires kept { IsKept m.now r.old }
-    ensures kept { IsKept m.now r.new }
+    requires kept { HasAskings m.now r.old }
+    ensures kept { HasAskings m.now r.new }
     ensures known { OnOk result (r.new ≡ (asks_boards m.now r.old k lines askings.now).known) }
     ensures ordered { IfOk result (λ o. o ≡ (asks_boards m.now r.old k lines askings.now).ordered) }
 {
@@ -144,8 +144,8 @@ fn connected_now(
     requires valid { IsValidMachine m.now }
     requires count { array_vec_len askings ≡ length m.now.boards }
     requires early { All IsEarly askings.items }
-    requires kept { IsKept m.now r.old }
-    ensures kept { IsKept m.now r.new }
+    requires kept { HasAskings m.now r.old }
+    ensures kept { HasAskings m.now r.new }
     ensures known { OnOk result (r.new ≡ (is_connected_now m.now r.old k lines askings.items).known) }
     ensures ordered { IfOk result (λ o. o ≡ (is_connected_now m.now r.old k lines askings.items).ordered) }
 {
@@ -182,8 +182,8 @@ fn connect(
     requires valid { IsValidMachine m.now }
     requires few { k < 2 ^ 59 }
     requires turns { All (λ s. s.turn < 2 ^ 59) states.now }
-    requires kept { IsKept m.now r.old }
-    ensures kept { IsKept m.now r.new }
+    requires kept { HasAskings m.now r.old }
+    ensures kept { HasAskings m.now r.new }
     ensures known { OnOk result (r.new ≡ (connects m.now r.old k states.now lines).known) }
     ensures ordered { IfOk result (λ o. o ≡ (connects m.now r.old k states.now lines).ordered) }
 {
@@ -211,8 +211,8 @@ fn stop_turn(
     line: u64,
 ) -> Result<Ordered, OutOfMemory>
     requires turns { All (λ s. s.turn < 2 ^ 59) states.now }
-    requires kept { IsKept m.now r.old }
-    ensures kept { IsKept m.now r.new }
+    requires kept { HasAskings m.now r.old }
+    ensures kept { HasAskings m.now r.new }
     ensures known { OnOk result (r.new
         ≡ (unless_late_stale (stale k 0 (listen_all r.old.askings.items states.now)) m.now r.old k lines line).known) }
     ensures ordered { IfOk result (λ o. o
@@ -241,8 +241,8 @@ fn by_phase(
     requires few { k < 2 ^ 59 }
     requires numbers { length states.now ≤ 8 }
     requires turns { All (λ s. s.turn < 2 ^ 59) states.now }
-    requires kept { IsKept setting.now.machine.now r.old }
-    ensures kept { IsKept setting.now.machine.now r.new }
+    requires kept { HasAskings setting.now.machine.now r.old }
+    ensures kept { HasAskings setting.now.machine.now r.new }
     ensures known { OnOk result (r.new
         ≡ (by_phase r.old.phase setting.now.machine.now setting.now.scene.now.switches r.old k states.now
         lines).known) }
@@ -279,8 +279,8 @@ pub fn react(
     requires few { k < 2 ^ 59 }
     requires states { length states.now ≤ 8 }
     requires turns { All (λ s. s.turn < 2 ^ 59) states.now }
-    requires kept { IsKept setting.now.machine.now r.old }
-    ensures kept { IsKept setting.now.machine.now r.new }
+    requires kept { HasAskings setting.now.machine.now r.old }
+    ensures kept { HasAskings setting.now.machine.now r.new }
     ensures known { OnOk result (r.new
         ≡ (reacts_to setting.now.machine.now setting.now.scene.now.switches r.old k states.now news.now out).known) }
     ensures ordered { IfOk result (λ o. o

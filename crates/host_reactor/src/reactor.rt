@@ -6,7 +6,7 @@ ghost use Rattle.plan_types.specs.Machines.{IsValidMachine};
 ghost use Rattle.axis_homing.specs.Homing.{StartsTogether};
 ghost use Rattle.host_reactor.specs.Free.{free_turns, IsAtRest};
 ghost use Rattle.board_asking.specs.Kept.{IsEarly};
-ghost use Rattle.host_reactor.specs.Kept.{IsKept};
+ghost use Rattle.host_reactor.specs.Kept.{HasAskings};
 ghost use Rattle.host_reactor.specs.Reactor.{Run, first_run, new_askings, new_known, reacts, stopped_by};
 
 use crate::OutOfMemory;
@@ -41,7 +41,7 @@ impl<'a> Model for Reactor<'a> {
     ghost use Rattle.plan_types.specs.Machines.{IsValidMachine};
     ghost use Rattle.axis_homing.specs.Homing.{StartsTogether};
     ghost use Rattle.host_reactor.specs.Free.{free_turns, IsAtRest};
-    ghost use Rattle.host_reactor.specs.Kept.{IsKept};
+    ghost use Rattle.host_reactor.specs.Kept.{HasAskings};
     ghost use Rattle.host_reactor.specs.Reactor.{Run};
 
     ghost Value = { Run };
@@ -53,7 +53,7 @@ impl<'a> Model for Reactor<'a> {
       next = r.next;
     } };
 
-    ghost invariant = { λ r. IsValidMachine r.setting.machine.now × IsKept r.setting.machine.now r.known };
+    ghost invariant = { λ r. IsValidMachine r.setting.machine.now × HasAskings r.setting.machine.now r.known };
 }
 
 impl<'a> Reactor<'a> {
@@ -174,7 +174,7 @@ fn put_new(boards: &[BoardDef], out: &mut ArrayVec<Asking, 8>)
 fn new_known(alloc: Global, m: &Machine) -> Known
     requires { IsValidMachine m.now }
     ensures value { result ≡ new_known m.now }
-    ensures kept { IsKept m.now result }
+    ensures kept { HasAskings m.now result }
 {
     let mut askings = ArrayVec::new();
     put_new(m.boards.as_slice(), &mut askings);

@@ -5,7 +5,7 @@ ghost use Rattle.arrayvec.specs.ArrayVec.{array_vec_len};
 ghost use Rattle.plan_types.specs.Machines.{IsValidMachine, axis_at};
 ghost use Rattle.axis_homing.specs.Homing.{StartsTogether};
 ghost use Rattle.board_asking.specs.Kept.{IsEarly};
-ghost use Rattle.host_reactor.specs.Kept.{IsKept};
+ghost use Rattle.host_reactor.specs.Kept.{HasAskings};
 ghost use Rattle.board_asking.specs.Drift.{waiting, after_question};
 ghost use Rattle.host_reactor.specs.Reactor.{homing_commands, run_control, run_controls, run_askings, cut_line, homed, stop_command, phase_after, stops, carries_on, finishes, unless_homing_ends, homes, after_homing, unless_stale, runs};
 ghost use Rattle.axis_homing.specs.Homing.{homing_turn};
@@ -166,8 +166,8 @@ fn carry_on(
     requires valid { IsValidMachine setting.now.machine.now }
     requires count { length askings.now ≡ length setting.now.machine.now.boards }
     requires early { All IsEarly askings.now }
-    requires kept { IsKept setting.now.machine.now r.old }
-    ensures kept { IsKept setting.now.machine.now r.new }
+    requires kept { HasAskings setting.now.machine.now r.old }
+    ensures kept { HasAskings setting.now.machine.now r.new }
     ensures known { OnOk result
         (r.new ≡ (carries_on setting.now.machine.now r.old k lines askings.now turn.now stop).known) }
     ensures ordered { IfOk result
@@ -222,8 +222,8 @@ fn finish(
     requires valid { IsValidMachine setting.now.machine.now }
     requires count { length askings.now ≡ length setting.now.machine.now.boards }
     requires early { All IsEarly askings.now }
-    requires kept { IsKept setting.now.machine.now r.old }
-    ensures kept { IsKept setting.now.machine.now r.new }
+    requires kept { HasAskings setting.now.machine.now r.old }
+    ensures kept { HasAskings setting.now.machine.now r.new }
     ensures known { OnOk result
         (r.new ≡ (finishes how setting.now.machine.now r.old k lines askings.now turn.now).known) }
     ensures ordered { IfOk result
@@ -254,8 +254,8 @@ fn behind_homing(
     requires valid { IsValidMachine setting.now.machine.now }
     requires count { length askings.now ≡ length setting.now.machine.now.boards }
     requires early { All IsEarly askings.now }
-    requires kept { IsKept setting.now.machine.now r.old }
-    ensures kept { IsKept setting.now.machine.now r.new }
+    requires kept { HasAskings setting.now.machine.now r.old }
+    ensures kept { HasAskings setting.now.machine.now r.new }
     ensures known { OnOk result (r.new
         ≡ (homes setting.now.machine.now setting.now.scene.now.switches r.old k states.now lines askings.now
         turn.now).known) }
@@ -304,8 +304,8 @@ fn run_on(
     requires valid { IsValidMachine setting.now.machine.now }
     requires numbers { length states.now ≤ 8 }
     requires turns { All (λ s. s.turn < 2 ^ 59) states.now }
-    requires kept { IsKept setting.now.machine.now r.old }
-    ensures kept { IsKept setting.now.machine.now r.new }
+    requires kept { HasAskings setting.now.machine.now r.old }
+    ensures kept { HasAskings setting.now.machine.now r.new }
     ensures known { OnOk result
         (r.new ≡ (runs setting.now.machine.now setting.now.scene.now.switches r.old k states.now lines).known) }
     ensures ordered { IfOk result
@@ -332,8 +332,8 @@ pub fn run(
     requires valid { IsValidMachine setting.now.machine.now }
     requires numbers { length states.now ≤ 8 }
     requires turns { All (λ s. s.turn < 2 ^ 59) states.now }
-    requires kept { IsKept setting.now.machine.now r.old }
-    ensures kept { IsKept setting.now.machine.now r.new }
+    requires kept { HasAskings setting.now.machine.now r.old }
+    ensures kept { HasAskings setting.now.machine.now r.new }
     ensures known { OnOk result
         (r.new ≡ (runs setting.now.machine.now setting.now.scene.now.switches r.old k states.now lines).known) }
     ensures ordered { IfOk result

@@ -18,14 +18,14 @@ ghost use Rattle.link_work.specs.Stands.{first_state};
 ghost use Rattle.link_work.specs.Turn.{LinkState, Orders};
 ghost use Rattle.laws_board.specs.sections.Links.{ends_of};
 ghost use Rattle.laws_board.specs.sections.Events.{AreTicks};
-ghost use Rattle.laws_board.specs.sections.Parts.{AreInARow, AreTracked, IsRun};
+ghost use Rattle.laws_board.specs.sections.Parts.{AreInARow, AreTracked, IsBoardRun};
 ghost use Rattle.laws_board.specs.sections.Runs.{AreSpilled};
 
 /// The law of releases: where no unit that is due before a turn is released more than n turns behind its due
 /// one, all units of sections that ended n turns before another, at most that one, are released before it.
 pub fn units_are_released()
     ensures { (own : ℕ → ℕ) (clocks : Clocks) (freq slots ready n turns turn : ℕ) (ss : List BoardSection)
-        (os : List Orders) → AreTicks own → IsRun own clocks freq slots ready ss os → AreSpilled turns n ss →
+        (os : List Orders) → AreTicks own → IsBoardRun own clocks freq slots ready ss os → AreSpilled turns n ss →
         turn ≤ turns → All (λ s. s.end + n < turn) ss → AreReleased turn ss }
 {}
 

@@ -11,13 +11,13 @@ ghost use Rattle.wire_scene.specs.declared.scene.Switch.{Switch};
 ghost use Rattle.wire_scene.specs.Wire.{Line};
 ghost use Rattle.link_work.specs.Answers.{IsAmong};
 ghost use Rattle.link_work.specs.Stands.{first_state};
-ghost use Rattle.link_work.specs.Used.{IsRun, used_in};
+ghost use Rattle.link_work.specs.Used.{IsLineRun, used_in};
 ghost use Rattle.board_asking.specs.Machine.{configuration};
 ghost use Rattle.board_asking.specs.Turns.{AreUnanswered};
 ghost use Rattle.host_reactor.specs.declared.ordered.Phase.TheVariants.{Connecting, Running};
 ghost use Rattle.host_reactor.specs.Notes.{is_out, noted};
 ghost use Rattle.host_reactor.specs.Running.{first_cause};
-ghost use Rattle.host_reactor.specs.Runs.{Came, HaveStates, known_by, last_turn, state_at, told_by};
+ghost use Rattle.host_reactor.specs.Runs.{Came, HaveStates, known_by, last_reacted, state_at, told_by};
 ghost use Rattle.laws_board.specs.turns.Turns.{BoardTurn, latest_state};
 ghost use Rattle.laws_board.specs.clocks.Runs.{IsInRun, UnitsFit};
 ghost use Rattle.laws_board.specs.causes.Causes.{AllUnanswered, AreAskedAndHindered, AreHindered, AreInRow, AsksNoneBetween, BringNoSteps, IsDisturbedAround, IsHindered, came_by_turn};
@@ -34,7 +34,7 @@ pub fn connecting_ends_for_a_cause()
         IsInRun m switches pins entries b before turns → HaveStates m (c ∷ before) →
         state_at b c.states ≡ latest_state turns → BringNoSteps turns → length before < 2 ^ 59 →
         first_cause (is_out c.note) (noted m c.note (known_by m switches before)).stopped c.states ≡ None →
-        (last_turn m switches c before).ordered.end ≡ Some (Cause.Connect b turn) →
+        (last_reacted m switches c before).ordered.end ≡ Some (Cause.Connect b turn) →
         (count : ℕ) × (8 ≤ count) × AreUnanswered (configuration m b) (told_by b (c ∷ before)) turn count
         × AreHindered (first_state (board_at m b) pins b entries) turns turn count }
 {}
@@ -67,7 +67,7 @@ pub fn stale_ends_for_a_cause()
         IsInRun m switches pins entries b before turns → state_at b c.states ≡ latest_state turns → UnitsFit turns →
         length before < 2 ^ 59 →
         first_cause (is_out c.note) (noted m c.note (known_by m switches before)).stopped c.states ≡ None →
-        (last_turn m switches c before).ordered.end ≡ Some (Cause.Stale b turn) →
+        (last_reacted m switches c before).ordered.end ≡ Some (Cause.Stale b turn) →
         (1_000 ≤ turn)
         × ((asked : List ℕ) × (200 ≤ length asked) × AreInRow turn (length turns) asked
         × AsksNoneBetween turns (length turns) asked × AllUnanswered m switches b (c ∷ before) asked
@@ -82,7 +82,8 @@ pub fn stale_ends_for_a_cause()
 /// The law of entries: on a line of a link an entry that is used in a turn or later is one of the scene's,
 /// which numbers a block that was put in such a turn.
 pub fn disturbed_lines_used_entries()
-    ensures { (connecting entries : List Entry) (turns since : ℕ) (l : Line) (r : IsRun connecting entries turns l) →
+    ensures { (connecting entries : List Entry) (turns since : ℕ) (l : Line)
+        (r : IsLineRun connecting entries turns l) →
         since + 4 < l.calm → (k : ℕ) × (since ≤ k) × IsAmong k (used_in connecting entries r.dones) }
 {}
 

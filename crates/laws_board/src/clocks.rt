@@ -21,14 +21,14 @@ ghost use Rattle.wire_scene.specs.declared.scene.Way.TheVariants.{Down, Up};
 ghost use Rattle.wire_scene.specs.Wire.{entries_of};
 ghost use Rattle.board_world.specs.Orders.{plain};
 ghost use Rattle.board_world.specs.World.{on_wire};
-ghost use Rattle.link_work.specs.Ends.{EndSo, last_of};
+ghost use Rattle.link_work.specs.Ends.{EndSo, last_link};
 ghost use Rattle.link_work.specs.Limits.{AllKeepLimits, bytes_in, closing_in};
 ghost use Rattle.link_work.specs.Runs.{AreTurns};
 ghost use Rattle.link_work.specs.Turn.{LinkState};
 ghost use Rattle.link_work.specs.Stands.{first_state};
 ghost use Rattle.host_reactor.specs.declared.ordered.Phase.TheVariants.{Connecting, Stopping};
 ghost use Rattle.host_reactor.specs.Notes.{noted};
-ghost use Rattle.host_reactor.specs.Runs.{Came, known_by, last_turn};
+ghost use Rattle.host_reactor.specs.Runs.{Came, known_by, last_reacted};
 ghost use Rattle.laws_board.specs.turns.Turns.{AreBoardTurns, BoardTurn, stands_after};
 ghost use Rattle.plan_types.specs.Sections.{clocks_at};
 ghost use Rattle.clock_line.specs.Early.{turn_tick};
@@ -60,7 +60,7 @@ pub fn clock_lines_are_samples()
         (c : Came) (before : List Came) (t : BoardTurn) (turns : List BoardTurn) →
         IsInRun m switches pins entries b (c ∷ before) (t ∷ turns) →
         All (IsSampled (clock_of (board_at m b)) turns)
-        (lines_told b (last_turn m switches c before).ordered.word.news) }
+        (lines_told b (last_reacted m switches c before).ordered.word.news) }
     ensures known { (m : Machine) (switches : List Switch) (pins : List (List Level)) (entries : List Entry) (b : ℕ)
         (came : List Came) (turns : List BoardTurn) → IsInRun m switches pins entries b came turns →
         ((known_by m switches came).phase ≡ Connecting → ⊥) →
@@ -70,7 +70,7 @@ pub fn clock_lines_are_samples()
         (c : Came) (before : List Came) (t : BoardTurn) (turns : List BoardTurn) →
         IsInRun m switches pins entries b (c ∷ before) (t ∷ turns) →
         All (IsFresh (clock_of (board_at m b)) turns)
-        (further_lines b (last_turn m switches c before).ordered.word.news) }
+        (further_lines b (last_reacted m switches c before).ordered.word.news) }
 {}
 
 /// The law of samples: where there are some, the line is taken of the first of the quickest: the sample is
@@ -217,7 +217,7 @@ pub fn clear_links_give_exact_lines()
         (board_at m b).freq % 1_000 ≡ 0 →
         All (λ l. IsSampledAtOnce (clock_of (board_at m b)) turns l
         × ((board_at m b).drift ≡ pos 0 → IsExact (clock_of (board_at m b)) l))
-        (lines_told b (last_turn m switches c before).ordered.word.news) }
+        (lines_told b (last_reacted m switches c before).ordered.word.news) }
     ensures unused { (m : Machine) (switches : List Switch) (pins : List (List Level)) (entries : List Entry) (b : ℕ)
         (came : List Came) (turns : List BoardTurn) → IsInRun m switches pins entries b came turns →
         (known_by m switches came).phase ≡ Connecting → entries_of b Down true entries ≡ [] →
@@ -234,7 +234,7 @@ pub fn board_turns_are_turns()
     ensures ends { (clock : BoardClock) (first : LinkState) (turns : List BoardTurn) → AreBoardTurns clock first turns →
         EndSo clock 0 (orders_in turns) first (ends_in turns) }
     ensures last { (first : LinkState) (turns : List BoardTurn) →
-        last_of first (ends_in turns) ≡ stands_after first turns }
+        last_link first (ends_in turns) ≡ stands_after first turns }
     ensures limits { (m : Machine) (switches : List Switch) (pins : List (List Level)) (entries : List Entry) (b : ℕ)
         (came : List Came) (turns : List BoardTurn) → IsValidMachine m → IsInRun m switches pins entries b came turns →
         ((line : ℕ) → (known_by m switches came).phase ≡ Stopping line → ⊥) → UnitsFit turns →

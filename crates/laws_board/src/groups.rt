@@ -4,7 +4,7 @@ ghost use Rattle.std.specs.Prelude.{◌≡◌, ℕ, ◌≤◌, ◌+◌, ◌++◌
 ghost use Rattle.plan_types.specs.declared.plan.Line.{Line};
 ghost use Rattle.msg_code.specs.declared.cmd.Cmd.TheVariants as cmd;
 ghost use Rattle.board_sim.specs.Rig.{Rig, Slot, slot_at};
-ghost use Rattle.board_sim.specs.RigRuns.{RigStep, Takes, all_made, rig_after_all, AreBehind, AllBefore};
+ghost use Rattle.board_sim.specs.RigRuns.{RigStep, Takes, all_made, rig_after_all, AreBehindSetUp, AllBefore};
 ghost use Rattle.std.specs.List.{Contains};
 ghost use Rattle.trigger_group.specs.declared.order.Member.{Member};
 ghost use Rattle.trigger_group.specs.Group.{new_group};
@@ -16,7 +16,7 @@ ghost use Rattle.laws_board.specs.groups.Homing.{tick_of, timed_and_bound, AreOf
 /// but for a new start of the trigger or a new clock of the stepper.
 pub fn bound_steppers_stop_with_their_trigger()
     ensures { (r : Rig) (steps : List RigStep) (stepper trigger : ℕ) (s : Slot) → HasBoth stepper trigger r →
-        AreBehind stepper trigger steps →
+        AreBehindSetUp stepper trigger steps →
         slot_at (rig_after_all (Takes (cmd.StepperStopOnTrigger stepper trigger) ∷ steps) r) trigger ≡ Some s →
         s.trigger.can ≡ false →
         AllBefore stepper s.trigger.tick (all_made (Takes (cmd.StepperStopOnTrigger stepper trigger) ∷ steps) r) }
@@ -30,7 +30,7 @@ pub fn bound_steppers_stop_with_their_trigger()
 pub fn members_stop_in_time()
     ensures end { (ms : List Member) (start last turn : ℕ) (rss : List (List Report)) (line : Line) (r : Rig)
         (between behind : List RigStep) (stepper trigger c : ℕ) → HasBoth stepper trigger r →
-        AreBehind stepper trigger (between ++ behind) →
+        AreBehindSetUp stepper trigger (between ++ behind) →
         AreOfGroup line trigger (all_sent turn rss (new_group ms start last)) r
         (timed_and_bound stepper trigger c between ++ behind) →
         AllBefore stepper (tick_of line (last + 1))
@@ -38,7 +38,7 @@ pub fn members_stop_in_time()
     ensures heard { (ms : List Member) (start last turn : ℕ) (rss : List (List Report)) (line : Line) (r : Rig)
         (between behind : List RigStep) (stepper trigger c u : ℕ) (m : Member) → Contains ms m → start ≤ u →
         CouldUpTo m.board u (all_reports rss) → HasBoth stepper trigger r →
-        AreBehind stepper trigger (between ++ behind) →
+        AreBehindSetUp stepper trigger (between ++ behind) →
         AreOfGroup line trigger (all_sent turn rss (new_group ms start last)) r
         (timed_and_bound stepper trigger c between ++ behind) →
         AllBefore stepper (tick_of line (u + 25))
@@ -47,7 +47,7 @@ pub fn members_stop_in_time()
         (between behind : List RigStep) (stepper trigger c u : ℕ) (m : Member) (own : Line) (q : Rig)
         (steps : List RigStep) (i j : ℕ) → Contains ms m → start ≤ u →
         HasTriggeredIn own m.board i j q steps (all_reports rss) u → HasBoth stepper trigger r →
-        AreBehind stepper trigger (between ++ behind) →
+        AreBehindSetUp stepper trigger (between ++ behind) →
         AreOfGroup line trigger (all_sent turn rss (new_group ms start last)) r
         (timed_and_bound stepper trigger c between ++ behind) →
         AllBefore stepper (tick_of line (u + 25))

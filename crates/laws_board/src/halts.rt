@@ -4,11 +4,11 @@ ghost use Rattle.std.specs.Prelude.{◌≡◌, ◌+◌, ◌^◌, ◌++◌, ◌�
 ghost use Rattle.plan_types.specs.declared.levels.Level.{Level};
 ghost use Rattle.plan_types.specs.declared.machine.BoardDef.{BoardDef};
 ghost use Rattle.board_sim.specs.Fair.{only};
-ghost use Rattle.board_world.specs.World.{Step, AllFair, run, start};
+ghost use Rattle.board_world.specs.World.{Step, AllFair, run_world, new_world};
 ghost use Rattle.link_work.specs.Turn.{LinkState, Orders};
 ghost use Rattle.plan_types.specs.declared.plan.Pulse.{Pulse};
 ghost use Rattle.plan_types.specs.Lines.{Clocks};
-ghost use Rattle.laws_board.specs.sections.Courses.{AllHeed, AreMadeFor, IsGoodRun, courses, parts_of};
+ghost use Rattle.laws_board.specs.sections.Courses.{AllHeed, AreMadeFor, IsGoodRun, courses, course_parts};
 ghost use Rattle.laws_board.specs.sections.Events.{AreOwn, AreTicks};
 ghost use Rattle.laws_board.specs.sections.Homes.{AreOverBy, AreSettledOn, IsHomeBoard, IsHomeRun, IsHomeSpan, IsSplitIn, NextBehind, RunSection};
 ghost use Rattle.laws_board.specs.sections.Boards.{OnBoard, told_in};
@@ -35,17 +35,17 @@ ghost use Rattle.plan_types.specs.declared.plan.BoardState.TheVariants.{Shut};
 /// a unit of its sections, and a later tick at which it took that unit.
 pub fn halted_steppers_keep_fronts()
     ensures fair { (b : BoardDef) (pins : List (List Level)) (own : ℕ → ℕ) (stops : ℕ → Option ℕ) (os : List Orders)
-        (steps : List Step) → IsGoodRun b pins own stops os steps → AllFair (start b pins) steps }
+        (steps : List Step) → IsGoodRun b pins own stops os steps → AllFair (new_world b pins) steps }
     ensures reason { (b : BoardDef) (pins : List (List Level)) (own : ℕ → ℕ) (stops : ℕ → Option ℕ) (os : List Orders)
         (steps : List Step) → IsGoodRun b pins own stops os steps →
-        MayBe (run steps (start b pins)).board.controller.state }
+        MayBe (run_world steps (new_world b pins)).board.controller.state }
     ensures fronts { (b : BoardDef) (pins : List (List Level)) (own : ℕ → ℕ) (stops : ℕ → Option ℕ) (os : List Orders)
         (steps : List Step) → (r : IsGoodRun b pins own stops os steps) → (oid : ℕ) →
-        AreMadeFor own stops (parts_of (courses r.front oid)) (only oid (run steps (start b pins)).made) }
+        AreMadeFor own stops (course_parts (courses r.front oid)) (only oid (run_world steps (new_world b pins)).made) }
     ensures late { (b : BoardDef) (pins : List (List Level)) (own : ℕ → ℕ) (clocks : Clocks) (ready : ℕ)
         (stops : ℕ → Option ℕ) (ss : List RunSection) (os : List Orders) (steps : List Step) (tick first : ℕ) →
         IsHomeRun own clocks b.freq b.slots ready stops ss os → IsGoodRun b pins own stops os steps →
-        (run steps (start b pins)).board.controller.state ≡ Shut 1 tick first →
+        (run_world steps (new_world b pins)).board.controller.state ≡ Shut 1 tick first →
         IsLateUnit (map (λ s. s.section) ss) tick first }
 {}
 
@@ -72,14 +72,15 @@ pub fn homing_sections_keep_their_turns()
         (before during behind : List Orders) (first second : List Step) →
         IsHomeSpan b pins own clocks ready stops (past ++ s ∷ later) before during behind first second →
         length before + 1 ≡ s.section.start → NextBehind (length before + length during) later →
-        (pulses : List Pulse) × Made (run first (start b pins)) (run (first ++ second) (start b pins)) pulses
+        (pulses : List Pulse)
+        × Made (run_world first (new_world b pins)) (run_world (first ++ second) (new_world b pins)) pulses
         × ((oid : ℕ) → Fits b.freq (base_of clocks s.section) (only oid pulses) (s.section.plan oid)) }
     ensures between { (b : BoardDef) (pins : List (List Level)) (own : ℕ → ℕ) (clocks : Clocks) (ready : ℕ)
         (stops : ℕ → Option ℕ) (past later : List RunSection) (before during behind : List Orders)
         (first second : List Step) →
         IsHomeSpan b pins own clocks ready stops (past ++ later) before during behind first second →
         AreOverBy (length before) past → NextBehind (length before + length during) later →
-        (run (first ++ second) (start b pins)).made ≡ (run first (start b pins)).made }
+        (run_world (first ++ second) (new_world b pins)).made ≡ (run_world first (new_world b pins)).made }
 {}
 
 /// The law of sections, of a board in a run in which axes home: the pulses that it tells from the turn before
@@ -110,13 +111,13 @@ pub fn homing_links_are_timely()
         AreOwn b (length os) own → IsHomeRun own clocks b.freq b.slots ready stops ss os →
         (split : IsSplitIn own stops b.slots ss os) →
         AreSettledOn stops split.front (clock_of b) 0 [] os (first_state b pins board entries) l t →
-        AllHeed split.front split.tail (start b pins)
+        AllHeed split.front split.tail (new_world b pins)
         (steps_of (clock_of b) 0 os (first_state b pins board entries) l t) →
         AreSpilled turns m (map (λ s. s.section) ss) → length os ≤ turns →
         ((done : List Orders) (o : Orders) (rest : List Orders) → os ≡ done ++ (o ∷ rest) → ControlsKeep done) →
         ((k : ℕ) → spoiled (take k (ends_of (clock_of b) 0 os (first_state b pins board entries) l t)) ≤ n) →
         ((k : ℕ) → own (k + (n + m + 2)) < own k + 2 ^ 31) →
-        AllTimely (start b pins) (steps_of (clock_of b) 0 os (first_state b pins board entries) l t) }
+        AllTimely (new_world b pins) (steps_of (clock_of b) 0 os (first_state b pins board entries) l t) }
     ensures seconds { (b : BoardDef) (turns : ℕ) (own : ℕ → ℕ) (n m : ℕ) → AreOwn b turns own → n + m ≤ 10_700 →
         (k : ℕ) → own (k + (n + m + 2)) < own k + 2 ^ 31 }
 {}

@@ -7,7 +7,7 @@ ghost use Rattle.plan_types.specs.Sections.{clocks_at};
 ghost use Rattle.step_feed.specs.Pacing.{units_of};
 ghost use Rattle.section_units.specs.Sections.{IsSection, of_stepper};
 ghost use Rattle.link_work.specs.Turn.{Orders};
-ghost use Rattle.laws_board.specs.sections.Parts.{AreOrdersOf, AreTracked, IsRun, MakesIn};
+ghost use Rattle.laws_board.specs.sections.Parts.{AreOrdersOf, AreTracked, IsBoardRun, MakesIn};
 ghost use Rattle.motion_work.specs.Boards.{parts_on};
 ghost use Rattle.motion_work.specs.Told.{Told};
 ghost use Rattle.motion_stream.specs.Motions.{IsPlannerOf, Planner};
@@ -21,7 +21,7 @@ ghost use Rattle.laws_board.specs.sections.Homes.{AreOrdersIn, AreSet, HasUnits,
 ghost use Rattle.laws_board.specs.plans.Homed.{AreOutInTime, ArePlannedBefore, TookControlsIn, runs_on, stops_of};
 ghost use Rattle.laws_board.specs.plans.Lines.{AreLinesOf, TellTurns, TookNotes};
 ghost use Rattle.motion_work.specs.Seen.{AreMoves, AreSentBy};
-ghost use Rattle.laws_board.specs.plans.Planned.{AreRead, Plans, nothing_read, planning};
+ghost use Rattle.laws_board.specs.plans.Planned.{AreReadInOrder, Plans, nothing_read, planning};
 ghost use Rattle.session_work.specs.declared.table.ReactorTurn.{ReactorTurn};
 ghost use Rattle.wire_scene.specs.declared.scene.Switch.{Switch};
 
@@ -32,7 +32,7 @@ ghost use Rattle.wire_scene.specs.declared.scene.Switch.{Switch};
 pub fn planners_put_sections()
     ensures { (n : ℕ) (p : Planner) (ts : List MotionTurn) (e : Seat Planner) (text : List ℕ) →
         IsPlannerOf p nothing_seen → Goes (MotionStep planning n) 0 (seated planning p) ts e →
-        AreRead nothing_read ts text → ∥ ((made : Plans p.machine n ts) × (made.seen.text ≡ text)) ∥₁ }
+        AreReadInOrder nothing_read ts text → ∥ ((made : Plans p.machine n ts) × (made.seen.text ≡ text)) ∥₁ }
 {}
 
 /// The law of a board's orders: where a board took the batches that a planner put for it, and controls of a
@@ -59,7 +59,7 @@ pub fn planned_boards_run()
         (ready ≤ length os → (oid : ℕ) →
         All (λ s. of_stepper oid (units_of s.releases) ≢ [] → MakesIn oid (take ready os))
         (parts_on m t.clocks p.seen.begun b)) →
-        IsRun own (clocks_at t.clocks b) (board_at m b).freq (board_at m b).slots ready
+        IsBoardRun own (clocks_at t.clocks b) (board_at m b).freq (board_at m b).slots ready
         (parts_on m t.clocks p.seen.begun b) os }
 {}
 

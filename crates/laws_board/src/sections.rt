@@ -12,7 +12,7 @@ ghost use Rattle.plan_types.specs.Machines.{IsValidBoard, IsValidFreq};
 ghost use Rattle.link_core.specs.Core.{sent};
 ghost use Rattle.msg_code.specs.declared.talk.State.{State};
 ghost use Rattle.wire_scene.specs.declared.scene.Entry.{Entry};
-ghost use Rattle.board_world.specs.World.{Step, run, start};
+ghost use Rattle.board_world.specs.World.{Step, run_world, new_world};
 ghost use Rattle.link_work.specs.Turn.{IsTurn, LinkState, Orders};
 ghost use Rattle.link_work.specs.Stands.{first_state};
 ghost use Rattle.link_work.specs.Runs.{AreTurns};
@@ -22,7 +22,7 @@ ghost use Rattle.laws_board.specs.sections.Links.{AreTold, ends_of, pulses_in, s
 ghost use Rattle.laws_board.specs.sections.Sample.{sample_clock, sample_clocks, sample_section};
 ghost use Rattle.section_units.specs.Sent.{AreSentTo};
 ghost use Rattle.section_units.specs.Sections.{BoardSection, IsSection};
-ghost use Rattle.laws_board.specs.sections.Parts.{AreTracked, IsRun};
+ghost use Rattle.laws_board.specs.sections.Parts.{AreTracked, IsBoardRun};
 ghost use Rattle.laws_board.specs.sections.Timely.{AllTimely, ControlsKeep, TakesSoon};
 
 /// The law of the 32-bit clock: where, as each turn begins, the board has taken all that was queued n turns
@@ -32,9 +32,9 @@ ghost use Rattle.laws_board.specs.sections.Timely.{AllTimely, ControlsKeep, Take
 pub fn units_taken_soon_are_timely()
     ensures { (b : BoardDef) (pins : List (List Level)) (own : ℕ → ℕ) (clocks : Clocks) (ready n turns : ℕ)
         (ss : List BoardSection) (os : List Orders) (steps : List Step) (t : AreTurnsOf own 0 os steps) → AreTicks own →
-        own 0 ≡ b.start → IsRun own clocks b.freq b.slots ready ss os → All (AreSentTo clocks b.freq turns) ss →
+        own 0 ≡ b.start → IsBoardRun own clocks b.freq b.slots ready ss os → All (AreSentTo clocks b.freq turns) ss →
         length os ≤ turns → ((k : ℕ) → own (k + (n + 7)) < own k + 2 ^ 31) →
-        TakesSoon n os own 0 os steps (start b pins) t → AllTimely (start b pins) steps }
+        TakesSoon n os own 0 os steps (new_world b pins) t → AllTimely (new_world b pins) steps }
 {}
 
 /// The law of few spoiled turns: where the control commands of each turn keep the limits, and at the end of
@@ -46,11 +46,11 @@ pub fn few_spoiled_turns_are_timely()
     ensures timely { (b : BoardDef) (pins : List (List Level)) (board : ℕ) (entries : List Entry) (own : ℕ → ℕ)
         (clocks : Clocks) (ready n turns : ℕ) (ss : List BoardSection) (os : List Orders) (l : LinkState)
         (t : AreTurns (clock_of b) 0 os (first_state b pins board entries) l) → AreOwn b (length os) own →
-        IsRun own clocks b.freq b.slots ready ss os → All (AreSentTo clocks b.freq turns) ss → length os ≤ turns →
+        IsBoardRun own clocks b.freq b.slots ready ss os → All (AreSentTo clocks b.freq turns) ss → length os ≤ turns →
         ControlsKeep os →
         ((k : ℕ) → spoiled (take k (ends_of (clock_of b) 0 os (first_state b pins board entries) l t)) ≤ n) →
         ((k : ℕ) → own (k + (n + 7)) < own k + 2 ^ 31) →
-        AllTimely (start b pins) (steps_of (clock_of b) 0 os (first_state b pins board entries) l t) }
+        AllTimely (new_world b pins) (steps_of (clock_of b) 0 os (first_state b pins board entries) l t) }
     ensures seconds { (b : BoardDef) (turns n : ℕ) (own : ℕ → ℕ) → AreOwn b turns own → n ≤ 10_000 → (k : ℕ) →
         own (k + (n + 7)) < own k + 2 ^ 31 }
 {}
@@ -58,9 +58,9 @@ pub fn few_spoiled_turns_are_timely()
 /// The law of idle links: where nothing waits and nothing is outstanding, all that was queued was taken.
 pub fn idle_links_took_all()
     ensures { (b : BoardDef) (pins : List (List Level)) (steps : List Step) →
-        (run steps (start b pins)).link.waiting ≡ [] →
-        (run steps (start b pins)).link.acked ≡ sent (run steps (start b pins)).link →
-        (run steps (start b pins)).taken ≡ (run steps (start b pins)).queued }
+        (run_world steps (new_world b pins)).link.waiting ≡ [] →
+        (run_world steps (new_world b pins)).link.acked ≡ sent (run_world steps (new_world b pins)).link →
+        (run_world steps (new_world b pins)).taken ≡ (run_world steps (new_world b pins)).queued }
 {}
 
 /// The law of links: the turns of a link are such turns of a board, whatever the scene, and those of a valid
@@ -70,7 +70,7 @@ pub fn idle_links_took_all()
 pub fn links_make_turns()
     ensures steps { (clock : BoardClock) (turn : ℕ) (os : List Orders) (l m : LinkState)
         (t : AreTurns clock turn os l m) →
-        (m.core ≡ run (steps_of clock turn os l m t) l.core)
+        (m.core ≡ run_world (steps_of clock turn os l m t) l.core)
         × AreTurnsOf (board_tick clock) turn os (steps_of clock turn os l m t) }
     ensures joined { (own : ℕ → ℕ) (turn : ℕ) (xs ys : List Orders) (first second : List Step) →
         AreTurnsOf own turn xs first → AreTurnsOf own (turn + length xs) ys second →
@@ -96,5 +96,5 @@ pub fn sampled_lines_are_tracked()
 /// The worked example: the units of one millimetre are a section, and that section alone is a run.
 pub fn one_move_is_a_section()
     ensures section { IsSection sample_clocks 16_000_000 1_024 sample_section }
-    ensures run { IsRun (board_tick sample_clock) sample_clocks 16_000_000 1_024 1_000 (sample_section ∷ []) [] }
+    ensures run { IsBoardRun (board_tick sample_clock) sample_clocks 16_000_000 1_024 1_000 (sample_section ∷ []) [] }
 {}

@@ -22,7 +22,7 @@ ghost use Rattle.msg_code.specs.declared.cmd.Cmd.{Cmd};
 ghost use Rattle.msg_code.specs.declared.cmd.Cmd.TheVariants.{TrsyncState};
 ghost use Rattle.msg_code.specs.Table.{row_of};
 ghost use Rattle.msg_code.specs.Text.{IsText};
-ghost use Rattle.board_world.specs.World.{says, text_of};
+ghost use Rattle.board_world.specs.World.{says, wire_text};
 ghost use Rattle.link_work.specs.Answers.{IsAmong};
 ghost use Rattle.link_work.specs.Runs.{queued_in};
 ghost use Rattle.link_work.specs.Stands.{first_state, orders};
@@ -31,7 +31,7 @@ ghost use Rattle.laws_board.specs.clocks.Runs.{IsInRun};
 ghost use Rattle.board_sim.specs.RigRuns.{AllSound, AreRegular, RigStep, rig_after_all};
 ghost use Rattle.trigger_group.specs.declared.order.Order.TheVariants.{Timeout, Trigger};
 ghost use Rattle.trigger_group.specs.declared.seen.Seen.{Seen};
-ghost use Rattle.trigger_group.specs.Group.{GroupState, after, all_fired, any_fired_by, relay_begins, orders as group_orders, to_board};
+ghost use Rattle.trigger_group.specs.Group.{GroupState, turned_group, all_fired, any_fired_by, relay_begins, orders as group_orders, to_board};
 ghost use Rattle.plan_types.specs.Lines.{Clocks, lines_tick};
 ghost use Rattle.plan_types.specs.Sections.{clocks_at};
 ghost use Rattle.msg_code.specs.declared.talk.News.{News};
@@ -58,7 +58,7 @@ ghost use Rattle.host_reactor.specs.declared.ordered.Phase.TheVariants.{Connecti
 ghost use Rattle.host_reactor.specs.Notes.{noted};
 ghost use Rattle.laws_homing.specs.clear_boards.Renewed.{HeardFrom};
 ghost use Rattle.laws_homing.specs.clear_boards.Rests.{RestsOver};
-ghost use Rattle.laws_homing.specs.clear_boards.Turned.{AreBehind, IsTurnedTo, RelaysOne, SetsNone, SetsOne};
+ghost use Rattle.laws_homing.specs.clear_boards.Turned.{AreSentBehind, IsTurnedTo, RelaysOne, SetsNone, SetsOne};
 ghost use Rattle.laws_homing.specs.home_runs.Guards.{HasFired, IsSole};
 ghost use Rattle.plan_types.specs.Board.{nearest};
 ghost use Rattle.plan_types.specs.declared.plan.BoardState.TheVariants.{Running};
@@ -78,10 +78,11 @@ pub fn triggers_expire_where_time_passes_them()
 /// member where it grows.
 pub fn heard_groups_renew_their_timeouts()
     ensures far { (g : GroupState) (turn u : ℕ) → g.start ≤ turn → HeardFrom g.start u g.members →
-        all_fired g.members ≡ false → (u + 25 ≤ (after g turn).sent) ⊎ (g.last + 1 ≤ (after g turn).sent) }
+        all_fired g.members ≡ false → (u + 25 ≤ (turned_group g turn).sent)
+        ⊎ (g.last + 1 ≤ (turned_group g turn).sent) }
     ensures all { (g : GroupState) (turn : ℕ) (m : Seen) → g.start ≤ turn → all_fired g.members ≡ false →
-        Contains g.members m → g.sent < (after g turn).sent →
-        Contains (group_orders g turn) (to_board m (Timeout (after g turn).sent)) }
+        Contains g.members m → g.sent < (turned_group g turn).sent →
+        Contains (group_orders g turn) (to_board m (Timeout (turned_group g turn).sent)) }
 {}
 
 /// The law of reports: while time passes to a tick, a trigger that can trigger tells so at each of its
@@ -128,7 +129,7 @@ pub fn clear_boards_tell_at_once()
         IsAmong c (says (takes_all (stands_after (first_state b pins place entries) before).core.board
         (commands_of (queued_in (orders t.control t.batch)))).rig
         (board_tick (clock_of b) (length before + 1))) →
-        IsText own_formats c (text_of c) → (n : ℕ) × IsAmong (record { number = n; answer = c }) t.state.news }
+        IsText own_formats c (wire_text c) → (n : ℕ) × IsAmong (record { number = n; answer = c }) t.state.news }
 {}
 
 /// The law of news on clear links: where a link rests as a turn begins and as it ends, each of the news of
@@ -144,7 +145,7 @@ pub fn clear_news_are_said_in_their_turn()
         ++ says (takes_all (stands_after (first_state b pins place entries) before).core.board
         (commands_of (queued_in (orders t.control t.batch)))).rig
         (board_tick (clock_of b) (length before + 1)))
-        × IsText own_formats n.answer (text_of a) }
+        × IsText own_formats n.answer (wire_text a) }
 {}
 
 /// The law of limited triggers: a board's one trigger, whose timeout is at a tick and is renewed by commands
@@ -160,9 +161,9 @@ pub fn renewed_triggers_stay_limited()
 /// The law of told states: what has the bytes of an answer is of the same kind; and what has those of an
 /// answer that tells of a trigger, whose numbers fit, is that answer.
 pub fn told_states_are_said()
-    ensures kind { (c told : Cmd) → IsText own_formats told (text_of c) → row_of told ≡ row_of c }
+    ensures kind { (c told : Cmd) → IsText own_formats told (wire_text c) → row_of told ≡ row_of c }
     ensures same { (a b r k oid can reason clock : ℕ) → a < 2 ^ 8 → b < 2 ^ 8 → r < 2 ^ 8 → k < 2 ^ 32 →
-        IsText own_formats (TrsyncState oid can reason clock) (text_of (TrsyncState a b r k)) →
+        IsText own_formats (TrsyncState oid can reason clock) (wire_text (TrsyncState a b r k)) →
         (oid ≡ a) × (can ≡ b) × (reason ≡ r) × (clock ≡ k) }
 {}
 
@@ -202,11 +203,11 @@ pub fn reports_count_in_time()
 pub fn groups_stay_ahead()
     ensures ahead { (Dead : ℕ → Bool) (turn : ℕ) (g : GroupState) → g.start ≤ turn → all_fired g.members ≡ false →
         IsTimed g → IsIn Dead turn g →
-        (turn + 3 ≤ (after g turn).sent) ⊎ (((after g turn).sent ≡ g.last + 1) ⊎ AllOn Dead g.members) }
+        (turn + 3 ≤ (turned_group g turn).sent) ⊎ (((turned_group g turn).sent ≡ g.last + 1) ⊎ AllOn Dead g.members) }
     ensures begins { (Dead : ℕ → Bool) (g : GroupState) → g.relay ≡ None →
         HeardLately g.start g.last g.start g.members → IsIn Dead g.start g }
     ensures goes { (Dead Later : ℕ → Bool) (turn : ℕ) (g h : GroupState) → g.start ≤ turn →
-        all_fired g.members ≡ false → IsTimed g → Hears (after g turn) h → IsIn Dead turn g →
+        all_fired g.members ≡ false → IsTimed g → Hears (turned_group g turn) h → IsIn Dead turn g →
         (AllOn Dead g.members → AllOn Later h.members) →
         (g.start + 4 ≤ turn → any_fired_by g.last g.members ≡ true → g.relay ≡ None → AllOn Later h.members) →
         (any_fired_by g.last g.members ≡ false → HeardLately h.start h.last (turn + 1) h.members) →
@@ -224,29 +225,29 @@ pub fn groups_stay_ahead()
 pub fn turns_keep_triggers_limited()
     ensures ahead { (oid tick limit next clock now until : ℕ) (r : Rig) (cs : List Cmd) → r.controller.tick ≡ now →
         nearest now clock ≡ next → now < next → (takes_all r cs).rig.controller.state ≡ Running →
-        AreBehind oid clock cs → (limit ≡ next) ⊎ SetsOne cs → ((until ≤ next) ⊎ (next ≡ tick)) →
+        AreSentBehind oid clock cs → (limit ≡ next) ⊎ SetsOne cs → ((until ≤ next) ⊎ (next ≡ tick)) →
         IsLimited oid tick limit r → IsTurnedTo oid tick next until r cs }
     ensures fired { (oid tick limit next clock until : ℕ) (r : Rig) (cs : List Cmd) →
-        (takes_all r cs).rig.controller.state ≡ Running → AreBehind oid clock cs → HasFired oid r →
+        (takes_all r cs).rig.controller.state ≡ Running → AreSentBehind oid clock cs → HasFired oid r →
         IsLimited oid tick limit r → IsTurnedTo oid tick next until r cs }
     ensures far { (oid tick limit clock until : ℕ) (r : Rig) (cs : List Cmd) →
-        (takes_all r cs).rig.controller.state ≡ Running → AreBehind oid clock cs → SetsNone cs →
+        (takes_all r cs).rig.controller.state ≡ Running → AreSentBehind oid clock cs → SetsNone cs →
         ((until ≤ limit) ⊎ (limit ≡ tick)) → IsLimited oid tick limit r → IsTurnedTo oid tick limit until r cs }
-    ensures stays { (oid clock until : ℕ) (r : Rig) (cs : List Cmd) → AreBehind oid clock cs → HasFired oid r →
+    ensures stays { (oid clock until : ℕ) (r : Rig) (cs : List Cmd) → AreSentBehind oid clock cs → HasFired oid r →
         HasFired oid (passes (takes_all r cs).rig until).rig }
-    ensures small { (oid clock until : ℕ) (r : Rig) (cs : List Cmd) → AreBehind oid clock cs → AllSmall r →
+    ensures small { (oid clock until : ℕ) (r : Rig) (cs : List Cmd) → AreSentBehind oid clock cs → AllSmall r →
         AllSmall (passes (takes_all r cs).rig until).rig
         × AreSmall ((takes_all r cs).answers ++ says (takes_all r cs).rig until) }
     ensures spoken { (base limit until oid clock now : ℕ) (r : Rig) (cs : List Cmd) (s : Slot) →
         (takes_all r cs).rig.controller.state ≡ Running → slot_at r oid ≡ Some s → s.trigger.untold ≡ None →
-        r.controller.tick ≡ now → now < nearest now clock → AreBehind oid clock cs → RelayNone cs →
+        r.controller.tick ≡ now → now < nearest now clock → AreSentBehind oid clock cs → RelayNone cs →
         AreSpoken base limit until (passes (takes_all r cs).rig until).answers →
         AreSpoken base limit until ((takes_all r cs).answers ++ says (takes_all r cs).rig until) }
     ensures numbered { (oid clock until : ℕ) (r : Rig) (cs : List Cmd) → length r.triggers ≤ 256 →
         length (takes_all r cs).rig.triggers ≤ 256 → IsSole oid r → IsSole oid (takes_all r cs).rig →
-        AreBehind oid clock cs → AreNumbered ((takes_all r cs).answers ++ says (takes_all r cs).rig until) }
+        AreSentBehind oid clock cs → AreNumbered ((takes_all r cs).answers ++ says (takes_all r cs).rig until) }
     ensures relay { (oid clock until : ℕ) (r : Rig) (cs : List Cmd) (s : Slot) → slot_at r oid ≡ Some s →
-        (takes_all r cs).rig.controller.state ≡ Running → AreBehind oid clock cs → RelaysOne cs →
+        (takes_all r cs).rig.controller.state ≡ Running → AreSentBehind oid clock cs → RelaysOne cs →
         HasFired oid (passes (takes_all r cs).rig until).rig }
 {}
 
@@ -266,7 +267,7 @@ pub fn switched_triggers_tell_so()
 pub fn boards_tell_over_turns()
     ensures { (oid base every tick next now until clock : ℕ) (r : Rig) (cs : List Cmd)
         (a : IsAlive oid base every now r) → a.slot.trigger.untold ≡ None → r.controller.tick ≡ now →
-        now < nearest now clock → (takes_all r cs).rig.controller.state ≡ Running → AreBehind oid clock cs →
+        now < nearest now clock → (takes_all r cs).rig.controller.state ≡ Running → AreSentBehind oid clock cs →
         RelayNone cs → IsLimited oid tick next (takes_all r cs).rig → AllSound (takes_all r cs).rig →
         AreRegular (takes_all r cs).rig.triggers → (takes_all r cs).rig.controller.tick ≡ now → now ≤ until →
         until ≤ next →
@@ -348,18 +349,18 @@ pub fn clear_states_tell_of_triggers()
 pub fn group_orders_are_behind()
     ensures behind { (m : Machine) (clocks : Clocks) (b start : ℕ) (axis : AxisDef) (g : GroupState) (turn : ℕ) →
         g.start ≤ turn → all_fired g.members ≡ false →
-        AreBehind (trigger_of m b) (low (turn_tick clocks (after g turn).sent))
+        AreSentBehind (trigger_of m b) (low (turn_tick clocks (turned_group g turn).sent))
         (commands_to m clocks b start axis (group_orders g turn)) }
     ensures none { (m : Machine) (clocks : Clocks) (b start : ℕ) (axis : AxisDef) (g : GroupState) (turn : ℕ) →
         g.start ≤ turn → all_fired g.members ≡ false → g.relay ≡ None → relay_begins g turn ≡ false →
         RelayNone (commands_to m clocks b start axis (group_orders g turn)) }
     ensures sets { (m : Machine) (clocks : Clocks) (b start : ℕ) (axis : AxisDef) (g : GroupState) (turn : ℕ)
         (x : Seen) → g.start ≤ turn → all_fired g.members ≡ false → Contains g.members x → x.member.board ≡ b →
-        (g.sent ≡ (after g turn).sent) ⊎ SetsOne (commands_to m clocks b start axis (group_orders g turn)) }
+        (g.sent ≡ (turned_group g turn).sent) ⊎ SetsOne (commands_to m clocks b start axis (group_orders g turn)) }
     ensures far { (m : Machine) (clocks : Clocks) (b start : ℕ) (axis : AxisDef) (g : GroupState) (turn : ℕ) →
         g.start ≤ turn → all_fired g.members ≡ false → g.sent ≡ g.last + 1 →
         SetsNone (commands_to m clocks b start axis (group_orders g turn)) }
-    ensures unset { (oid : ℕ) (cs : List Cmd) → ((clock : ℕ) → AreBehind oid clock cs) → SetsNone cs }
+    ensures unset { (oid : ℕ) (cs : List Cmd) → ((clock : ℕ) → AreSentBehind oid clock cs) → SetsNone cs }
     ensures relays { (m : Machine) (clocks : Clocks) (b start : ℕ) (axis : AxisDef) (g : GroupState) (turn : ℕ)
         (x : Seen) → x.member.board ≡ b → Contains (group_orders g turn) (to_board x Trigger) →
         RelaysOne (commands_to m clocks b start axis (group_orders g turn)) }
@@ -463,13 +464,13 @@ pub fn groups_go_ahead()
     ensures begins { (Dead : ℕ → Bool) (g : GroupState) → IsTimed g → g.relay ≡ None →
         HeardLately g.start g.last g.start g.members → IsAheadIn Dead g.start g }
     ensures goes { (Dead Later : ℕ → Bool) (turn : ℕ) (g h : GroupState) → g.start ≤ turn →
-        all_fired g.members ≡ false → IsTimed g → Hears (after g turn) h → IsAheadIn Dead turn g →
+        all_fired g.members ≡ false → IsTimed g → Hears (turned_group g turn) h → IsAheadIn Dead turn g →
         (AllOn Dead g.members → AllOn Later h.members) →
         (g.start + 4 ≤ turn → any_fired_by g.last g.members ≡ true → g.relay ≡ None → AllOn Later h.members) →
         (any_fired_by g.last g.members ≡ false → HeardLately h.start h.last (turn + 1) h.members) →
         IsAheadIn Later (turn + 1) h }
     ensures timed { (g h : GroupState) (turn : ℕ) → g.start ≤ turn → all_fired g.members ≡ false → IsTimed g →
-        Hears (after g turn) h → IsTimed h }
+        Hears (turned_group g turn) h → IsTimed h }
     ensures hears { (clocks : List Clocks) (states : List State) (h : Homing) →
         Hears h.group (hears_all clocks states h).group }
 {}
@@ -498,7 +499,7 @@ pub fn members_are_heard_or_known()
         ≡ (board_tick (clock_of b) (length before)) →
         (takes_all (stands_after (first_state b pins place entries) before).core.board
         (commands_of (queued_in (orders t.control t.batch)))).rig.controller.state ≡ Running →
-        AreBehind oid (low (turn_tick (clocks_at all place) next))
+        AreSentBehind oid (low (turn_tick (clocks_at all place) next))
         (commands_of (queued_in (orders t.control t.batch))) →
         RelayNone (commands_of (queued_in (orders t.control t.batch))) →
         (sent ≡ next) ⊎ SetsOne (commands_of (queued_in (orders t.control t.batch))) →
@@ -546,14 +547,14 @@ pub fn homing_turns_are_ordered()
 pub fn homing_boards_are_sent_so()
     ensures behind { (m : Machine) (clocks : Clocks) (b : ℕ) (h : Homing) (turn : ℕ) (g : GroupState)
         (commands : List Cmd) → IsOrdered m clocks b h turn g commands → g.start ≤ turn → all_fired g.members ≡ false →
-        AreBehind (trigger_of m b) (low (turn_tick clocks (after g turn).sent)) commands }
+        AreSentBehind (trigger_of m b) (low (turn_tick clocks (turned_group g turn).sent)) commands }
     ensures none { (m : Machine) (clocks : Clocks) (b : ℕ) (h : Homing) (turn : ℕ) (g : GroupState)
         (commands : List Cmd) → IsOrdered m clocks b h turn g commands → g.start ≤ turn → all_fired g.members ≡ false →
         g.relay ≡ None → relay_begins g turn ≡ false → RelayNone commands }
     ensures sets { (m : Machine) (clocks : Clocks) (b : ℕ) (h : Homing) (turn : ℕ) (g : GroupState)
         (commands : List Cmd) (x : Seen) → IsOrdered m clocks b h turn g commands → g.start ≤ turn →
         all_fired g.members ≡ false → Contains g.members x → x.member.board ≡ b →
-        (g.sent ≡ (after g turn).sent) ⊎ SetsOne commands }
+        (g.sent ≡ (turned_group g turn).sent) ⊎ SetsOne commands }
     ensures relays { (m : Machine) (clocks : Clocks) (b : ℕ) (h : Homing) (turn : ℕ) (g : GroupState)
         (commands : List Cmd) (x : Seen) → IsOrdered m clocks b h turn g commands → g.start ≤ turn →
         all_fired g.members ≡ false → Contains g.members x → x.member.board ≡ b → x.fired ≡ None → g.start + 4 ≤ turn →
@@ -570,7 +571,7 @@ pub fn homing_boards_are_sent_so()
 /// triggered.
 pub fn groups_and_boards_go_on()
     ensures { (own : ℕ → ℕ → ℕ) (oids bases every : ℕ → ℕ) (now next : ℕ → Rig) (turn : ℕ) (g h : GroupState) →
-        g.start ≤ turn → all_fired g.members ≡ false → IsTimed g → Hears (after g turn) h →
+        g.start ≤ turn → all_fired g.members ≡ false → IsTimed g → Hears (turned_group g turn) h →
         members_of h ≡ members_of g →
         ((x : Seen) → Contains g.members x → HasFired (oids x.member.board) (now x.member.board) →
         HasFired (oids x.member.board) (next x.member.board)) →

@@ -27,11 +27,11 @@ ghost use Rattle.axis_homing.specs.Rising.{members_of};
 ghost use Rattle.host_reactor.specs.Notes.{news_of, noted};
 ghost use Rattle.laws_homing.specs.home_runs.Sections.{HomesFrom};
 ghost use Rattle.laws_homing.specs.home_runs.Words.{TellsHomed};
-ghost use Rattle.host_reactor.specs.Runs.{Came, GoesOn, HaveStates, known_by, last_turn, state_at};
+ghost use Rattle.host_reactor.specs.Runs.{Came, GoesOn, HaveStates, known_by, last_reacted, state_at};
 ghost use Rattle.laws_homing.specs.clear_groups.Safe.{IsSafeAt, IsSafeIn};
 ghost use Rattle.laws_homing.specs.clear_groups.Sections.{AllLate, AreOfTurn, BeginsNoneFrom, IsClearSection, IsFollowed, IsPlain, IsRestingSection, rig_at, turns_of};
 ghost use Rattle.laws_homing.specs.clear_groups.SetUp.{AllOfTurn, ArePreparedAt, BeginsSome, HoldsOf, IsNew, IsNewAt, IsNewIn, IsPrepared};
-ghost use Rattle.laws_homing.specs.clear_groups.Quiet.{IsQuiet};
+ghost use Rattle.laws_homing.specs.clear_groups.Quiet.{ReadsNoSwitch};
 ghost use Rattle.laws_homing.specs.clear_groups.Resting.{BeginsAlone};
 ghost use Rattle.laws_homing.specs.clear_boards.Limited.{AllFired};
 ghost use Rattle.laws_homing.specs.clear_groups.Runs.{AreSetUp, BeginNone, IsClearRun};
@@ -135,8 +135,8 @@ pub fn boards_stay_quiet()
         (c : Came) (before : List Came) (all : List (ℕ → BoardTurn)) → length all ≡ length before →
         IsPlain m switches (pins b) entries b before (turns_of b all) → BeginsAlone m switches before →
         AreSetUp m switches pins entries lines ready until (c ∷ before) all → length before + 276 ≤ until →
-        IsQuiet (rig_at m pins entries all b) }
-    ensures prepared { (oid base : ℕ) (r : Rig) → HoldsOf oid (λ ps s. s.trigger.can ≡ false) r → IsQuiet r →
+        ReadsNoSwitch (rig_at m pins entries all b) }
+    ensures prepared { (oid base : ℕ) (r : Rig) → HoldsOf oid (λ ps s. s.trigger.can ≡ false) r → ReadsNoSwitch r →
         AllSound r → HoldsOf oid (λ ps s. IsPrepared base ps s) r }
 {}
 
@@ -210,7 +210,7 @@ pub fn clear_runs_answer_of_no_expiry()
 pub fn answered_sections_are_over()
     ensures told { (m : Machine) (switches : List Switch) (c : Came) (before : List Came) →
         GoesOn m switches (c ∷ before) → ((known_by m switches before).phase ≡ Connecting → ⊥) →
-        TellsHomed (last_turn m switches c before).ordered.word.news →
+        TellsHomed (last_reacted m switches c before).ordered.word.news →
         (known_by m switches (c ∷ before)).homing ≡ None }
     ensures stays { (m : Machine) (switches : List Switch) (later before : List Came) →
         GoesOn m switches (later ++ before) → BeginNone later → (known_by m switches before).homing ≡ None →

@@ -22,12 +22,12 @@ ghost use Rattle.host_reactor.specs.Notes.{noted};
 ghost use Rattle.host_reactor.specs.Runs.{Came, known_by, state_at};
 ghost use Rattle.laws_board.specs.turns.Turns.{BoardTurn, latest_state, stands_after};
 ghost use Rattle.laws_board.specs.clocks.Runs.{IsInRun};
-ghost use Rattle.laws_homing.specs.home_runs.Sections.{HomesFrom, IsAnswered, IsMoved, TakesSetUp};
+ghost use Rattle.laws_homing.specs.home_runs.Sections.{HomesFrom, GroupAnswers, IsMoved, TakesSetUp};
 ghost use Rattle.laws_homing.specs.home_runs.Told.{IsMember};
 ghost use Rattle.laws_homing.specs.home_runs.Settled.{SetNoClockFrom};
 ghost use Rattle.laws_homing.specs.switch_runs.Reports.{HearsSoon};
 ghost use Rattle.laws_homing.specs.switch_runs.Taken.{IsTriggerOf};
-ghost use Rattle.laws_homing.specs.fired_runs.Since.{AreBehind, AreRead, AreReadTrue, BeginsApart, HasFiredSince, ReadsAsTold, ReadsSwitchTrue, ReadsTrue};
+ghost use Rattle.laws_homing.specs.fired_runs.Since.{AreNotAhead, AreSoInTurns, AreReadTrue, BeginsApart, HasFiredSince, ReadsAsTold, ReadsSwitchTrue, ReadsTrue};
 ghost use Rattle.laws_board.specs.sections.Finds.{StepsFindHalted};
 ghost use Rattle.laws_homing.specs.fired_runs.Waiting.{MoveNoneIn, TookNone};
 
@@ -35,14 +35,14 @@ ghost use Rattle.laws_homing.specs.fired_runs.Waiting.{MoveNoneIn, TookNone};
 /// took the command that starts its trigger for this section, with all that was queued before it, and its
 /// trigger has triggered since, whatever happens on the lines. What it takes is that the board's reports that
 /// count are read as ticks since which its trigger could not trigger (`AreReadTrue`), that it is no more than
-/// a turn ahead of its lines as sections start (`AreBehind`), and that homing sections are begun where none
+/// a turn ahead of its lines as sections start (`AreNotAhead`), and that homing sections are begun where none
 /// is known, 251 turns before their starts or earlier (`BeginsApart`).
 pub fn answered_triggers_have_fired()
     ensures { (m : Machine) (switches : List Switch) (pins : List (List Level)) (entries : List Entry) (b : ℕ)
         (c : Came) (before : List Came) (turns : List BoardTurn) (h : Homing) (e : End) → IsValidMachine m →
         IsInRun m switches pins entries b before turns → state_at b c.states ≡ latest_state turns →
         BeginsApart m switches (c ∷ before) → AreReadTrue m switches b (c ∷ before) turns →
-        AreBehind m switches b (c ∷ before) → (noted m c.note (known_by m switches before)).homing ≡ Some h →
+        AreNotAhead m switches b (c ∷ before) → (noted m c.note (known_by m switches before)).homing ≡ Some h →
         answer_in (length before) h.start
         (hears_all (noted m c.note (known_by m switches before)).clocks c.states h).group ≡ Some e →
         IsMember b (members_of h.group) →
@@ -59,8 +59,8 @@ pub fn answers_are_of_trigger_ticks()
     ensures { (m : Machine) (switches : List Switch) (pins : List (List Level)) (entries : List Entry) (b : ℕ)
         (c : Came) (before : List Came) (turns : List BoardTurn) (h : Homing) (tick : ℕ) → IsValidMachine m →
         IsInRun m switches pins entries b before turns → state_at b c.states ≡ latest_state turns →
-        BeginsApart m switches (c ∷ before) → AreRead (ReadsSwitchTrue m switches b) (c ∷ before) turns →
-        AreBehind m switches b (c ∷ before) → (noted m c.note (known_by m switches before)).homing ≡ Some h →
+        BeginsApart m switches (c ∷ before) → AreSoInTurns (ReadsSwitchTrue m switches b) (c ∷ before) turns →
+        AreNotAhead m switches b (c ∷ before) → (noted m c.note (known_by m switches before)).homing ≡ Some h →
         (axis_at m h.axis).board ≡ b →
         answer_in (length before) h.start
         (hears_all (noted m c.note (known_by m switches before)).clocks c.states h).group ≡ Some (Endstop tick) →
@@ -95,8 +95,8 @@ pub fn answered_sections_halt_or_wait()
     ensures { (m : Machine) (switches : List Switch) (pins : List (List Level)) (entries : List Entry) (b : ℕ)
         (c : Came) (before : List Came) (turns : List BoardTurn) (h : Homing) (stepper : ℕ) → IsValidMachine m →
         IsInRun m switches pins entries b before turns → state_at b c.states ≡ latest_state turns →
-        (a : IsAnswered m switches c before h) → IsMoved m b h turns stepper → BeginsApart m switches (c ∷ before) →
-        AreReadTrue m switches b (c ∷ before) turns → AreBehind m switches b (c ∷ before) →
+        (a : GroupAnswers m switches c before h) → IsMoved m b h turns stepper → BeginsApart m switches (c ∷ before) →
+        AreReadTrue m switches b (c ∷ before) turns → AreNotAhead m switches b (c ∷ before) →
         MoveNoneIn (machine.stepper_at m stepper).oid a.from (a.from + 4) turns →
         (stands_after (first_state (board_at m b) pins b entries) turns).core.board.controller.state ≡ Running →
         IsHalted (stepper_at (stands_after (first_state (board_at m b) pins b entries) turns).core.board.controller
@@ -112,8 +112,8 @@ pub fn answered_steppers_halt_before_they_step()
     ensures { (m : Machine) (switches : List Switch) (pins : List (List Level)) (entries : List Entry) (b : ℕ)
         (c : Came) (before : List Came) (turns : List BoardTurn) (h : Homing) (stepper : ℕ) (steps : List Step) →
         IsValidMachine m → IsInRun m switches pins entries b before turns → state_at b c.states ≡ latest_state turns →
-        (a : IsAnswered m switches c before h) → IsMoved m b h turns stepper → BeginsApart m switches (c ∷ before) →
-        AreReadTrue m switches b (c ∷ before) turns → AreBehind m switches b (c ∷ before) →
+        (a : GroupAnswers m switches c before h) → IsMoved m b h turns stepper → BeginsApart m switches (c ∷ before) →
+        AreReadTrue m switches b (c ∷ before) turns → AreNotAhead m switches b (c ∷ before) →
         MoveNoneIn (machine.stepper_at m stepper).oid a.from (a.from + 4) turns →
         (stands_after (first_state (board_at m b) pins b entries) turns).core.board.controller.state ≡ Running →
         StepsFindHalted (machine.stepper_at m stepper).oid

@@ -34,7 +34,7 @@ ghost use Rattle.laws_board.specs.plans.Planned.{Plans};
 ghost use Rattle.laws_homing.specs.home_runs.Ended.{AreToldIn};
 ghost use Rattle.laws_homing.specs.home_plans.Notes.{CameNotes, IsNoteOf};
 ghost use Rattle.laws_board.specs.plans.Rows.{AreInARow};
-ghost use Rattle.laws_homing.specs.fired_runs.Since.{AreBehind, AreReadSo, BeginsApart};
+ghost use Rattle.laws_homing.specs.fired_runs.Since.{AreNotAhead, AreReadSo, BeginsApart};
 ghost use Rattle.laws_homing.specs.home_parts.Answers.{ArePastConnecting, IsPlannedBy, MayHome, TakeSetUps, TellNone, TellsIn};
 ghost use Rattle.laws_homing.specs.home_parts.Cuts.{AreOverBefore, cuts_on};
 ghost use Rattle.laws_homing.specs.home_parts.Known.{KnowsLately, StartInRange};
@@ -89,7 +89,7 @@ pub fn planned_sections_are_apart()
         ((past : List Started) (s : Started) (later : List Started) (axis : ℕ) → begun ≡ past ++ s ∷ later →
         s.section.kind ≡ Home axis → s.start ≤ length (c ∷ came) →
         board_tick (clock_of (board_at m b)) (s.start - 1) ≤ lines_tick (clocks_at clocks b) (s.start * turn_ns)) →
-        AreBehind m switches b (c ∷ came) }
+        AreNotAhead m switches b (c ∷ came) }
 {}
 
 /// The law of moving steppers: each stepper of a board that has units in a homing section moves in it.

@@ -20,14 +20,14 @@ ghost use Rattle.axis_homing.specs.declared.homing.Homing.{Homing};
 ghost use Rattle.axis_homing.specs.Homing.{answer_in, hears_all};
 ghost use Rattle.axis_homing.specs.Rising.{members_of};
 ghost use Rattle.host_reactor.specs.Notes.{news_of, noted};
-ghost use Rattle.host_reactor.specs.Runs.{Came, GoesOn, known_by, last_turn, state_at};
+ghost use Rattle.host_reactor.specs.Runs.{Came, GoesOn, known_by, last_reacted, state_at};
 ghost use Rattle.laws_board.specs.turns.Turns.{latest_state};
 ghost use Rattle.laws_board.specs.clocks.Runs.{IsInRun};
 ghost use Rattle.plan_types.specs.declared.plan.BoardState.TheVariants.{Running};
 ghost use Rattle.plan_types.specs.Machines.{IsValidMachine, board_at};
 ghost use Rattle.plan_types.specs.Machines as machine;
-ghost use Rattle.laws_homing.specs.home_runs.Sections.{HomesFrom, IsAnswered, IsMoved, Moves, RestsInTime, SpoilsFew, TakesSetUp, queued_by};
-ghost use Rattle.laws_homing.specs.home_runs.SetUps.{AreInOrder, IsBoundIn, StopsAt};
+ghost use Rattle.laws_homing.specs.home_runs.Sections.{HomesFrom, GroupAnswers, IsMoved, Moves, RestsInTime, SpoilsFew, TakesSetUp, queued_in_turns};
+ghost use Rattle.laws_homing.specs.home_runs.SetUps.{AreSetUpInOrder, IsBoundIn, StopsAt};
 ghost use Rattle.laws_homing.specs.home_runs.Moments.{CouldAt, HasTriggeredIn};
 ghost use Rattle.laws_homing.specs.home_runs.Timeouts.{BeginsBy, CouldUpTo, EndsWith, TakesSent};
 ghost use Rattle.section_units.specs.Sections.{BoardSection};
@@ -42,7 +42,7 @@ ghost use Rattle.plan_types.specs.Lines.{Clocks};
 ghost use Rattle.laws_board.specs.clocks.Runs.{orders_in};
 ghost use Rattle.laws_homing.specs.home_runs.Settled.{AreHomed, IsHomed, SendNoneIn, SetNoClockFrom};
 ghost use Rattle.laws_homing.specs.home_runs.Told.{IsMember, TellFiredFrom};
-ghost use Rattle.board_world.specs.World.{start};
+ghost use Rattle.board_world.specs.World.{new_world};
 ghost use Rattle.msg_code.specs.declared.talk.State.{State};
 ghost use Rattle.laws_board.specs.sections.Known.{AreQueued, Sent, sent_in};
 ghost use Rattle.laws_board.specs.sections.Links.{AreTold, steps_of, turns_told};
@@ -128,7 +128,7 @@ pub fn answered_sections_are_halted()
     ensures { (m : Machine) (switches : List Switch) (pins : List (List Level)) (entries : List Entry) (b : ℕ)
         (c : Came) (before : List Came) (turns : List BoardTurn) (h : Homing) (stepper : ℕ) → IsValidMachine m →
         IsInRun m switches pins entries b before turns → state_at b c.states ≡ latest_state turns →
-        IsAnswered m switches c before h → IsMoved m b h turns stepper →
+        GroupAnswers m switches c before h → IsMoved m b h turns stepper →
         TakesSetUp (first_state (board_at m b) pins b entries) h.start turns →
         (stands_after (first_state (board_at m b) pins b entries) turns).core.board.controller.state ≡ Running →
         IsHalted (stepper_at (stands_after (first_state (board_at m b) pins b entries) turns).core.board.controller
@@ -173,7 +173,7 @@ pub fn words_tell_of_answers()
     ensures answer { (m : Machine) (switches : List Switch) (from start : ℕ) (members : List Member) (c : Came)
         (before : List Came) → GoesOn m switches (c ∷ before) → IsBegunIn m switches from start members before →
         from < length before → BeginsNone (news_of c.note) →
-        TellsHomed (last_turn m switches c before).ordered.word.news →
+        TellsHomed (last_reacted m switches c before).ordered.word.news →
         (h : Homing) × (tick : ℕ) × ((noted m c.note (known_by m switches before)).homing ≡ Some h) × (h.start ≡ start)
         × (members_of h.group ≡ members)
         × (answer_in (length before) h.start
@@ -227,10 +227,10 @@ pub fn told_boards_are_home_boards()
         AreOwn (board_at m b) (length turns) own →
         IsHomeRun own clocks (board_at m b).freq (board_at m b).slots ready stops ss (orders_in turns) →
         (split : IsSplitIn own stops (board_at m b).slots ss (orders_in turns)) →
-        AllTimely (start (board_at m b) pins) (steps_of (clock_of (board_at m b)) 0 (orders_in turns)
+        AllTimely (new_world (board_at m b) pins) (steps_of (clock_of (board_at m b)) 0 (orders_in turns)
         (first_state (board_at m b) pins b entries) end (turns_told (clock_of (board_at m b)) 0 (orders_in turns) states
         (first_state (board_at m b) pins b entries) end told)) →
-        AllHeed split.front split.tail (start (board_at m b) pins) (steps_of (clock_of (board_at m b)) 0
+        AllHeed split.front split.tail (new_world (board_at m b) pins) (steps_of (clock_of (board_at m b)) 0
         (orders_in turns) (first_state (board_at m b) pins b entries) end (turns_told (clock_of (board_at m b)) 0
         (orders_in turns) states (first_state (board_at m b) pins b entries) end told)) →
         AreToldIn m switches pins entries b stops ss turns →
@@ -256,8 +256,8 @@ pub fn set_ups_are_taken_in_order()
         from + 254 ≡ start → Moves b stepper members → SetNoClockFrom from (later ++ early) →
         SendNoneIn from (from + 4) (later ++ early) → length early ≡ from →
         (stands_after (first_state (board_at m b) pins b entries) (later ++ early)).core.taken
-        ≡ queued_by early ++ own →
-        AreInOrder (machine.stepper_at m stepper).oid (trigger_of m b) 0 (commands_of own) }
+        ≡ queued_in_turns early ++ own →
+        AreSetUpInOrder (machine.stepper_at m stepper).oid (trigger_of m b) 0 (commands_of own) }
 {}
 
 /// The law of bound steppers, of homing sections: from the turn on in which a board took the command that binds a

@@ -18,7 +18,7 @@ ghost use Rattle.laws_board.specs.turns.Turns.{BoardTurn};
 ghost use Rattle.laws_board.specs.sections.Parts.{AreTracked};
 ghost use Rattle.laws_homing.specs.clear_groups.Runs.{IsClearRun};
 ghost use Rattle.laws_homing.specs.clear_groups.Sections.{turns_of};
-ghost use Rattle.laws_homing.specs.fired_runs.Since.{AreRead, AreReadTrue, ReadsSwitchTrue};
+ghost use Rattle.laws_homing.specs.fired_runs.Since.{AreSoInTurns, AreReadTrue, ReadsSwitchTrue};
 ghost use Rattle.laws_homing.specs.missed_groups.Known.{AxesLow};
 ghost use Rattle.laws_homing.specs.missed_groups.Ticks.{IsSwitchTick};
 
@@ -64,5 +64,5 @@ pub fn clear_reports_are_read_true()
         (all : List (ℕ → BoardTurn)) → IsClearRun m switches pins entries lines ready until c before all →
         length before + 276 ≤ until → (b : ℕ) → b < length m.boards →
         AreReadTrue m switches b (c ∷ before) (turns_of b all)
-        × AreRead (ReadsSwitchTrue m switches b) (c ∷ before) (turns_of b all) }
+        × AreSoInTurns (ReadsSwitchTrue m switches b) (c ∷ before) (turns_of b all) }
 {}

@@ -1,7 +1,7 @@
 //! The laws of the files that are written for a text of G-code.
 
 ghost use Rattle.std.specs.Prelude.{◌≡◌, ◌⊎◌, ◌-◌, ◌*◌, ◌++◌, ◌∷◌, [], All, ℕ, ℤ, List, codes, pos};
-ghost use Rattle.bed_mesh.specs.Cuts.{ends};
+ghost use Rattle.bed_mesh.specs.Cuts.{cut_ends};
 ghost use Rattle.bed_mesh.specs.Grids.{IsValidMesh, cell_height, height, offset};
 ghost use Rattle.bed_mesh.specs.declared.mesh.Mesh.{Mesh};
 ghost use Rattle.gcode_program.specs.Programs.{program_end, program_sections};
@@ -42,10 +42,10 @@ pub fn written_files_follow_the_bed()
 /// which the one before led.
 pub fn moves_to_ends_join()
     ensures join { (t : Mesh) (m : Move) (x y z e : ℤ) →
-        Join (x ∷ y ∷ z ∷ e ∷ []) (parts_to t m (x ∷ y ∷ z ∷ e ∷ []) (ends t m)) (raised_place t m.to) }
-    ensures fast { (t : Mesh) (m : Move) (from : List ℤ) → All (IsAsFast m) (parts_to t m from (ends t m)) }
+        Join (x ∷ y ∷ z ∷ e ∷ []) (parts_to t m (x ∷ y ∷ z ∷ e ∷ []) (cut_ends t m)) (raised_place t m.to) }
+    ensures fast { (t : Mesh) (m : Move) (from : List ℤ) → All (IsAsFast m) (parts_to t m from (cut_ends t m)) }
     ensures e { (t : Mesh) (m : Move) (x y z e : ℤ) → e ≡ at m.from 3 →
-        change_by (parts_to t m (x ∷ y ∷ z ∷ e ∷ []) (ends t m)) 3 ≡ change m 3 }
+        change_by (parts_to t m (x ∷ y ∷ z ∷ e ∷ []) (cut_ends t m)) 3 ≡ change m 3 }
     ensures e_goes_on { (m : Machine) (text : List ℕ) (count : ℕ) →
         ExtrudeThrough (pos 0) (first_sections count m text) }
 {}

@@ -1,7 +1,7 @@
 //! The law of what a run over links shows.
 
 ghost use Rattle.std.specs.Prelude.{◌≡◌, ◌≢◌, ◌++◌, ◌∷◌, [], ℕ, List, Ok, Some};
-ghost use Rattle.cfg_text.specs.Reading.{reading};
+ghost use Rattle.cfg_text.specs.Reading.{machine_of_text};
 ghost use Rattle.laws_report.specs.reports.Checks.{check_cause};
 ghost use Rattle.laws_report.specs.reports.Promises.{sections_over};
 ghost use Rattle.laws_report.specs.reports.Linked.{IsLinkReport, KeepUp, MeetPremise};
@@ -26,7 +26,8 @@ use plan_types::Cause;
 /// turn, and where the run went through all sections have their line.
 pub fn printed_lines_follow_the_plan<F: Files, S: Sink>()
     ensures { (printer : List ℕ) (m : Machine) (s : Scene) (gcode : List ℕ) (files files' : F) (out out' : S)
-        (c : Cause) (lines : List ReportLine) (counts : List ℕ) (links : List LinkLog) → reading printer ≡ Ok m →
+        (c : Cause) (lines : List ReportLine) (counts : List ℕ) (links : List LinkLog) →
+        machine_of_text printer ≡ Ok m →
         (r : IsLinkReport F.Files S.Sink m s gcode files files' out out' c lines counts links) →
         (text : List ℕ) → F.told files gcode ≡ Some text →
         MeetPremise m s text r.reported.runs.runs.0 r.reported.runs.runs.1 r.reported.runs.runs.2
@@ -42,13 +43,15 @@ pub fn printed_lines_follow_the_plan<F: Files, S: Sink>()
 /// whatever ended it; and where it went through its report checks.
 pub fn runs_that_keep_up_show_the_same<F: Files, S: Sink>()
     ensures shows { (printer : List ℕ) (m : Machine) (s : Scene) (gcode : List ℕ) (files files' : F) (out out' : S)
-        (c : Cause) (lines : List ReportLine) (counts : List ℕ) (links : List LinkLog) → reading printer ≡ Ok m →
+        (c : Cause) (lines : List ReportLine) (counts : List ℕ) (links : List LinkLog) →
+        machine_of_text printer ≡ Ok m →
         (r : IsLinkReport F.Files S.Sink m s gcode files files' out out' c lines counts links) →
         (text : List ℕ) → F.told files gcode ≡ Some text →
         KeepUp m s text r.reported.runs.runs.0 r.reported.runs.runs.1 r.reported.runs.runs.2 r.reported.told.cause →
         ∥ Shows (Unit {0}) m s text c r.reported.said ∥₁ }
     ensures checks { (printer : List ℕ) (m : Machine) (s : Scene) (gcode : List ℕ) (files files' : F) (out out' : S)
-        (c : Cause) (lines : List ReportLine) (counts : List ℕ) (links : List LinkLog) → reading printer ≡ Ok m →
+        (c : Cause) (lines : List ReportLine) (counts : List ℕ) (links : List LinkLog) →
+        machine_of_text printer ≡ Ok m →
         (r : IsLinkReport F.Files S.Sink m s gcode files files' out out' c lines counts links) →
         (text : List ℕ) → F.told files gcode ≡ Some text →
         KeepUp m s text r.reported.runs.runs.0 r.reported.runs.runs.1 r.reported.runs.runs.2 r.reported.told.cause →

@@ -1,7 +1,7 @@
 //! The law of reports that are read back.
 
 ghost use Rattle.std.specs.Prelude.{◌≡◌, ◌∷◌, ◌++◌, ◌≤◌, ◌<◌, [], ℕ, List, Ok, length, map};
-ghost use Rattle.cfg_text.specs.Reading.{reading};
+ghost use Rattle.cfg_text.specs.Reading.{machine_of_text};
 ghost use Rattle.clock_line.specs.Kept.{AreKept};
 ghost use Rattle.log_check.specs.Verdicts.{log_verdict};
 ghost use Rattle.laws_report.specs.logs.Follows.{all_said, ok_line};
@@ -28,7 +28,7 @@ use plan_types::Cause;
 
 /// The law of names: a machine that is read from a configuration has words for names.
 pub fn configured_machines_have_names()
-    ensures { (printer : List ℕ) (m : Machine) → reading printer ≡ Ok m → HasNames m }
+    ensures { (printer : List ℕ) (m : Machine) → machine_of_text printer ≡ Ok m → HasNames m }
 {}
 
 /// The law of lines: the text of a run's report has its lines, in order and each with its number, and a log's

@@ -1,7 +1,7 @@
 //! The laws of reports that check.
 
 ghost use Rattle.std.specs.Prelude.{◌≡◌, ◌⊎◌, ◌∷◌, ◌++◌, [], ℕ, List, Ok, Some};
-ghost use Rattle.cfg_text.specs.Reading.{reading};
+ghost use Rattle.cfg_text.specs.Reading.{machine_of_text};
 ghost use Rattle.laws_report.specs.reports.Checks.{check_cause};
 ghost use Rattle.laws_report.specs.reports.Promises.{sections_over};
 ghost use Rattle.laws_report.specs.reports.Linked.{IsLinkReport, MeetPremise};
@@ -21,7 +21,8 @@ use plan_types::Cause;
 /// what a run over links shows of its text, and the laws below, hold of it.
 pub fn runs_of_moves_over_links_take_near<F: Files, S: Sink>()
     ensures { (printer : List ℕ) (m : Machine) (s : Scene) (gcode : List ℕ) (files files' : F) (out out' : S)
-        (c : Cause) (lines : List ReportLine) (counts : List ℕ) (links : List LinkLog) → reading printer ≡ Ok m →
+        (c : Cause) (lines : List ReportLine) (counts : List ℕ) (links : List LinkLog) →
+        machine_of_text printer ≡ Ok m →
         (r : IsLinkReport F.Files S.Sink m s gcode files files' out out' c lines counts links) → (text : List ℕ) →
         AreOfMoves (sections_over m text) → (r.reported.told.cause ≡ Cause.Memory → ⊥) →
         HoldsNothingLong m s text r.reported.runs.runs.0 (r.reported.runs.runs.1 ++ r.reported.runs.runs.2 ∷ []) →
@@ -33,7 +34,8 @@ pub fn runs_of_moves_over_links_take_near<F: Files, S: Sink>()
 /// then against this G-code on the same machine ends with all done.
 pub fn what_runs_write_checks<F: Files, S: Sink>()
     ensures { (printer : List ℕ) (m : Machine) (s : Scene) (gcode : List ℕ) (files files' : F) (out out' : S)
-        (c : Cause) (lines : List ReportLine) (counts : List ℕ) (links : List LinkLog) → reading printer ≡ Ok m →
+        (c : Cause) (lines : List ReportLine) (counts : List ℕ) (links : List LinkLog) →
+        machine_of_text printer ≡ Ok m →
         (r : IsLinkReport F.Files S.Sink m s gcode files files' out out' c lines counts links) → (text : List ℕ) →
         F.told files gcode ≡ Some text → GoesThrough c →
         MeetPremise m s text r.reported.runs.runs.0 r.reported.runs.runs.1 r.reported.runs.runs.2 r.reported.told.cause

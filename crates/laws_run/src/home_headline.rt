@@ -11,7 +11,7 @@ ghost use Rattle.wire_scene.specs.declared.scene.Scene.{Scene};
 ghost use Rattle.wire_scene.specs.declared.scene.Switch.{Switch};
 ghost use Rattle.report_text.specs.declared.line.ReportLine.{ReportLine};
 ghost use Rattle.host_reactor.specs.Reactor.{Run, cut_line};
-ghost use Rattle.host_reactor.specs.Runs.{Came, GoesOn, last_turn};
+ghost use Rattle.host_reactor.specs.Runs.{Came, GoesOn, last_reacted};
 ghost use Rattle.laws_board.specs.causes.Short.{HaveShortDictionaries};
 ghost use Rattle.motion_work.specs.Seen.{Started};
 ghost use Rattle.motion_work.specs.Told.{Told as Heard};
@@ -23,7 +23,7 @@ ghost use Rattle.session_run.specs.declared.tell.Kept.{Kept};
 ghost use Rattle.session_run.specs.Boards.{came_from};
 ghost use Rattle.session_run.specs.Runs.{RunsOver};
 ghost use Rattle.laws_board.specs.plans.Lines.{heads_of};
-ghost use Rattle.laws_board.specs.plans.Planned.{Plans, Seen};
+ghost use Rattle.laws_board.specs.plans.Planned.{Plans, PlannerInput};
 ghost use Rattle.laws_run.specs.lanes.Boards.{IsInWhole};
 ghost use Rattle.laws_run.specs.run_ends.Ends.{GoesThrough};
 ghost use Rattle.laws_run.specs.run_headline.Made.{IsMade};
@@ -48,15 +48,15 @@ use plan_types::Cause;
 /// the group's answer; and this is one that the planner began, by its number and its axis.
 pub fn cuts_tell_of_answers()
     ensures told { (m : Machine) (switches : List Switch) (c : Came) (before : List Came) →
-        (last_turn m switches c before).ordered.end ≡ None →
-        TellsHomed (last_turn m switches c before).ordered.word.news → TellsCut m switches c before }
+        (last_reacted m switches c before).ordered.end ≡ None →
+        TellsHomed (last_reacted m switches c before).ordered.word.news → TellsCut m switches c before }
     ensures section { (m : Machine) (switches : List Switch) (begun : List Started) (c : Came) (before : List Came) →
         GoesOn m switches before → CameNotes begun (c ∷ before) → (x : TellsCut m switches c before) →
         WasBegun begun (Some x.homing) }
     ensures none { (m : Machine) (switches : List Switch) (c : Came) (before : List Came) →
-        (last_turn m switches c before).ordered.end ≡ None →
-        (TellsHomed (last_turn m switches c before).ordered.word.news → ⊥) →
-        cuts_of (last_turn m switches c before).ordered.lines ≡ [] }
+        (last_reacted m switches c before).ordered.end ≡ None →
+        (TellsHomed (last_reacted m switches c before).ordered.word.news → ⊥) →
+        cuts_of (last_reacted m switches c before).ordered.lines ≡ [] }
 {}
 
 /// The law of answers: in whatever threads a run went, and whatever ended it, each of the reactor's turns
@@ -80,7 +80,7 @@ pub fn last_turns_tell_of_no_switch<F: Files, S: Sink>()
 
 /// The law of readings: in whatever threads a run went, and whatever ended it, whatever comes to the reactor
 /// that tells that readings triggered a board's trigger tells of a tick at which the board's readings of the
-/// endstop of an axis that homes are complete (`IsRead`): four in a row that show it pressed.
+/// endstop of an axis that homes are complete (`IsReadInRun`): four in a row that show it pressed.
 pub fn runs_trigger_by_complete_readings<F: Files, S: Sink>()
     ensures { (m : Machine) (s : Scene) (name : List ℕ) (files files' : F) (out out' : S) (kept kept' : Kept)
         (t : Told Run) → (r : RunsOver F.Files S.Sink m s name files out kept t files' out' kept') →
@@ -95,7 +95,7 @@ pub fn cut_lines_stand_at_ends()
         (ahead : List Came) → IsPlannedBy m switches n ts p came → p.seen.begun ≡ past ++ s ∷ later →
         s.section.kind ≡ Home axis → came ≡ ahead ++ c ∷ before → length before ≡ s.end →
         (tick : ℕ)
-        × (cuts_of (last_turn m switches c before).ordered.lines
+        × (cuts_of (last_reacted m switches c before).ordered.lines
         ≡ cut_line m switches (length past) (axis_at m axis) (Some tick)) }
 {}
 
@@ -233,7 +233,7 @@ pub fn runs_show_begun_sections<F: Files, S: Sink>()
 /// the report of a whole run, in their order, each in the turn in which it starts; and all of them where the
 /// run went through.
 pub fn begun_sections_have_their_lines()
-    ensures { (m : Machine) (seen : Seen) (clocks : List Clocks) (ready : ℕ) (c : Cause) (first : ReactorTurn)
+    ensures { (m : Machine) (seen : PlannerInput) (clocks : List Clocks) (ready : ℕ) (c : Cause) (first : ReactorTurn)
         (rest : List ReactorTurn) → ShowBegun m seen clocks ready c first rest →
         HaveBegunLines m seen.text clocks ready c (gather (λ t. t.lines) (first ∷ rest)) }
 {}
@@ -242,7 +242,7 @@ pub fn begun_sections_have_their_lines()
 /// section, the boards have their lines among them, and these are of the clock lines by which the sections
 /// are planned, and of the turn from which on the first of them may start.
 pub fn home_boards_have_their_lines()
-    ensures { (m : Machine) (seen : Seen) (clocks : List Clocks) (ready : ℕ) (c : Cause) (first : ReactorTurn)
+    ensures { (m : Machine) (seen : PlannerInput) (clocks : List Clocks) (ready : ℕ) (c : Cause) (first : ReactorTurn)
         (rest : List ReactorTurn) (said more : List ReportLine) → ShowBegun m seen clocks ready c first rest →
         gather (λ t. t.lines) (first ∷ rest) ≡ said ++ more → heads_of said ≢ [] → BoardsHave clocks ready said }
 {}
@@ -251,7 +251,7 @@ pub fn home_boards_have_their_lines()
 /// they stand apart: first those of the boards, with no section and no pulse among them, then that of the
 /// first section, and behind it no board's.
 pub fn home_sections_stand_behind_boards()
-    ensures { (m : Machine) (seen : Seen) (clocks : List Clocks) (ready : ℕ) (c : Cause) (first : ReactorTurn)
+    ensures { (m : Machine) (seen : PlannerInput) (clocks : List Clocks) (ready : ℕ) (c : Cause) (first : ReactorTurn)
         (rest : List ReactorTurn) → ShowHomes m seen clocks ready c first rest → (said more : List ReportLine) →
         gather (λ t. t.lines) (first ∷ rest) ≡ said ++ more → heads_of said ≢ [] → StandApart m clocks ready said }
 {}

@@ -4,7 +4,7 @@ ghost use Rattle.std.specs.Prelude.{◌≡◌, ◌++◌, ◌<◌, ℕ, List, [],
 ghost use Rattle.plan_types.specs.declared.clock.BoardClock.{BoardClock};
 ghost use Rattle.plan_types.specs.declared.machine.Machine.{Machine};
 ghost use Rattle.wire_scene.specs.declared.scene.Switch.{Switch};
-ghost use Rattle.link_work.specs.Stands.{Seen, StandsFor};
+ghost use Rattle.link_work.specs.Stands.{SeenLink, StandsFor};
 ghost use Rattle.link_work.specs.Turn.{LinkState};
 ghost use Rattle.session_work.specs.declared.head.Head.{Head};
 ghost use Rattle.session_lanes.specs.declared.near.LinkLog.{LinkLog};
@@ -24,7 +24,7 @@ use session_work::{LinkMachine, MotionMachine, Outside, ReactorMachine};
 /// it what the board's link told of it, up to the turn that ends the run, where that is not for want of
 /// memory.
 pub fn boards_are_in_the_run<M: MotionMachine, L: LinkMachine, A: ReactorMachine, O: Outside>()
-    ensures { (view : L → Seen) → ShowsLink L.turns view → (m : Machine) (switches : List Switch) (b : ℕ)
+    ensures { (view : L → SeenLink) → ShowsLink L.turns view → (m : Machine) (switches : List Switch) (b : ℕ)
         (clock : BoardClock) (begin : LinkState) (ts : List MotionTurn) (first : ReactorTurn) (rest : List ReactorTurn)
         (end : ReactorTurn) (n : ℕ) (links : List L) (logs : List LinkLog) (s : L) → b < length m.boards →
         AllGoOn m switches [] (first ∷ rest) → IsLastTurn m end →

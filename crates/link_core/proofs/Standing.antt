@@ -3,7 +3,7 @@ use Rattle.std.proofs.Common.{◌≡◌, ℕ, Bool, false, ◌+◌, ◌-◌, ◌
 use Rattle.std.proofs.lemmas.Bool.Decides.{leb_tells, nat_tests}
 use Rattle.std.proofs.lemmas.List.{drop-append-le, length-drop, length-map, length_push, drop-map, drop-drop}
 use Rattle.link_core.specs.Core.{Link, Command, Reply, InStep, Rise, sent, send, reply, next_block, is_empty}
-use Rattle.link_core.specs.Numbers.{IsWhole}
+use Rattle.link_core.specs.Numbers.{IsNumberOnWire}
 use Rattle.link_core.specs.Host.{content_of, closes_last, given, acked_by, acked_of}
 use Rattle.link_core.specs.Stands.{host_of, last_closes}
 use Rattle.link_core.proofs.Near.{Rise_within}
@@ -44,7 +44,7 @@ stands_reply h r rs s e =
     let tests : nat_lt 0 (length (map content_of (drop h.acked h.blocks))) ≡ nat_lt h.acked (sent h) = some_more h.acked (sent h) (length (map content_of (drop h.acked h.blocks))) size in
     rw (acked_is h s, tests, now, rest) refl
 
-pub reply_is_whole : (h : Link) (r : Reply) (rs : List Reply) → InStep h → h.up ≡ r ∷ rs → IsWhole (acked_of (host_of h)) (sent h) (r.number % 16) r.number
+pub reply_is_whole : (h : Link) (r : Reply) (rs : List Reply) → InStep h → h.up ≡ r ∷ rs → IsNumberOnWire (acked_of (host_of h)) (sent h) (r.number % 16) r.number
 reply_is_whole h r rs s e =
     let up : Rise h.acked h.accepted (r ∷ rs) = rw e at s.up in
     let within : r.number ≤ h.accepted = Rise_within r.number h.accepted rs up.1 in

@@ -4,7 +4,7 @@ use Rattle.std.proofs.lemmas.Bool.Decides.{leb_tells, eqb_tells}
 use Rattle.std.proofs.lemmas.List.{take_more, take-append-le}
 use Rattle.std.specs.List.{flat_map}
 use Rattle.std.proofs.lemmas.Grind.{flat_map-append}
-use Rattle.link_core.specs.Core.{Link, Event, Command, Reply, InStep, happens, run, start, sent, queue, send, resend, handle, lose, garble, repeat, reply, lose_reply, numbers, numbered, next_block, Rise, AreNear}
+use Rattle.link_core.specs.Core.{Link, Event, Command, Reply, InStep, happens, run, new_link, sent, queue, send, resend, handle, lose, garble, repeat, reply, lose_reply, numbers, numbered, next_block, Rise, AreNear}
 use Rattle.link_core.specs.Core.Event.{Put, Control, Send, Resend, Arrive, Repeat, Lose, Garble, Reply_comes, Lose_reply, Pass, Turn}
 use Rattle.link_core.proofs.Near.{Rise_lower, Rise-append, Rise_within, Rise_numbered, AreNear-append, AreNear_sent, AreNear_accepted, numbers_near, numbers_reach}
 
@@ -171,5 +171,5 @@ pub run_keeps : (events : List Event) (h : Link) → InStep h → InStep (run ev
 run_keeps [] h s = s
 run_keeps (e ∷ events) h s = run_keeps events (happens h e) (happens_keeps h e s)
 
-pub start_keeps : InStep start
+pub start_keeps : InStep new_link
 start_keeps = record { acked_accepted = omega arith; accepted_sent = omega arith; in_window = omega arith; up = omega arith; down = tt; each_once = refl }

@@ -35,8 +35,8 @@ closes_last closed [] = closed
 closes_last closed (c ∷ cs) = closes_last c.closes cs
 
 -- the host's end with a command queued
-abbrev pub queued_by : Host → List ℕ → Bool → Host
-queued_by h bytes closes = record h { waiting = h.waiting ++ record { bytes = bytes; closes = closes } ∷ [] }
+abbrev pub with_queued : Host → List ℕ → Bool → Host
+with_queued h bytes closes = record h { waiting = h.waiting ++ record { bytes = bytes; closes = closes } ∷ [] }
 
 -- a block of these commands is given
 abbrev pub given : Host → ℕ → List Command → Host
@@ -73,5 +73,5 @@ IsOld [] turn = ⊥
 IsOld (put ∷ puts) turn = put + 4 ≤ turn
 
 -- the outstanding blocks are to be put again
-abbrev pub IsDue : Host → ℕ → Type 0
-IsDue h turn = (0 < length h.contents) × (IsOld h.puts turn ⊎ HintIs h.empty (acked_of h) turn)
+abbrev pub IsResendDue : Host → ℕ → Type 0
+IsResendDue h turn = (0 < length h.contents) × (IsOld h.puts turn ⊎ HintIs h.empty (acked_of h) turn)

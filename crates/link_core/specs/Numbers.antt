@@ -2,7 +2,7 @@
 use Rattle.std.specs.Prelude.{◌≡◌, ℕ, ◌+◌, ◌%◌, ◌≤◌, ◌==◌, if◌then◌else◌}
 
 -- w is from low to high, and the wire carries this number for it
-pub record IsWhole (low high number w : ℕ) : Type 0 where
+pub record IsNumberOnWire (low high number w : ℕ) : Type 0 where
   pub from : low ≤ w
   pub to : w ≤ high
   pub wire : w % 16 ≡ number

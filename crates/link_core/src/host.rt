@@ -2,8 +2,8 @@
 ghost use Rattle.std.specs.Prelude.{◌≡◌, ℕ, ◌+◌, ◌-◌, ◌%◌, ◌^◌, ◌<◌, ◌≤◌, ◌==◌, ◌↔◌, List, [], ◌∷◌, ◌++◌, length, drop, IsTrue, IsSome, IfSome, IfNone, OnOk, OnErr, true, false, None, slice_index_or, ◌⊎◌};
 ghost use Rattle.block_frame.specs.Block.{block_text};
 ghost use Rattle.link_core.specs.Core.{next_block, window};
-ghost use Rattle.link_core.specs.Numbers.{IsWhole};
-ghost use Rattle.link_core.specs.Host.{Host, acked_of, content_of, closes_last, queued_by, given, acked_by, put_again, IsDue};
+ghost use Rattle.link_core.specs.Numbers.{IsNumberOnWire};
+ghost use Rattle.link_core.specs.Host.{Host, acked_of, content_of, closes_last, with_queued, given, acked_by, put_again, IsResendDue};
 
 use super::whole_number;
 use arrayvec::ArrayVec;
@@ -78,7 +78,7 @@ impl HostEnd {
     /// Adds a command behind those that wait.
     pub fn queue(&mut self, c: &[u8], closes: bool) -> Result<(), AllocError>
         requires { (1 ≤ length c.now) × (length c.now ≤ 59) }
-        ensures ok { OnOk result (self.new ≡ queued_by self.old c.now closes) }
+        ensures ok { OnOk result (self.new ≡ with_queued self.old c.now closes) }
         ensures err { OnErr result (self.new ≡ self.old) }
     {
         self.waiting.push_back(Waiting {
@@ -159,7 +159,7 @@ impl HostEnd {
     /// Whether the outstanding blocks are to be put again in this turn.
     #[tactic(auto, using(crate::proofs::Views::length_contents))]
     pub fn turn(&mut self, turn: u64) -> bool
-        ensures due { IsTrue result ↔ IsDue self.old turn }
+        ensures due { IsTrue result ↔ IsResendDue self.old turn }
         ensures after { self.new ≡ record self.old { turn = turn } }
     {
         self.turn = turn;
@@ -184,9 +184,9 @@ impl HostEnd {
     #[tactic(auto, using(crate::proofs::Views::length_contents, crate::proofs::Views::contents_drop, crate::proofs::Views::puts_drop))]
     pub fn acked(&mut self, number: u8, empty: bool) -> u64
         requires { number < 16 }
-        ensures found { (w : ℕ) → IsWhole (acked_of self.old) self.old.sent number w →
+        ensures found { (w : ℕ) → IsNumberOnWire (acked_of self.old) self.old.sent number w →
             (result ≡ w) × (self.new ≡ acked_by self.old w empty) }
-        ensures none { ((w : ℕ) → IsWhole (acked_of self.old) self.old.sent number w → ⊥) →
+        ensures none { ((w : ℕ) → IsNumberOnWire (acked_of self.old) self.old.sent number w → ⊥) →
             (result ≡ acked_of self.old) × (self.new ≡ self.old) }
     {
         let oldest = self.sent - self.outstanding.len() as u64;

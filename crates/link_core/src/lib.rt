@@ -4,25 +4,25 @@
 
 ghost use Rattle.std.specs.Prelude.{◌≡◌, ℕ, ◌+◌, ◌*◌, ◌/◌, ◌%◌, ◌^◌, ◌<◌, ◌≤◌, List, [], ◌∷◌, ◌++◌, length, take};
 ghost use Rattle.std.specs.List.{flat_map};
-ghost use Rattle.link_core.specs.Core.{Link, Event, Command, InStep, happens, run, start, queued, commands_of};
+ghost use Rattle.link_core.specs.Core.{Link, Event, Command, InStep, happens, run, new_link, queued, commands_of};
 
 /// The law of numbers: whatever happens, the numbers of a link keep in step.
 pub fn in_step()
-    ensures first { InStep start }
+    ensures first { InStep new_link }
     ensures step { (h : Link) (e : Event) → InStep h → InStep (happens h e) }
-    ensures always { (events : List Event) → InStep (run events start) }
+    ensures always { (events : List Event) → InStep (run events new_link) }
 {}
 
 /// The law of order: the commands that the board took are the first ones that were queued, in order, each once.
 pub fn in_order()
     ensures { (events : List Event) →
-        (rest : List Command) × (run events start).taken ++ rest ≡ flat_map commands_of events }
+        (rest : List Command) × (run events new_link).taken ++ rest ≡ flat_map commands_of events }
 {}
 
 mod host;
 
 ghost use Rattle.std.specs.Prelude.{IfSome, IfNone, IsTrue, ◌↔◌, ◌==◌, if◌then◌else◌};
-ghost use Rattle.link_core.specs.Numbers.{IsWhole, next_after};
+ghost use Rattle.link_core.specs.Numbers.{IsNumberOnWire, next_after};
 
 pub use host::HostEnd;
 use std::marker::Model;
@@ -94,9 +94,9 @@ impl BoardEnd {
 fn whole_number(acked: u64, sent: u64, number: u8) -> Option<u64>
     requires wire { number < 16 }
     requires window { (acked ≤ sent) × (sent ≤ acked + 12) }
-    ensures some { IfSome result (λ n. IsWhole acked sent number n) }
-    ensures none { IfNone result ((w : ℕ) → IsWhole acked sent number w → ⊥) }
-    ensures only { (w : ℕ) → IsWhole acked sent number w → result ≡ Some w }
+    ensures some { IfSome result (λ n. IsNumberOnWire acked sent number n) }
+    ensures none { IfNone result ((w : ℕ) → IsNumberOnWire acked sent number w → ⊥) }
+    ensures only { (w : ℕ) → IsNumberOnWire acked sent number w → result ≡ Some w }
 {
     let ahead = (u64::from(number) + 16 - acked % 16) % 16;
     if ahead <= sent - acked {
@@ -109,19 +109,19 @@ fn whole_number(acked: u64, sent: u64, number: u8) -> Option<u64>
 ghost use Rattle.std.specs.Prelude.{◌⊎◌, drop, false};
 ghost use Rattle.link_core.specs.Core.{Reply, sent, next_block, is_empty};
 ghost use Rattle.link_core.specs.Core.Event.{Put, Send, Reply_comes, Turn};
-ghost use Rattle.link_core.specs.Host.{acked_of, acked_by, given, queued_by};
+ghost use Rattle.link_core.specs.Host.{acked_of, acked_by, given, with_queued};
 ghost use Rattle.link_core.specs.Stands.{host_of};
 
 /// The law of the host's end: its calls do what happens to the link.
 pub fn host_stands()
-    ensures first { host_of start
+    ensures first { host_of new_link
         ≡ record { waiting = []; contents = []; puts = []; sent = 0; turn = 0; empty = None; closed = false } }
     ensures queue { (h : Link) (c : Command) →
-        host_of (happens h (Put (c ∷ []))) ≡ queued_by (host_of h) c.bytes c.closes }
+        host_of (happens h (Put (c ∷ []))) ≡ with_queued (host_of h) c.bytes c.closes }
     ensures send { (h : Link) → InStep h → sent h < h.acked + 12 → 0 < length h.waiting →
         host_of (happens h Send) ≡ given (host_of h) h.turn (next_block 59 h.waiting) }
     ensures reply { (h : Link) (r : Reply) (rs : List Reply) → InStep h → h.up ≡ r ∷ rs →
-        IsWhole (acked_of (host_of h)) (sent h) (r.number % 16) r.number ×
+        IsNumberOnWire (acked_of (host_of h)) (sent h) (r.number % 16) r.number ×
         (host_of (happens h Reply_comes) ≡ acked_by (host_of h) r.number (is_empty r.answer)) }
     ensures turn { (h : Link) (turn : ℕ) → host_of (happens h (Turn turn)) ≡ record (host_of h) { turn = turn } }
 {}

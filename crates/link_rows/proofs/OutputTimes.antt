@@ -4,7 +4,7 @@ use Rattle.std.specs.Prelude.{nat_lt, nat_le, length, if◌then◌else◌, Resul
 use Rattle.plan_types.specs.Board.{nearest}
 use Rattle.digital_out.specs.declared.want.Want.{Want}
 use Rattle.digital_out.specs.declared.queue.OutRefusal.{OutRefusal}
-use Rattle.digital_out.specs.Outputs.{Output, Turn, behind, comes_late, is_too_close, miss_turn, missed_of, pushed, pushed_at, turn_by, want_turn, with_time}
+use Rattle.digital_out.specs.Outputs.{Output, Turn, output_behind, comes_late, is_too_close, miss_turn, missed_of, pushed, pushed_at, turn_by, want_turn, with_time}
 
 miss_at : (until at : ℕ) (q : Output) (b : Bool) → nat_lt at until ≡ b → (miss_turn until q (Some at)).left.time ≡ q.time
 miss_at until at q true is = rw is refl
@@ -31,7 +31,7 @@ cond_time true x y t one other = one
 cond_time false x y t one other = other
 
 -- a queue that is run to a tick has that time
-pub behind_time : (until : ℕ) (q : Output) → (behind until q).time ≡ until
+pub behind_time : (until : ℕ) (q : Output) → (output_behind until q).time ≡ until
 behind_time until q =
     cond_time q.missed (record { event = None; left = with_time q until }) (turn_by until (with_time q until) (missed_of q.max q.level q.last) q.pending) until refl
     (turn_time until (with_time q until) (missed_of q.max q.level q.last) q.pending)

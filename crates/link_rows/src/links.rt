@@ -17,9 +17,9 @@ pub struct Running {
 
 impl Model for Running {
     ghost use Rattle.std.specs.Prelude.{◌≡◌, true};
-    ghost use Rattle.link_work.specs.Stands.{IsKnown, Seen};
+    ghost use Rattle.link_work.specs.Stands.{IsKnown, SeenLink};
 
-    ghost Value = { Seen };
+    ghost Value = { SeenLink };
 
     ghost view = { λ r. r.link };
 

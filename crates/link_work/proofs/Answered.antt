@@ -20,7 +20,7 @@ use Rattle.wire_scene.specs.declared.wire.Fate.{Fate}
 use Rattle.wire_scene.specs.declared.wire.Fate.TheVariants.{Lost, Last, Stays, Garbled}
 use Rattle.wire_scene.specs.Wire.{Copy, IsQuiet, Line}
 use Rattle.board_world.specs.Stands.{IsOrdered}
-use Rattle.board_world.specs.World.{Core, on_wire, run, start, text_of}
+use Rattle.board_world.specs.World.{Core, on_wire, run_world, new_world, wire_text}
 use Rattle.board_world.proofs.Runs.{all_orders, ordered, start_ordered, wired}
 use Rattle.vlq_code.specs.Spelling.{spelling}
 use Rattle.vlq_code.proofs.Lengths.{spelling_spells}
@@ -41,12 +41,12 @@ use Rattle.board_sim.specs.Rig.{Rig, acts_running, takes}
 use Rattle.wire_scene.specs.Wire.{empty_line}
 use Rattle.wire_scene.specs.WireRuns.{AreOver, deeds}
 use Rattle.wire_scene.proofs.WireLaws.{calm_over, over_calm, starts}
-use Rattle.link_work.specs.Used.{IsRun, steps_from, used_in}
+use Rattle.link_work.specs.Used.{IsLineRun, steps_from, used_in}
 use Rattle.link_work.specs.Turn.{LinkState, Orders, IsTurn, after_board, after_host, after_replies, board_steps, come, comes, host_steps, still}
 use Rattle.link_work.specs.Told.{AreNews, IsTold, heard_in, news_of}
 use Rattle.link_work.specs.Stands.{first_state}
 use Rattle.link_work.specs.Runs.{AreTurns, queued_in}
-use Rattle.link_work.specs.Ends.{EndSo, Ended, is_idle, last_of}
+use Rattle.link_work.specs.Ends.{EndSo, Ended, is_idle, last_link}
 use Rattle.link_work.specs.Limits.{KeepsLimits, carried}
 use Rattle.link_work.specs.Blocks.{Hold}
 use Rattle.link_work.specs.Taking.{HasTaken}
@@ -76,7 +76,7 @@ first_heard Stays r rs h f e = cc
 first_heard Garbled r rs h f e = cc
 
 heard_both : (turn : ℕ) (c : Copy) (cs : List Copy) (h : Core) → nat_le c.due turn ≡ true
-    → heard_in (come Up turn (c ∷ cs)) h ≡ heard_in (comes Up c.fate) h ++ heard_in (come Up turn cs) (run (comes Up c.fate) h)
+    → heard_in (come Up turn (c ∷ cs)) h ≡ heard_in (comes Up c.fate) h ++ heard_in (come Up turn cs) (run_world (comes Up c.fate) h)
 heard_both turn c cs h due =
     ap (λ (b : Bool). heard_in (if b then comes Up c.fate ++ come Up turn cs else []) h) due ∙ heard_append (comes Up c.fate) (come Up turn cs) h
 
@@ -87,7 +87,7 @@ heard_here turn [] h (x ∷ more) r e many last none k = absurd (omega (arith, m
 heard_here turn (d ∷ ds) h [] r e many last none k = absurd k
 heard_here turn (d ∷ ds) h (x ∷ more) r e many last none k =
     let due = due_if (nat_le d.due turn) d ds (still turn ds) none in
-    let g = run (comes Up d.fate) h in
+    let g = run_world (comes Up d.fate) h in
     let both = heard_both turn d ds h due.0 in
     let rest = heard_in (come Up turn ds) g in
     subst (IsAmong r) (sym both) (elim k [
@@ -106,7 +106,7 @@ heard_behind turn [] ds h (u ∷ us) more r e many as_many last none k = absurd 
 heard_behind turn (c ∷ cs) ds h [] more r e many as_many last none k = absurd (omega (arith, many))
 heard_behind turn (c ∷ cs) ds h (u ∷ us) more r e many as_many last none k =
     let due = due_if (nat_le c.due turn) c (cs ++ ds) (still turn (cs ++ ds)) none in
-    let g = run (comes Up c.fate) h in
+    let g = run_world (comes Up c.fate) h in
     subst (IsAmong r) (sym (heard_both turn c (cs ++ ds) h due.0))
     (among_right r (heard_in (comes Up c.fate) h) (heard_in (come Up turn (cs ++ ds)) g)
     (heard_behind turn cs ds g us more r (heard_as c.fate u (us ++ more) h e).up (omega (arith, many)) as_many last due.1 k))
@@ -131,11 +131,11 @@ many_by : (h : Core) → IsOrdered h → length h.taken ≡ length h.link.taken
 many_by h o = sym (length-map h.taken on_wire) ∙ sym (ap length (wired h o))
 
 -- nothing is queued while blocks come
-replies_queue_none : (turn : ℕ) (copies : List Copy) (h : Core) → (run (come Up turn copies) h).queued ≡ h.queued
+replies_queue_none : (turn : ℕ) (copies : List Copy) (h : Core) → (run_world (come Up turn copies) h).queued ≡ h.queued
 replies_queue_none turn copies h =
     all_orders (come Up turn copies) h ∙ ap (λ x. h.queued ++ x) (none_queued (come Up turn copies) (all_come QueuesNone Up (λ fate. comes_queue_none Up fate) turn copies)) ∙ append-nil h.queued
 
-board_queues_none : (clock : BoardClock) (turn : ℕ) (copies : List Copy) (h : Core) → (run (board_steps clock turn copies) h).queued ≡ h.queued
+board_queues_none : (clock : BoardClock) (turn : ℕ) (copies : List Copy) (h : Core) → (run_world (board_steps clock turn copies) h).queued ≡ h.queued
 board_queues_none clock turn copies h =
     let steps = board_steps clock turn copies in
     all_orders steps h ∙ ap (λ x. h.queued ++ x) (none_queued steps (all_append QueuesNone (come Down turn copies) _ (all_come QueuesNone Down (λ fate. comes_queue_none Down fate) turn copies) (refl, tt)))
@@ -180,7 +180,7 @@ answered_parts clock turn o resent l news ord time parts told calm none place lo
       board = at.board;
       in_time = at.in_time ∙ host_tick turn o resent l.core ∙ time;
       heard = λ a k t.
-          let r : Reply = record { number = at.number + 1; answer = text_of a } in
+          let r : Reply = record { number = at.number + 1; answer = wire_text a } in
           let due : still turn (l1.up.copies ++ put.copies) ≡ [] = sym (ap (still turn) put.behind) ∙ none in
           let here = heard_behind turn l1.up.copies put.copies l2.core l1.core.link.up says.more r says.up parts.many1.up many (put.clean calm) due (at.told a k) in
           news_hold (heard_in (come Up turn l2.up.copies) l2.core) news r a told (subst (λ (cs : List Copy). IsAmong r (heard_in (come Up turn cs) l2.core)) (sym put.behind) here) t;
@@ -245,7 +245,7 @@ answered_turn clock turn o l m s b t told =
 
 -- over some turns
 pub answered_along : (clock : BoardClock) (os : List Orders) (since turn : ℕ) (l : LinkState) (ends : List Ended) (states : List State) → since ≤ turn → Begins clock turn l → TellSo clock turn os l ends states
-    → AreClear since ends → (place : ℕ) → length l.core.taken ≤ place → place < length (last_of l ends).core.taken → AnsweredSo clock turn place ends states
+    → AreClear since ends → (place : ℕ) → length l.core.taken ≤ place → place < length (last_link l ends).core.taken → AnsweredSo clock turn place ends states
 answered_along clock [] since turn l [] [] h b t clear place low high = absurd (omega (arith, low, high))
 answered_along clock [] since turn l [] (s ∷ states) h b t clear place low high = absurd t
 answered_along clock [] since turn l (e ∷ ends) states h b t clear place low high = absurd t
@@ -284,7 +284,7 @@ goes_turn clock turn o l m s t =
       sent = omega (arith, ap length (parts.heard.blocks ∙ parts.came.did.blocks), parts.host.is_sent);
     })
 
-goes_along : (clock : BoardClock) (os : List Orders) (turn : ℕ) (l : LinkState) (ends : List Ended) (states : List State) → Begins clock turn l → TellSo clock turn os l ends states → GoesOn l (last_of l ends)
+goes_along : (clock : BoardClock) (os : List Orders) (turn : ℕ) (l : LinkState) (ends : List Ended) (states : List State) → Begins clock turn l → TellSo clock turn os l ends states → GoesOn l (last_link l ends)
 goes_along clock [] turn l [] [] b t = record { counts = λ k. omega arith; sent = omega arith }
 goes_along clock [] turn l [] (s ∷ states) b t = absurd t
 goes_along clock [] turn l (e ∷ ends) states b t = absurd t
@@ -363,7 +363,7 @@ answered_at_once clock turn o l m s b t told limits idle clear place low high =
 
 -- over the three turns behind one in which all that waited was sent
 last_drained : (clock : BoardClock) (more : List Orders) (since turn : ℕ) (l : LinkState) (ends : List Ended) (states : List State) → Begins clock turn l → TellSo clock turn more l ends states → AreClear since ends
-    → 1 ≤ length more → turn + length more ≡ since + 4 → (last_of l ends).core.link.accepted ≡ sent (last_of l ends).core.link
+    → 1 ≤ length more → turn + length more ≡ since + 4 → (last_link l ends).core.link.accepted ≡ sent (last_link l ends).core.link
 last_drained clock [] since turn l ends states b t clear some is = absurd (omega (arith, some))
 last_drained clock (o ∷ more) since turn l [] states b t clear some is = absurd t
 last_drained clock (o ∷ more) since turn l (e ∷ ends) [] b t clear some is = absurd t
@@ -384,10 +384,10 @@ answered_in_four clock turn o more l e ends (s ∷ states) b t three clear all p
     let goes = goes_along clock more (turn + 1) e.link ends states next t.2 in
     let drains = last_drained clock more turn (turn + 1) e.link ends states next t.2 clear.1 (omega (arith, three)) (omega (arith, three)) in
     let last = ordered_last clock more (turn + 1) e.link ends states next t.2 in
-    let taken = taken_where e.link (last_of e.link ends) next.in_time.0 last goes all drains in
+    let taken = taken_where e.link (last_link e.link ends) next.in_time.0 last goes all drains in
     answered_along clock (o ∷ more) turn turn l (e ∷ ends) (s ∷ states) (omega arith) b t clear place low (omega (arith, high, taken))
   where
-    ordered_last : (clock : BoardClock) (os : List Orders) (turn : ℕ) (l : LinkState) (ends : List Ended) (states : List State) → Begins clock turn l → TellSo clock turn os l ends states → IsOrdered (last_of l ends).core
+    ordered_last : (clock : BoardClock) (os : List Orders) (turn : ℕ) (l : LinkState) (ends : List Ended) (states : List State) → Begins clock turn l → TellSo clock turn os l ends states → IsOrdered (last_link l ends).core
     ordered_last clock [] turn l [] [] b t = b.in_time.0
     ordered_last clock [] turn l [] (s ∷ states) b t = absurd t
     ordered_last clock [] turn l (e ∷ ends) states b t = absurd t
@@ -418,7 +418,7 @@ asked_idle b pins board entries os o l m s turns t told limits idle clear place 
     answered_at_once (clock_of b) (length os) o l m s (begins b pins board entries os l turns) t told limits idle clear place (not_taken l place before) high
 
 -- a line is calm where all entries were used before a turn
-pub calm_is : (connecting entries : List Entry) (turns turn : ℕ) (l : Line) (r : IsRun connecting entries turns l) → IsCalm turn l ↔ AreOver (turn + 4) (used_in connecting entries r.dones)
+pub calm_is : (connecting entries : List Entry) (turns turn : ℕ) (l : Line) (r : IsLineRun connecting entries turns l) → IsCalm turn l ↔ AreOver (turn + 4) (used_in connecting entries r.dones)
 calm_is connecting entries turns turn l r =
     let steps = steps_from 0 r.dones in
     let first = empty_line connecting entries in
@@ -447,11 +447,11 @@ differ : numbers_differ own_formats ≡ true
 unfolding own_formats
 differ = refl
 
-pub uptime_text : (high clock : ℕ) → high < 2 ^ 32 → clock < 2 ^ 32 → IsText own_formats (cmd.Uptime high clock) (text_of (cmd.Uptime high clock))
+pub uptime_text : (high clock : ℕ) → high < 2 ^ 32 → clock < 2 ^ 32 → IsText own_formats (cmd.Uptime high clock) (wire_text (cmd.Uptime high clock))
 uptime_text high clock a b =
     let c = cmd.Uptime high clock in
     let row = row_of c in
-    is_text own_formats c (own_id row) (spelling (own_id row)) (params_text (params_of c)) (text_of c) (known own_formats row (own_id row) differ (own_number row)) (spelling_spells (own_id row) (omega arith))
+    is_text own_formats c (own_id row) (spelling (own_id row)) (params_text (params_of c)) (wire_text c) (known own_formats row (own_id row) differ (own_number row)) (spelling_spells (own_id row) (omega arith))
     (two_numbers high clock a b) (own_text c) refl
 
 pub uptime_heard : (clock : BoardClock) (turn place : ℕ) (l : LinkState) (news : List News) (a : IsAnswered clock turn l place news) → a.command.command ≡ cmd.GetUptime → board_tick clock turn < tick_limit

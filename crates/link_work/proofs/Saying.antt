@@ -19,7 +19,7 @@ use Rattle.board_sim.proofs.RigStates.{all_tick}
 use Rattle.board_world.specs.declared.event.Event.{Event}
 use Rattle.board_world.specs.declared.event.Event.TheVariants as event
 use Rattle.board_world.specs.Stands.{IsOrdered}
-use Rattle.board_world.specs.World.{Core, Step, Do, Turn, after, block_of, does, happens, run, takes_in, text_of}
+use Rattle.board_world.specs.World.{Core, Step, Do, Turn, world_after, block_of, does, after_event, run_world, takes_in, wire_text}
 use Rattle.board_world.proofs.Runs.{ordered, ordered_by, wired}
 use Rattle.board_world.specs.World.{on_wire}
 use Rattle.plan_types.specs.Clock.{board_tick}
@@ -37,10 +37,10 @@ pub among_right : {A : Type 0} (x : A) (xs ys : List A) → IsAmong x ys → IsA
 among_right x [] ys k = k
 among_right x (y ∷ xs) ys k = inr (among_right x xs ys k)
 
-among_replies : (n : ℕ) (c : Cmd) (cs : List Cmd) → IsAmong c cs → IsAmong (record { number = n; answer = text_of c }) (numbered n (map text_of cs))
+among_replies : (n : ℕ) (c : Cmd) (cs : List Cmd) → IsAmong c cs → IsAmong (record { number = n; answer = wire_text c }) (numbered n (map wire_text cs))
 among_replies n c [] k = absurd k
 among_replies n c (d ∷ cs) k = elim k [
-  | inl e ↦ inl (ap (λ (x : Cmd). record { number = n; answer = text_of x }) e)
+  | inl e ↦ inl (ap (λ (x : Cmd). record { number = n; answer = wire_text x }) e)
   | inr m ↦ inr (among_replies n c cs m)
 ]
 
@@ -77,7 +77,7 @@ pub record SaysAt (h : Core) (place : ℕ) (more : List Reply) : Type 0 where
   pub at : length front ≡ place
   pub board : Rig
   pub in_time : board.controller.tick ≡ h.board.controller.tick
-  pub told : (a : Cmd) → IsAmong a (takes board command.command).answers → IsAmong (record { number = number + 1; answer = text_of a }) more
+  pub told : (a : Cmd) → IsAmong a (takes board command.command).answers → IsAmong (record { number = number + 1; answer = wire_text a }) more
 
 abbrev SaysEach : Core → ℕ → List Reply → Type 0
 SaysEach h limit more = (place : ℕ) → length h.taken ≤ place → place < limit → SaysAt h place more
@@ -159,7 +159,7 @@ block_first blocks n h =
 -- the block n is the next one
 says_block : (h : Core) (n : ℕ) → IsOrdered h → n < sent h.link → n ≡ h.link.accepted → (ms : List Meant)
     → ms ≡ take (length (slice_index_or h.link.blocks n [])) (drop (length h.link.taken) h.queued) → (last : List Reply)
-    → SaysEach h (length h.taken + length ms) (numbered (n + 1) (map text_of (takes_all h.board (commands_of ms)).answers) ++ last)
+    → SaysEach h (length h.taken + length ms) (numbered (n + 1) (map wire_text (takes_all h.board (commands_of ms)).answers) ++ last)
 says_block h n o was_sent is ms are last place low high =
     let l = h.link in
     let t = length l.taken in
@@ -184,7 +184,7 @@ says_block h n o was_sent is ms are last place low high =
       at = omega (arith, length-append h.taken a.front, a.at, low);
       board = b.rig;
       in_time = all_tick h.board (commands_of a.front);
-      told = λ c k. among_left _ (numbered (n + 1) (map text_of (takes_all h.board (commands_of ms)).answers)) last
+      told = λ c k. among_left _ (numbered (n + 1) (map wire_text (takes_all h.board (commands_of ms)).answers)) last
           (among_replies (n + 1) c (takes_all h.board (commands_of ms)).answers
           (subst (λ (x : List Meant). IsAmong c (takes_all h.board (commands_of x)).answers) (sym a.are) (all_answers h.board a.front a.here a.rest c k)));
     }
@@ -195,7 +195,7 @@ says_block h n o was_sent is ms are last place low high =
     length-take-most (suc n) (x ∷ xs) = omega (arith, length-take-most n xs)
 
 handles : (h : Core) (ds : List ℕ) → IsOrdered h → AreNear (sent h.link) h.link.accepted ds
-    → Handles h (block_of h ds) (link.repeat h.link ds (map text_of (takes_all h.board (commands_of (block_of h ds))).answers))
+    → Handles h (block_of h ds) (link.repeat h.link ds (map wire_text (takes_all h.board (commands_of (block_of h ds))).answers))
 handles h [] o near = record { more = []; up = sym (append-nil h.link.up); blocks = refl; each = λ place low high. absurd (omega (arith, low, high)) }
 handles h (n ∷ ns) o near =
     let l = h.link in
@@ -203,7 +203,7 @@ handles h (n ∷ ns) o near =
     let empty : List Reply = record { number = n + 1; answer = [] } ∷ [] in
     elim (eqb_tells n l.accepted) [
       | inl p ↦ rw p.0 (record {
-        more = numbered (n + 1) (map text_of (takes_all h.board (commands_of ms)).answers) ++ empty;
+        more = numbered (n + 1) (map wire_text (takes_all h.board (commands_of ms)).answers) ++ empty;
         up = refl;
         blocks = refl;
         each = says_block h n o near.0.was_sent p.1 ms refl empty;
@@ -243,10 +243,10 @@ says_garbled h [] told = ([], sym (append-nil h.link.up), refl)
 says_garbled h (n ∷ ns) true = ([], sym (append-nil h.link.up), refl)
 says_garbled h (n ∷ ns) false = (record { number = h.link.accepted; answer = [] } ∷ [], refl, refl)
 
-says_event : (h : Core) (e : Event) → IsComing e → IsOrdered h → Says h (happens h e)
+says_event : (h : Core) (e : Event) → IsComing e → IsOrdered h → Says h (after_event h e)
 says_event h event.Arrive k o =
     let d = handles h h.link.down o o.in_step.down in
-    let out = lost_up (link.repeat h.link h.link.down (map text_of (does h event.Arrive).answers)) h.link.down in
+    let out = lost_up (link.repeat h.link h.link.down (map wire_text (does h event.Arrive).answers)) h.link.down in
     record {
       more = d.more;
       up = out.0 ∙ d.up;
@@ -267,10 +267,10 @@ says_event h event.Repeat k o =
     }
 says_event h event.Lose k o =
     let out = lost_up h.link h.link.down in
-    says_nothing h (happens h event.Lose) [] (out.0 ∙ sym (append-nil h.link.up)) refl out.1 refl refl
+    says_nothing h (after_event h event.Lose) [] (out.0 ∙ sym (append-nil h.link.up)) refl out.1 refl refl
 says_event h event.Garble k o =
     let d = says_garbled h h.link.down h.spoilt in
-    says_nothing h (happens h event.Garble) d.0 d.1 refl d.2 refl refl
+    says_nothing h (after_event h event.Garble) d.0 d.1 refl d.2 refl refl
 says_event h (event.Pass t) k o = absurd k
 says_event h (event.Put b) k o = absurd k
 says_event h (event.Control c) k o = absurd k
@@ -279,10 +279,10 @@ says_event h event.Resend k o = absurd k
 says_event h event.Reply k o = absurd k
 says_event h event.LoseReply k o = absurd k
 
-says_steps : (steps : List Step) (h : Core) → AllOf Comes steps → IsOrdered h → Says h (run steps h)
+says_steps : (steps : List Step) (h : Core) → AllOf Comes steps → IsOrdered h → Says h (run_world steps h)
 says_steps [] h k o = says_none h
 says_steps (Do e ∷ steps) h k o =
-    says_both h (happens h e) (run steps (happens h e)) (says_event h e k.0 o) (says_steps steps (happens h e) k.1 (ordered_by h e o))
+    says_both h (after_event h e) (run_world steps (after_event h e)) (says_event h e k.0 o) (says_steps steps (after_event h e) k.1 (ordered_by h e o))
 says_steps (Turn turn ∷ steps) h k o = absurd k.0
 
 come_by : (fate : Fate) → AllOf Comes (comes Down fate)
@@ -297,12 +297,12 @@ pub record SaysInTurn (h g : Core) : Type 0 where
   pub up : g.link.up ≡ h.link.up ++ more
   pub each : SaysEach h (length g.taken) more
 
-pub board_says : (clock : BoardClock) (turn : ℕ) (copies : List Copy) (h : Core) → IsOrdered h → SaysInTurn h (run (board_steps clock turn copies) h)
+pub board_says : (clock : BoardClock) (turn : ℕ) (copies : List Copy) (h : Core) → IsOrdered h → SaysInTurn h (run_world (board_steps clock turn copies) h)
 board_says clock turn copies h o =
-    let g = run (come Down turn copies) h in
+    let g = run_world (come Down turn copies) h in
     let t = board_tick clock (turn + 1) in
     let says = says_steps (come Down turn copies) h (all_come Comes Down (λ fate. come_by fate) turn copies) o in
-    let last = numbered g.link.accepted (map text_of (does g (event.Pass t)).answers) in
+    let last = numbered g.link.accepted (map wire_text (does g (event.Pass t)).answers) in
     let Of : Core → Type 0 = λ x. SaysInTurn h x in
     subst Of (sym (run_append (come Down turn copies) (Do (event.Pass t) ∷ []) h)) (record {
       more = says.more ++ last;

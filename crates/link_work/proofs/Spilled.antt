@@ -25,12 +25,12 @@ use Rattle.link_work.specs.Stands.{first_state}
 use Rattle.link_work.specs.Runs.{queued_in}
 use Rattle.link_work.specs.Told.{IsShutNews}
 use Rattle.link_work.specs.Answers.{IsAmong}
-use Rattle.link_work.specs.Ends.{EndSo, Ended, is_idle, is_quiet, last_of, spoiled, spoiled_turns, spoiled_up_to, stretch, unquiet}
-use Rattle.link_work.specs.Held.{AllDue, AreDue, IsCounted, counted_to, held_from, held_in, held_unit, hold, late_by, lead_of, may_be_late, spoiled_with, told_by}
+use Rattle.link_work.specs.Ends.{EndSo, Ended, is_idle, is_quiet, last_link, spoiled, spoiled_turns, spoiled_up_to, stretch, unquiet}
+use Rattle.link_work.specs.Held.{AllDue, AreDue, IsCounted, counted_to, held_from, held_in, held_unit, hold, late_by, lead_of, may_be_late, spoiled_with, spill_told}
 use Rattle.link_work.specs.declared.held.HeldUnit.{HeldUnit}
 use Rattle.link_work.specs.Late.{BeginsAt, IsFairTurn, Past, turn_steps}
 use Rattle.link_work.specs.Limits.{AllKeepLimits, KeepsLimits}
-use Rattle.link_work.specs.Taking.{HasTaken, place_of, spill}
+use Rattle.link_work.specs.Taking.{HasTaken, command_place, spill}
 use Rattle.link_work.proofs.Answered.{begins}
 use Rattle.link_work.proofs.Late.{are_turns, late_command, limits_first, ordered_after}
 use Rattle.link_work.proofs.Settled.{not_both}
@@ -233,11 +233,11 @@ record LatePlace (os : List Orders) (o : Orders) (ends : List Ended) (clock : Bo
 
 late_place : (F : Type 0) (b : BoardDef) (pins : List (List Level)) (board : ℕ) (entries : List Entry) (os : List Orders) (ends : List Ended) (o : Orders) (m : LinkState) (tick first : ℕ)
     → AllKeepLimits os → EndSo (clock_of b) 0 os (first_state b pins board entries) ends → m.core.queued ≡ flat_map queued_in os ++ queued_in o
-    → (f : Found F (last_of (first_state b pins board entries) ends).core m.core timer_too_close tick first) → first < board_tick (clock_of b) (length os) → LatePlace os o ends (clock_of b) f.command first
+    → (f : Found F (last_link (first_state b pins board entries) ends).core m.core timer_too_close tick first) → first < board_tick (clock_of b) (length os) → LatePlace os o ends (clock_of b) f.command first
 late_place F b pins board entries os ends o m tick first limits so all f late =
     let clock = clock_of b in
     let l : LinkState = first_state b pins board entries in
-    let mid : LinkState = last_of l ends in
+    let mid : LinkState = last_link l ends in
     let turn = length os in
     let sooner : (due : ℕ) → board_tick clock due ≤ first → due < turn = λ due low. turn_before clock due turn first low late in
     elim (which (flat_map queued_in os) (queued_in o) f.front f.command f.rest (sym all ∙ f.queued)) [
@@ -245,7 +245,7 @@ late_place F b pins board entries os ends o m tick first limits so all f late =
           let w = locate os f.front f.command r.0 r.1 in
           let i = length w.inner in
           let here : i < length (queued_in w.orders) = omega (arith, ap length w.queued, length-append w.inner (f.command ∷ w.rest)) in
-          let untaken : HasTaken mid (place_of w.before i) → ⊥ = λ taken. absurd (omega (arith, taken, f.untaken, w.place)) in
+          let untaken : HasTaken mid (command_place w.before i) → ⊥ = λ taken. absurd (omega (arith, taken, f.untaken, w.place)) in
           let kept = subst AllKeepLimits w.turns limits in
           let ended = subst (λ x. EndSo clock 0 x l ends) w.turns so in
           record {
@@ -305,8 +305,8 @@ state_by (Shut reason tick first) o n k e =
 told_numbers : (lead : ℕ) (turns : List ℕ) (hs : List HeldUnit) (o : Option ShutNews) (n : ShutNews) → o ≡ Some n → n.reason ≡ timer_too_close → IsCounted lead turns hs o
     → n.spoiled + n.spill ≡ (late_by lead turns n.first hs).0 + (late_by lead turns n.first hs).1
 told_numbers lead turns hs o n e r k =
-    let now : (n.spoiled, n.spill) ≡ told_by (n.reason == timer_too_close) (late_by lead turns n.first hs) = subst (IsCounted lead turns hs) e k in
-    let same = now ∙ ap (λ b. told_by b (late_by lead turns n.first hs)) (equal_is n.reason timer_too_close r) in
+    let now : (n.spoiled, n.spill) ≡ spill_told (n.reason == timer_too_close) (late_by lead turns n.first hs) = subst (IsCounted lead turns hs) e k in
+    let same = now ∙ ap (λ b. spill_told b (late_by lead turns n.first hs)) (equal_is n.reason timer_too_close r) in
     omega (arith, ap (λ (p : ℕ × ℕ). p.0) same, ap (λ (p : ℕ × ℕ). p.1) same)
 
 pub counted_as : (lead lead2 : ℕ) (turns turns2 : List ℕ) (hs hs2 : List HeldUnit) (o o2 : Option ShutNews) → lead ≡ lead2 → turns ≡ turns2 → hs ≡ hs2 → o ≡ o2 → IsCounted lead turns hs o → IsCounted lead2 turns2 hs2 o2
@@ -315,12 +315,12 @@ counted_as lead lead2 turns turns2 hs hs2 o o2 a b c d k =
 
 -- a late shutdown is told with its cause
 pub told_cause : (b : BoardDef) (pins : List (List Level)) (board : ℕ) (entries : List Entry) (os : List Orders) (ends : List Ended) (o : Orders) (m : LinkState) (turn : ℕ) (clock : BoardClock) (old : List ℕ) (quiet : Bool)
-    (hs : List HeldUnit) (told : Option ShutNews) (n : ShutNews) → clock ≡ clock_of b → turn ≡ length os → Past b pins board entries os ends → IsTurn clock turn o (last_of (first_state b pins board entries) ends) m
+    (hs : List HeldUnit) (told : Option ShutNews) (n : ShutNews) → clock ≡ clock_of b → turn ≡ length os → Past b pins board entries os ends → IsTurn clock turn o (last_link (first_state b pins board entries) ends) m
     → IsShutNews m.core.board.controller.state told → IsCounted (lead_of clock.drift) (spoiled_with old turn quiet) (hold hs turn o.batch.units) told → old ≡ spoiled_turns ends → hs ≡ held_in os ends
-    → (last_of (first_state b pins board entries) ends).core.board.controller.state ≡ Running → IsFairTurn (clock_of b) turn o (last_of (first_state b pins board entries) ends)
+    → (last_link (first_state b pins board entries) ends).core.board.controller.state ≡ Running → IsFairTurn (clock_of b) turn o (last_link (first_state b pins board entries) ends)
     → AllDue (clock_of b) (os ++ o ∷ []) → told ≡ Some n → n.reason ≡ timer_too_close → (n.first < n.tick) × (lead_of clock.drift < n.spoiled + n.spill)
 told_cause b pins board entries os ends o m turn clock old quiet hs told n same at past t shut counted was held running fair due some reason =
-    let l : LinkState = last_of (first_state b pins board entries) ends in
+    let l : LinkState = last_link (first_state b pins board entries) ends in
     let known = ordered_after b pins board entries (clock_of b) os ends past.so in
     let now : IsTurn (clock_of b) (length os) o l m = subst (λ k. IsTurn (clock_of b) k o l m) at (subst (λ (x : BoardClock). IsTurn x turn o l m) same t) in
     let first : LinkState = first_state b pins board entries in

@@ -12,7 +12,7 @@ use Rattle.link_core.specs.Core.{Command, sent}
 use Rattle.wire_scene.specs.Wire.{Copy, Line}
 use Rattle.board_sim.specs.Fair.{Meant}
 use Rattle.board_sim.specs.Rig.{Rig, takes}
-use Rattle.board_world.specs.World.{text_of}
+use Rattle.board_world.specs.World.{wire_text}
 use Rattle.link_work.specs.Turn.{LinkState, Orders, IsTurn}
 use Rattle.link_work.specs.Ends.{Ended}
 use Rattle.link_work.specs.Told.{IsTold}
@@ -42,7 +42,7 @@ pub record IsAnswered (clock : BoardClock) (turn : ℕ) (l : LinkState) (place :
   pub board : Rig
   pub in_time : board.controller.tick ≡ board_tick clock turn
   pub heard : (answer : Cmd) → IsAmong answer (takes board command.command).answers →
-      IsText own_formats answer (text_of answer) → IsAmong (record { number = number + 1; answer = answer }) news
+      IsText own_formats answer (wire_text answer) → IsAmong (record { number = number + 1; answer = answer }) news
 
 -- no entry of a line was used in a turn or later
 abbrev pub IsCalm : ℕ → Line → Type 0

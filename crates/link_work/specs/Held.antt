@@ -54,16 +54,16 @@ late_by lead spoiled first (h ∷ hs) =
     if may_be_late lead spoiled first h then (counted_to h.due spoiled, h.spill) else late_by lead spoiled first hs
 
 -- the spoiled turns and the spill that are told of a shutdown: none, unless a step came too late
-abbrev pub told_by : Bool → ℕ × ℕ → ℕ × ℕ
-told_by true late = late
-told_by false late = (0, 0)
+abbrev pub spill_told : Bool → ℕ × ℕ → ℕ × ℕ
+spill_told true late = late
+spill_told false late = (0, 0)
 
 -- what is told of a shutdown beside its reason: of one for steps that came too late, their spoiled turns and
 -- their spill
 abbrev pub IsCounted : ℕ → List ℕ → List HeldUnit → Option ShutNews → Type 0
 IsCounted lead spoiled hs None = Unit {0}
 IsCounted lead spoiled hs (Some n) =
-    (n.spoiled, n.spill) ≡ told_by (n.reason == timer_too_close) (late_by lead spoiled n.first hs)
+    (n.spoiled, n.spill) ≡ spill_told (n.reason == timer_too_close) (late_by lead spoiled n.first hs)
 
 -- by the board's own clock the due turns of units are those of their first ticks; where it is off they may be
 -- one turn later

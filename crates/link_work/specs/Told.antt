@@ -12,7 +12,7 @@ use Rattle.link_core.specs.Stands.{last_closes}
 use Rattle.wire_scene.specs.declared.scene.Way.TheVariants.{Up}
 use Rattle.board_world.specs.declared.event.Event.TheVariants as event
 use Rattle.board_world.specs.Stands.{IsAnswer}
-use Rattle.board_world.specs.World.{Core, Step, Do, after, happens}
+use Rattle.board_world.specs.World.{Core, Step, Do, world_after, after_event}
 use Rattle.link_work.specs.Turn.{LinkState, Orders, after_board, after_host, come, host_steps}
 
 -- a block that is put and ends with a get_uptime: its number
@@ -23,13 +23,13 @@ asked_by before after =
 
 -- what is asked in a step
 abbrev pub asked_at : Step → Core → List ℕ
-asked_at (Do event.Send) h = asked_by h (happens h event.Send)
+asked_at (Do event.Send) h = asked_by h (after_event h event.Send)
 asked_at _ h = []
 
 -- the numbers of the blocks that are first put in these steps and end with a get_uptime
 abbrev pub asked_in : List Step → Core → List ℕ
 asked_in [] h = []
-asked_in (s ∷ steps) h = asked_at s h ++ asked_in steps (after h s)
+asked_in (s ∷ steps) h = asked_at s h ++ asked_in steps (world_after h s)
 
 -- the reply that comes to the host in a step
 abbrev pub heard_at : Step → Core → List Reply
@@ -39,7 +39,7 @@ heard_at _ h = []
 -- the replies that come to the host in these steps
 abbrev pub heard_in : List Step → Core → List Reply
 heard_in [] h = []
-heard_in (s ∷ steps) h = heard_at s h ++ heard_in steps (after h s)
+heard_in (s ∷ steps) h = heard_at s h ++ heard_in steps (world_after h s)
 
 -- the news of a reply with this answer
 abbrev pub news_of : Reply → Option Cmd → List News
@@ -53,8 +53,8 @@ AreNews (r ∷ rs) news =
     (o : Option Cmd) × (rest : List News) × IsAnswer r o × AreNews rs rest × (news ≡ news_of r o ++ rest)
 
 -- news and the answers in replies behind them
-abbrev pub Adds : List News → List News → List Reply → Type 0
-Adds before now rs = (more : List News) × (now ≡ before ++ more) × AreNews rs more
+abbrev pub AddsNews : List News → List News → List Reply → Type 0
+AddsNews before now rs = (more : List News) × (now ≡ before ++ more) × AreNews rs more
 
 -- a shutdown is told as it stands in the board
 abbrev pub IsShutNews : BoardState → Option ShutNews → Type 0

@@ -18,7 +18,7 @@ use Rattle.report_text.specs.declared.line.ReportLine.TheVariants as report
 use Rattle.log_check.specs.Behind.{further_said}
 use Rattle.log_check.specs.Faults.{fault_at, is_short}
 use Rattle.log_check.specs.Points.{Point, point}
-use Rattle.log_check.specs.Steps.{CheckSofar, Took, TookLine, counted, next, told_at}
+use Rattle.log_check.specs.Steps.{CheckSofar, Took, TookLine, with_misfit, next_point, told_at}
 use Rattle.log_check.specs.Verdicts.{Verdict, by_fault, by_line, end_cause, fits_before, log_lines, log_verdict, misfit_at, present_fits, verdict, with_pulse_of, worded}
 use Rattle.log_check.proofs.Pointing.{counted-point, next-point}
 
@@ -55,7 +55,7 @@ took-more m sections further p after old new last n words all left wanted found 
       ∙ ap (λ f. by_fault n l lines f (verdict m sections further n (l ∷ lines) left)) fits in
       record {
         lines = l ∷ lines;
-        at = t.1 ∙ ap (λ q. next m sections q l) at ∙ next-point m sections further lines l fits;
+        at = t.1 ∙ ap (λ q. next_point m sections q l) at ∙ next-point m sections further lines l fits;
         told_is = t.2 ∙ ap (λ o. o ++ told_at p l) sofar.told_is ∙ ap (λ q. fits_before m sections further lines ++ told_at q l) at ∙ told-next m sections further lines l;
         more = sym step ∙ ap (verdict m sections further last lines) (sym is) ∙ sofar.more;
       }
@@ -91,7 +91,7 @@ took-misfit m sections further p after old new last n words all left wanted foun
       ap (λ s. by_line m sections further n lines s (λ j. verdict m sections further n (j ∷ lines) left)) said
       ∙ ap (λ f. by_fault n l lines f (verdict m sections further n (l ∷ lines) left)) fits in
       tell m sections further after new (cause.Misfit n kind) (with_pulse_of l lines) wanted (sym whole ∙ step)
-      (t.1 ∙ ap (λ q. counted q l) at ∙ counted-point m sections further lines l)
+      (t.1 ∙ ap (λ q. with_misfit q l) at ∙ counted-point m sections further lines l)
       (t.2 ∙ sofar.told_is ∙ sym (told-same m sections further lines l))
 
   by : (said : Said) → line_said m words ≡ said → Took m sections p after old new said found → IsTold m sections further after new (cause.Misfit n kind) wanted

@@ -10,7 +10,7 @@ use Rattle.clock_line.proofs.Holding.{are-added, tick-mono}
 use Rattle.clock_line.proofs.Turns.{last_from-each}
 use Rattle.log_text.specs.declared.line.LogLine.{LogLine}
 use Rattle.log_text.specs.declared.line.LogLine.TheVariants as line
-use Rattle.log_text.specs.Said.{Said, board_freq, board_line, board_tick, board_told, board_turn, counts_line, counts_passed, counts_with, cut_line, cut_with, drift_line, end_line, end_with, is_corexy, is_up, kind_of, known, line_said, machine_boards, machine_if, machine_line, machine_with, note_if, pulse_line, pulse_told, pulse_with, same, section_line, section_turn, section_with}
+use Rattle.log_text.specs.Said.{Said, board_freq, board_line, board_tick, board_told, board_turn, counts_line, counts_passed, counts_with, cut_line, cut_with, drift_line, end_line, end_with, is_corexy, is_up, kind_said, board_said, line_said, machine_boards, machine_if, machine_line, machine_with, note_if, pulse_line, pulse_told, pulse_with, same, section_line, section_turn, section_with}
 use Rattle.log_text.specs.Names.{board_from, stepper_from}
 use Rattle.log_text.specs.Words.{is_turn, labelled, number}
 use Rattle.plan_types.specs.declared.cause.MisfitKind.TheVariants.{BadLine, Unknown}
@@ -31,7 +31,7 @@ use Rattle.section_plan.proofs.Boards.{alone-tick, room-for, tick-next}
 use Rattle.log_check.specs.declared.further.Further.{Further}
 use Rattle.log_check.specs.Behind.{further_of, further_said, told_line, with_further, with_one}
 use Rattle.log_check.specs.Faults.{are_few, has_own_room, has_room}
-use Rattle.log_check.specs.Steps.{IsTold}
+use Rattle.log_check.specs.Steps.{AreClocksOfBoard}
 use Rattle.log_check.proofs.Tests.{both-first, both-second}
 
 -- the last line is the one that was added
@@ -64,20 +64,20 @@ kept-added c from l kept may =
       });
     }
 
-told-added : (m : Machine) (b : ℕ) (c : Clocks) (from : ℕ) (l : Line) → IsTold m c b → from < 2 ^ 64 → IsTold m (added_where c from l) b
+told-added : (m : Machine) (b : ℕ) (c : Clocks) (from : ℕ) (l : Line) → AreClocksOfBoard m c b → from < 2 ^ 64 → AreClocksOfBoard m (added_where c from l) b
 told-added m b c from l told early = by (may_hold c from l) refl where
-  by : (may : Bool) → may_hold c from l ≡ may → IsTold m (if may then added c from l else c) b
+  by : (may : Bool) → may_hold c from l ≡ may → AreClocksOfBoard m (if may then added c from l else c) b
   by true e =
       let last = last-added c.first.at c.held (record { from = from; line = l; most = lines_tick c from; start = tick l from; plan = tick c.first from }) in
       record { kept = kept-added c from l told.kept e; soon = omega (arith, last, early); freq = told.freq }
   by false e = told
 
-pub further-told : (m : Machine) (b : ℕ) (further : List Further) (c : Clocks) → IsTold m c b → All (λ f. f.from < 2 ^ 64) further → IsTold m (with_further m b further c) b
+pub further-told : (m : Machine) (b : ℕ) (further : List Further) (c : Clocks) → AreClocksOfBoard m c b → All (λ f. f.from < 2 ^ 64) further → AreClocksOfBoard m (with_further m b further c) b
 further-told m b [] c told early = told
 further-told m b (f ∷ further) c told early =
     let P : Further → Type 0 = λ g. g.from < 2 ^ 64 in
     further-told m b further _ (by (f.board == b)) (All-tail P f further early) where
-      by : (own : Bool) → IsTold m (if own then added_where c f.from (told_line m b f.turn f.tick) else c) b
+      by : (own : Bool) → AreClocksOfBoard m (if own then added_where c f.from (told_line m b f.turn f.tick) else c) b
       by true = told-added m b c f.from (told_line m b f.turn f.tick) told (All-head (λ (g : Further). g.from < 2 ^ 64) f further early)
       by false = told
 
@@ -167,7 +167,7 @@ section-with i turn (Some kind) = either (is_turn turn) (Ok (line.Section i turn
 section-turn : (i : Option ℕ) (t : Option (ℕ × List Text)) → IsNone (section_turn i t)
 section-turn None t = refl
 section-turn (Some i) None = refl
-section-turn (Some i) (Some t) = section-with i t.0 (kind_of t.1)
+section-turn (Some i) (Some t) = section-with i t.0 (kind_said t.1)
 
 section-none : (words : List Text) → IsNone (section_line words)
 section-none [] = refl
@@ -190,7 +190,7 @@ pulse-none m (board ∷ stepper ∷ []) = refl
 pulse-none m (board ∷ stepper ∷ tick ∷ []) = refl
 pulse-none m (board ∷ stepper ∷ tick ∷ sign ∷ words) = either (is_none_left words) (pulse_with m board stepper (number tick) (is_up sign)) (Err BadLine) (pulse-with m board stepper (number tick) (is_up sign)) refl
 
-known-none : (b : Option ℕ) (l : LogLine) → IsNone (Ok l) → IsNone (known b l)
+known-none : (b : Option ℕ) (l : LogLine) → IsNone (Ok l) → IsNone (board_said b l)
 known-none None l h = refl
 known-none (Some b) l h = h
 

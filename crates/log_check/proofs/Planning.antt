@@ -18,7 +18,7 @@ use Rattle.log_check.specs.Faults.{has_own_room, has_room, have_room, is_roomy, 
 use Rattle.log_check.proofs.Furthers.{own-room}
 use Rattle.log_check.proofs.Tests.{both-first, both-second}
 use Rattle.log_check.specs.Points.{Point, section_at}
-use Rattle.log_check.specs.Steps.{CanPlan, IsSound}
+use Rattle.log_check.specs.Steps.{CanPlan, IsSoundPoint}
 
 room-at : (cs : List Clocks) (moves turn b : ℕ) (d : Clocks) → have_room cs moves turn ≡ true → b < length cs → is_roomy (get_or cs b d) moves turn ≡ true
 room-at [] moves turn b d room inside = absurd (omega arith)
@@ -46,7 +46,7 @@ own-few c held moves turn is kept room own few =
       no-longer true e = cc
       no-longer false e = refl
 
-ready-at : (m : Machine) (p : Point) (moves turn b : ℕ) → IsSound m p → have_room p.clocks moves turn ≡ true → b < length p.clocks → moves ≤ 2_000_000 → IsReadyAt m p.clocks turn moves b
+ready-at : (m : Machine) (p : Point) (moves turn b : ℕ) → IsSoundPoint m p → have_room p.clocks moves turn ≡ true → b < length p.clocks → moves ≤ 2_000_000 → IsReadyAt m p.clocks turn moves b
 ready-at m p moves turn b sound room inside few =
     let told = sound.lines b inside in
     let c = clocks_at p.clocks b in
@@ -87,7 +87,7 @@ starts m sections p i turn kind may =
     let boards : (length p.clocks == length m.boards) ≡ true = both-first c (d && e) three in
     record { inside = grind (arith, nat_tests); boards = grind (arith, nat_tests); room = both-second d e four }
 
-pub plannable : (m : Machine) (sections : List Section) (p : Point) (turn : ℕ) → IsValidMachine m → CanPlan sections → IsSound m p → turn < 2 ^ 62 → Starts m sections p turn
+pub plannable : (m : Machine) (sections : List Section) (p : Point) (turn : ℕ) → IsValidMachine m → CanPlan sections → IsSoundPoint m p → turn < 2 ^ 62 → Starts m sections p turn
     → IsPlannable m p.clocks (section_at sections p.begun).moves turn
 plannable m sections p turn valid can sound soon starts =
     let count = starts.boards in

@@ -21,7 +21,7 @@ use Rattle.log_check.specs.Behind.{begun, pulses, told_line, with_further}
 use Rattle.log_check.specs.Faults.{fault_at, no_tally, open_fault}
 use Rattle.log_check.specs.Points.{Point, plans, point}
 use Rattle.log_check.specs.Pulses.{tally_of, with_pulse}
-use Rattle.log_check.specs.Steps.{counted, next, with_clock, with_made}
+use Rattle.log_check.specs.Steps.{with_misfit, next_point, with_clock, with_made}
 use Rattle.log_check.specs.Verdicts.{with_pulse_of}
 
 pub no-some : {X : Type 0} {x : X} → Some x ≡ None → ⊥
@@ -108,7 +108,7 @@ line-inside m sections p b turn tick from fits =
       by false e = if-none (nat_lt b (length p.told)) (may_hold (clocks_at p.told b) from (told_line m b turn tick)) e
 
 -- the point behind a line that fits
-pub next-point : (m : Machine) (sections : List Section) (further : List Further) (lines : List LogLine) (l : LogLine) → fault_at m sections (point m sections further lines) l ≡ None → next m sections (point m sections further lines) l ≡ point m sections further (l ∷ lines)
+pub next-point : (m : Machine) (sections : List Section) (further : List Further) (lines : List LogLine) (l : LogLine) → fault_at m sections (point m sections further lines) l ≡ None → next_point m sections (point m sections further lines) l ≡ point m sections further (l ∷ lines)
 next-point m sections further lines line.Note fits = refl
 next-point m sections further lines (line.Board b turn tick) fits = clock-point m sections further lines b turn tick (board-first m sections (point m sections further lines) b turn tick fits)
 next-point m sections further lines (line.Line b turn tick from) fits = refl
@@ -118,7 +118,7 @@ next-point m sections further lines (line.Cut i) fits = refl
 next-point m sections further lines line.End fits = refl
 
 -- the point at a line that doesn't
-pub counted-point : (m : Machine) (sections : List Section) (further : List Further) (lines : List LogLine) (l : LogLine) → counted (point m sections further lines) l ≡ point m sections further (with_pulse_of l lines)
+pub counted-point : (m : Machine) (sections : List Section) (further : List Further) (lines : List LogLine) (l : LogLine) → with_misfit (point m sections further lines) l ≡ point m sections further (with_pulse_of l lines)
 counted-point m sections further lines line.Note = refl
 counted-point m sections further lines (line.Board b turn tick) = refl
 counted-point m sections further lines (line.Line b turn tick from) = refl

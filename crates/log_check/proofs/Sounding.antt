@@ -24,14 +24,14 @@ use Rattle.log_check.specs.Behind.{told_line, with_further}
 use Rattle.log_check.specs.Faults.{fault_at, is_short, may_start, no_tally, open_fault, section_fault}
 use Rattle.log_check.specs.Points.{Point, point, section_at}
 use Rattle.log_check.specs.Pulses.{pulse_fault, with_pulse}
-use Rattle.log_check.specs.Steps.{CanPlan, IsSound, IsTold, next, with_clock, with_made, with_section}
+use Rattle.log_check.specs.Steps.{CanPlan, IsSoundPoint, AreClocksOfBoard, next_point, with_clock, with_made, with_section}
 use Rattle.log_check.proofs.Planning.{Starts, plannable, starts}
 use Rattle.log_check.proofs.Tests.{both-second}
 use Rattle.log_check.proofs.Furthers.{further-told}
 use Rattle.log_check.proofs.Pointing.{board-first, board-tests}
 
 -- nothing told
-pub start-sound : (m : Machine) (sections : List Section) (further : List Further) → All (λ f. f.from < 2 ^ 64) further → IsSound m (point m sections further [])
+pub start-sound : (m : Machine) (sections : List Section) (further : List Further) → All (λ f. f.from < 2 ^ 64) further → IsSoundPoint m (point m sections further [])
 start-sound m sections further early =
     let none = λ (s : ℕ). no_tally in
     record {
@@ -46,7 +46,7 @@ start-sound m sections further early =
     }
 
 -- a section that begins
-pub section-sound : (m : Machine) (sections : List Section) (p : Point) (turn : ℕ) → IsSound m p → IsPlannable m p.clocks (section_at sections p.begun).moves turn → IsSound m (with_section m sections p turn)
+pub section-sound : (m : Machine) (sections : List Section) (p : Point) (turn : ℕ) → IsSoundPoint m p → IsPlannable m p.clocks (section_at sections p.begun).moves turn → IsSoundPoint m (with_section m sections p turn)
 section-sound m sections p turn sound can =
     let none = λ (s : ℕ). no_tally in
     let n = length m.steppers in
@@ -80,7 +80,7 @@ pub section-starts : (m : Machine) (sections : List Section) (p : Point) (i turn
 section-starts m sections p i turn kind fits =
     starts m sections p i turn kind (may-of (is_short p.cut p.plans p.tallies) (may_start m sections p i turn kind) (fault-open m sections p (line.Section i turn kind) fits))
 
-pub section-plannable : (m : Machine) (sections : List Section) (p : Point) (i turn : ℕ) (kind : SectionKind) → IsValidMachine m → CanPlan sections → IsSound m p → turn < 4_611_686_018_427_387_904 → fault_at m sections p (line.Section i turn kind) ≡ None
+pub section-plannable : (m : Machine) (sections : List Section) (p : Point) (i turn : ℕ) (kind : SectionKind) → IsValidMachine m → CanPlan sections → IsSoundPoint m p → turn < 4_611_686_018_427_387_904 → fault_at m sections p (line.Section i turn kind) ≡ None
     → IsPlannable m p.clocks (section_at sections p.begun).moves turn
 section-plannable m sections p i turn kind valid can sound soon fits = plannable m sections p turn valid can sound (omega (arith, soon)) (section-starts m sections p i turn kind fits)
 
@@ -108,7 +108,7 @@ few-made ts plans s t tick false e inside more few =
     let is = get_or-set_other ts s t (with_pulse (get_or plans s []) (get_or ts s no_tally) tick) no_tally far in
     rw is few
 
-pub pulse-sound : (m : Machine) (sections : List Section) (p : Point) (s tick : ℕ) (up : Bool) → IsSound m p → s < length m.steppers → fault_at m sections p (line.Pulse s tick up) ≡ None → IsSound m (with_made p s tick)
+pub pulse-sound : (m : Machine) (sections : List Section) (p : Point) (s tick : ℕ) (up : Bool) → IsSoundPoint m p → s < length m.steppers → fault_at m sections p (line.Pulse s tick up) ≡ None → IsSoundPoint m (with_made p s tick)
 pulse-sound m sections p s tick up sound there fits =
     let count = sound.tallies in
     record {
@@ -127,41 +127,41 @@ line-valid m b turn tick valid inside soon =
     let freq = (valid.boards b no_board inside).freq in
     record { freq_low = freq.low; freq_high = freq.high; freq_whole = freq.whole; whole_turn = grind arith; few_turns = omega (arith, soon) }
 
-line-told : (m : Machine) (b turn tick : ℕ) → IsValidMachine m → b < length m.boards → turn < 4_611_686_018_427_387_904 → IsTold m (one_line (told_line m b turn tick)) b
+line-told : (m : Machine) (b turn tick : ℕ) → IsValidMachine m → b < length m.boards → turn < 4_611_686_018_427_387_904 → AreClocksOfBoard m (one_line (told_line m b turn tick)) b
 line-told m b turn tick valid inside soon = record {
   kept = record { valid = line-valid m b turn tick valid inside soon; held = tt };
   soon = omega (arith, soon);
   freq = refl;
 }
 
-pub clock-sound : (m : Machine) (sections : List Section) (p : Point) (b turn tick : ℕ) → IsValidMachine m → IsSound m p → b < length m.boards → turn < 4_611_686_018_427_387_904 → fault_at m sections p (line.Board b turn tick) ≡ None
-    → IsSound m (with_clock p (with_further m b p.further (one_line (told_line m b turn tick))) (one_line (told_line m b turn tick)))
+pub clock-sound : (m : Machine) (sections : List Section) (p : Point) (b turn tick : ℕ) → IsValidMachine m → IsSoundPoint m p → b < length m.boards → turn < 4_611_686_018_427_387_904 → fault_at m sections p (line.Board b turn tick) ≡ None
+    → IsSoundPoint m (with_clock p (with_further m b p.further (one_line (told_line m b turn tick))) (one_line (told_line m b turn tick)))
 clock-sound m sections p b turn tick valid sound there soon fits =
     let tests = board-tests m sections p b turn tick fits in
     let place : b ≡ length p.clocks = (let h : (b == length p.clocks) ≡ true = both-second (p.begun == 0) (b == length p.clocks) tests in grind (arith, nat_tests)) in
     let none = sound.none (board-first m sections p b turn tick fits) in
     let c = with_further m b p.further (one_line (told_line m b turn tick)) in
-    let told : IsTold m c b = further-told m b p.further (one_line (told_line m b turn tick)) (line-told m b turn tick valid there soon) sound.early in
+    let told : AreClocksOfBoard m c b = further-told m b p.further (one_line (told_line m b turn tick)) (line-told m b turn tick valid there soon) sound.early in
     record {
       tallies = sound.tallies;
       plans = sound.plans;
       bases = sound.bases;
       boards = λ h. absurd (let no = ap length none in omega (arith, h));
       early = sound.early;
-      lines = λ k inside. line-at p.clocks c k (nat_lt k (length p.clocks)) refl (let long = length-append p.clocks (c ∷ []) in omega (arith, inside)) (sound.lines k) (subst (λ n. IsTold m c n) place told);
+      lines = λ k inside. line-at p.clocks c k (nat_lt k (length p.clocks)) refl (let long = length-append p.clocks (c ∷ []) in omega (arith, inside)) (sound.lines k) (subst (λ n. AreClocksOfBoard m c n) place told);
       none = sound.none;
       few = sound.few;
     } where
-      line-at : (cs : List Clocks) (c : Clocks) (k : ℕ) (low : Bool) → nat_lt k (length cs) ≡ low → k < length cs + 1 → (k < length cs → IsTold m (clocks_at cs k) k) → IsTold m c (length cs) → IsTold m (clocks_at (cs ++ c ∷ []) k) k
+      line-at : (cs : List Clocks) (c : Clocks) (k : ℕ) (low : Bool) → nat_lt k (length cs) ≡ low → k < length cs + 1 → (k < length cs → AreClocksOfBoard m (clocks_at cs k) k) → AreClocksOfBoard m c (length cs) → AreClocksOfBoard m (clocks_at (cs ++ c ∷ []) k) k
       line-at cs c k true e inside before here =
           let under : k < length cs = grind (arith, nat_tests) in
-          subst (λ x. IsTold m x k) (sym (get_or_append_left cs (c ∷ []) _ k under)) (before under)
+          subst (λ x. AreClocksOfBoard m x k) (sym (get_or_append_left cs (c ∷ []) _ k under)) (before under)
       line-at cs c k false e inside before here =
           let at : k ≡ length cs = grind (arith, nat_tests) in
-          let G : ℕ → Type 0 = λ n. IsTold m (clocks_at (cs ++ c ∷ []) n) n in
-          subst G (sym at) (subst (λ x. IsTold m x (length cs)) (sym (get_or_push cs c _ (length cs) refl)) here)
+          let G : ℕ → Type 0 = λ n. AreClocksOfBoard m (clocks_at (cs ++ c ∷ []) n) n in
+          subst G (sym at) (subst (λ x. AreClocksOfBoard m x (length cs)) (sym (get_or_push cs c _ (length cs) refl)) here)
 
-pub next-sound : (m : Machine) (sections : List Section) (p : Point) (l : LogLine) → IsValidMachine m → CanPlan sections → IsSound m p → IsThere m l → fault_at m sections p l ≡ None → IsSound m (next m sections p l)
+pub next-sound : (m : Machine) (sections : List Section) (p : Point) (l : LogLine) → IsValidMachine m → CanPlan sections → IsSoundPoint m p → IsThere m l → fault_at m sections p l ≡ None → IsSoundPoint m (next_point m sections p l)
 next-sound m sections p line.Note valid can sound there fits = sound
 next-sound m sections p (line.Board b turn tick) valid can sound there fits = clock-sound m sections p b turn tick valid sound there.0 there.1 fits
 next-sound m sections p (line.Line b turn tick from) valid can sound there fits = record { tallies = sound.tallies; plans = sound.plans; bases = sound.bases; boards = sound.boards; early = sound.early; lines = sound.lines; none = sound.none; few = sound.few }
@@ -171,7 +171,7 @@ next-sound m sections p (line.Cut i) valid can sound there fits = record { talli
 next-sound m sections p line.End valid can sound there fits = record { tallies = sound.tallies; plans = sound.plans; bases = sound.bases; boards = sound.boards; early = sound.early; lines = sound.lines; none = sound.none; few = sound.few }
 
 -- as many sections began as the text has, or fewer
-pub next-begun : (m : Machine) (sections : List Section) (p : Point) (l : LogLine) → p.begun ≤ length sections → fault_at m sections p l ≡ None → (next m sections p l).begun ≤ length sections
+pub next-begun : (m : Machine) (sections : List Section) (p : Point) (l : LogLine) → p.begun ≤ length sections → fault_at m sections p l ≡ None → (next_point m sections p l).begun ≤ length sections
 next-begun m sections p line.Note few fits = few
 next-begun m sections p (line.Board b turn tick) few fits = few
 next-begun m sections p (line.Line b turn tick from) few fits = few

@@ -21,10 +21,10 @@ begun (line.Section i turn kind ∷ lines) = suc (begun lines)
 begun (_ ∷ lines) = begun lines
 
 -- the turn in which the present section started
-abbrev pub start : List LogLine → ℕ
-start [] = 0
-start (line.Section i turn kind ∷ lines) = turn
-start (_ ∷ lines) = start lines
+abbrev pub section_start : List LogLine → ℕ
+section_start [] = 0
+section_start (line.Section i turn kind ∷ lines) = turn
+section_start (_ ∷ lines) = section_start lines
 
 -- whether a cut of the present section was told
 abbrev pub is_cut : List LogLine → Bool
@@ -74,12 +74,12 @@ clocks m further (line.Board b turn tick ∷ lines) =
 clocks m further (_ ∷ lines) = clocks m further lines
 
 -- those of them that were told so far
-abbrev pub told : Machine → List LogLine → List Clocks
-told m [] = []
-told m (line.Board b turn tick ∷ lines) = told m lines ++ one_line (told_line m b turn tick) ∷ []
-told m (line.Line b turn tick from ∷ lines) =
-    set (told m lines) b (added_where (clocks_at (told m lines) b) from (told_line m b turn tick))
-told m (_ ∷ lines) = told m lines
+abbrev pub told_clocks : Machine → List LogLine → List Clocks
+told_clocks m [] = []
+told_clocks m (line.Board b turn tick ∷ lines) = told_clocks m lines ++ one_line (told_line m b turn tick) ∷ []
+told_clocks m (line.Line b turn tick from ∷ lines) =
+    set (told_clocks m lines) b (added_where (clocks_at (told_clocks m lines) b) from (told_line m b turn tick))
+told_clocks m (_ ∷ lines) = told_clocks m lines
 
 -- the pulses of a stepper in the present section, the last one first
 abbrev pub pulses : ℕ → List LogLine → List Pulse

@@ -8,7 +8,7 @@ use Rattle.plan_types.specs.Lines.{Clocks}
 use Rattle.plan_types.specs.Sections.{base_tick, for_each_stepper, section_end, section_plans, no_section}
 use Rattle.log_check.specs.declared.further.Further.{Further}
 use Rattle.log_check.specs.declared.tally.Tally.{Tally}
-use Rattle.log_check.specs.Behind.{begun, clocks, is_cut, is_ended, pulses, start, told}
+use Rattle.log_check.specs.Behind.{begun, clocks, is_cut, is_ended, pulses, section_start, told_clocks}
 use Rattle.log_check.specs.Pulses.{tally_of}
 
 -- the section of a number
@@ -52,20 +52,20 @@ tallies_by m plans lines = for_each_stepper m (λ s. tally_of (slice_index_or pl
 
 -- the plans of the present section behind some lines, by the further clock lines of the log
 abbrev pub plans : Machine → List Section → List Further → List LogLine → List (List Planned)
-plans m sections further lines = plans_by m sections (clocks m further lines) (begun lines) (start lines)
+plans m sections further lines = plans_by m sections (clocks m further lines) (begun lines) (section_start lines)
 
 -- the point behind some lines of a log, the last one first, by its further clock lines
 abbrev pub point : Machine → List Section → List Further → List LogLine → Point
 point m sections further lines = record {
   further = further;
   clocks = clocks m further lines;
-  told = told m lines;
+  told = told_clocks m lines;
   begun = begun lines;
-  start = start lines;
-  end = end_by m sections (clocks m further lines) (begun lines) (start lines);
+  start = section_start lines;
+  end = end_by m sections (clocks m further lines) (begun lines) (section_start lines);
   cut = is_cut lines;
   ended = is_ended lines;
   plans = plans m sections further lines;
-  bases = bases_by m (clocks m further lines) (begun lines) (start lines);
+  bases = bases_by m (clocks m further lines) (begun lines) (section_start lines);
   tallies = tallies_by m (plans m sections further lines) lines;
 }

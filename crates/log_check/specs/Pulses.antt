@@ -30,8 +30,8 @@ abbrev pub ahead : List Planned → ℕ → ℕ → ℕ
 ahead plan i tick = if nat_lt i (length plan) then (slice_index_or plan i no_step).tick - tick else 0
 
 -- by how many it is behind that
-abbrev pub behind : List Planned → ℕ → ℕ → ℕ
-behind plan i tick = if nat_lt i (length plan) then tick - (slice_index_or plan i no_step).tick else 0
+abbrev pub ticks_late : List Planned → ℕ → ℕ → ℕ
+ticks_late plan i tick = if nat_lt i (length plan) then tick - (slice_index_or plan i no_step).tick else 0
 
 -- the greatest number of ticks by which one of some pulses, the last one first, is before its planned tick
 abbrev pub most_early : List Planned → List Pulse → ℕ
@@ -41,7 +41,7 @@ most_early plan (p ∷ pulses) = max (most_early plan pulses) (ahead plan (lengt
 -- the greatest number of ticks by which one is behind it
 abbrev pub most_late : List Planned → List Pulse → ℕ
 most_late plan [] = 0
-most_late plan (p ∷ pulses) = max (most_late plan pulses) (behind plan (length pulses) p.tick)
+most_late plan (p ∷ pulses) = max (most_late plan pulses) (ticks_late plan (length pulses) p.tick)
 
 -- how some pulses stand to a plan
 abbrev pub tally_of : List Planned → List Pulse → Tally
@@ -53,5 +53,5 @@ with_pulse plan t tick =
     record {
       made = suc t.made;
       early = max t.early (ahead plan t.made tick);
-      late = max t.late (behind plan t.made tick);
+      late = max t.late (ticks_late plan t.made tick);
     }

@@ -47,20 +47,20 @@ point_of st = record {
 }
 
 -- the clock lines of the board of a number, all of 64-bit times
-pub record IsTold (m : Machine) (c : Clocks) (b : ℕ) : Type 0 where
+pub record AreClocksOfBoard (m : Machine) (c : Clocks) (b : ℕ) : Type 0 where
   pub kept : AreKept c
   pub soon : last_from c.first.at c.held < 2 ^ 62 * turn_ns
   pub freq : c.first.freq ≡ (board_at m b).freq
 
 -- a point has as many tallies as steppers, and a plan for each of them behind all clock lines or none at all;
 -- no stepper has more pulses than planned
-pub record IsSound (m : Machine) (p : Point) : Type 0 where
+pub record IsSoundPoint (m : Machine) (p : Point) : Type 0 where
   pub tallies : length p.tallies ≡ length m.steppers
   pub plans : length p.plans ≤ length m.steppers
   pub bases : length p.bases ≡ length p.plans
   pub boards : 0 < length p.plans → length p.clocks ≡ length m.boards
   pub early : All (λ f. f.from < 2 ^ 64) p.further
-  pub lines : (b : ℕ) → b < length p.clocks → IsTold m (clocks_at p.clocks b) b
+  pub lines : (b : ℕ) → b < length p.clocks → AreClocksOfBoard m (clocks_at p.clocks b) b
   pub none : p.begun ≡ 0 → p.plans ≡ []
   pub few : (s : ℕ) → s < length m.steppers →
       (slice_index_or p.tallies s no_tally).made ≤ length (slice_index_or p.plans s [])
@@ -173,25 +173,25 @@ with_made p s tick =
     with_tally p s (with_pulse (slice_index_or p.plans s []) (slice_index_or p.tallies s no_tally) tick)
 
 -- the point of the check behind a line
-abbrev pub next : Machine → List Section → Point → LogLine → Point
-next m sections p line.Note = p
-next m sections p (line.Board b turn tick) =
+abbrev pub next_point : Machine → List Section → Point → LogLine → Point
+next_point m sections p line.Note = p
+next_point m sections p (line.Board b turn tick) =
     with_clock p (with_further m b p.further (one_line (told_line m b turn tick))) (one_line (told_line m b turn tick))
-next m sections p (line.Line b turn tick from) = with_line m p b turn tick from
-next m sections p (line.Section i turn kind) = with_section m sections p turn
-next m sections p (line.Pulse s tick up) = with_made p s tick
-next m sections p (line.Cut i) = with_cut p
-next m sections p line.End = with_end p
+next_point m sections p (line.Line b turn tick from) = with_line m p b turn tick from
+next_point m sections p (line.Section i turn kind) = with_section m sections p turn
+next_point m sections p (line.Pulse s tick up) = with_made p s tick
+next_point m sections p (line.Cut i) = with_cut p
+next_point m sections p line.End = with_end p
 
 -- the point with a line told behind it that doesn't fit: a pulse is counted
-abbrev pub counted : Point → LogLine → Point
-counted p line.Note = p
-counted p (line.Board b turn tick) = p
-counted p (line.Line b turn tick from) = p
-counted p (line.Section i turn kind) = p
-counted p (line.Pulse s tick up) = with_made p s tick
-counted p (line.Cut i) = p
-counted p line.End = p
+abbrev pub with_misfit : Point → LogLine → Point
+with_misfit p line.Note = p
+with_misfit p (line.Board b turn tick) = p
+with_misfit p (line.Line b turn tick from) = p
+with_misfit p (line.Section i turn kind) = p
+with_misfit p (line.Pulse s tick up) = with_made p s tick
+with_misfit p (line.Cut i) = p
+with_misfit p line.End = p
 
 -- what is told at a line that fits: of a section that ends
 abbrev pub told_at : Point → LogLine → List ReportLine
@@ -207,8 +207,8 @@ told_at p line.End = []
 abbrev pub TookLine : Machine → List Section → Point → Point → List ReportLine → List ReportLine → LogLine →
     Option MisfitKind → Option MisfitKind → Type 0
 TookLine m sections p after old new l None found =
-    (found ≡ None) × (after ≡ next m sections p l) × (new ≡ old ++ told_at p l)
-TookLine m sections p after old new l (Some kind) found = (found ≡ Some kind) × (after ≡ counted p l) × (new ≡ old)
+    (found ≡ None) × (after ≡ next_point m sections p l) × (new ≡ old ++ told_at p l)
+TookLine m sections p after old new l (Some kind) found = (found ≡ Some kind) × (after ≡ with_misfit p l) × (new ≡ old)
 
 -- The check took what a line says: it is at the next point, with what is told there; or at a fault, with
 -- nothing more told.

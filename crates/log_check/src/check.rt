@@ -12,7 +12,7 @@ ghost use Rattle.log_check.specs.Behind.{told_line, with_further};
 ghost use Rattle.log_check.specs.Faults as faults;
 ghost use Rattle.log_check.specs.Faults.{fault_at, no_tally};
 ghost use Rattle.log_check.specs.Points.{point, section_at};
-ghost use Rattle.log_check.specs.Steps.{CanPlan, IsSound, Took, counted, next, point_of, told_at, with_clock, with_line, with_made, with_section};
+ghost use Rattle.log_check.specs.Steps.{CanPlan, IsSoundPoint, Took, with_misfit, next_point, point_of, told_at, with_clock, with_line, with_made, with_section};
 ghost use Rattle.log_check.specs.Verdicts.{end_cause, log_lines, log_verdict, present_fits};
 ghost use Rattle.report_text.specs.declared.line.ReportLine.TheVariants as report;
 
@@ -203,11 +203,12 @@ fn advance(
 ) -> Result<(), AllocError>
     requires machine { IsValidMachine machine.now }
     requires sections { CanPlan sections.now }
-    requires sound { IsSound machine.now (point_of stand.old) }
+    requires sound { IsSoundPoint machine.now (point_of stand.old) }
     requires begun { stand.old.begun ≤ length sections.now }
     requires there { IsThere machine.now line.now }
     requires fits { fault_at machine.now sections.now (point_of stand.old) line.now ≡ None }
-    ensures point { OnOk result (point_of stand.new ≡ next machine.now sections.now (point_of stand.old) line.now) }
+    ensures point { OnOk result (point_of stand.new
+        ≡ next_point machine.now sections.now (point_of stand.old) line.now) }
     ensures told { OnOk result (out.new.items ≡ out.old.items ++ told_at (point_of stand.old) line.now) }
 {
     match *line {
@@ -234,9 +235,9 @@ fn advance(
 
 /// Counts a pulse that doesn't fit.
 fn count_misfit(machine: &Machine, stand: &mut Stand, line: &LogLine)
-    requires sound { IsSound machine.now (point_of stand.old) }
+    requires sound { IsSoundPoint machine.now (point_of stand.old) }
     requires there { IsThere machine.now line.now }
-    ensures { point_of stand.new ≡ counted (point_of stand.old) line.now }
+    ensures { point_of stand.new ≡ with_misfit (point_of stand.old) line.now }
 {
     if let LogLine::Pulse { stepper, tick, .. } = *line {
         count(stand, stepper as usize, tick);
@@ -254,11 +255,11 @@ fn take(
 ) -> Result<Option<MisfitKind>, AllocError>
     requires machine { IsValidMachine machine.now }
     requires sections { CanPlan sections.now }
-    requires sound { IsSound machine.now (point_of stand.old) }
+    requires sound { IsSoundPoint machine.now (point_of stand.old) }
     requires begun { stand.old.begun ≤ length sections.now }
     ensures took { IfOk result (Took machine.now sections.now (point_of stand.old) (point_of stand.new) out.old.items
         out.new.items (line_said machine.now (words_of words.now))) }
-    ensures sound { IfOk result (λ found. IfNone found (IsSound machine.now (point_of stand.new))) }
+    ensures sound { IfOk result (λ found. IfNone found (IsSoundPoint machine.now (point_of stand.new))) }
     ensures begun { IfOk result (λ found. stand.new.begun ≤ length sections.now) }
     ensures few { IfOk result (λ found. length stand.new.plans ≤ 16) }
 {

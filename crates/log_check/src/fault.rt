@@ -8,7 +8,7 @@ ghost use Rattle.log_check.specs.Faults as specs;
 ghost use Rattle.log_check.specs.Faults.{no_tally};
 ghost use Rattle.log_check.specs.Points.{section_at};
 ghost use Rattle.log_check.specs.Pulses as pulses;
-ghost use Rattle.log_check.specs.Steps.{IsSound, point_of};
+ghost use Rattle.log_check.specs.Steps.{IsSoundPoint, point_of};
 
 use crate::further::told_line;
 use crate::pulse::pulse_fault;
@@ -182,7 +182,7 @@ fn place_fault(
     up: bool,
 ) -> Option<MisfitKind>
     requires machine { IsValidMachine machine.now }
-    requires sound { IsSound machine.now (point_of stand.now) }
+    requires sound { IsSoundPoint machine.now (point_of stand.now) }
     requires there { s < length machine.now.steppers }
     ensures { result
         ≡ pulses.pulse_fault (clocks_at stand.now.clocks.items (stepper_at machine.now s).board).first.freq
@@ -229,7 +229,7 @@ fn open_fault(
     line: &LogLine,
 ) -> Option<MisfitKind>
     requires machine { IsValidMachine machine.now }
-    requires sound { IsSound machine.now (point_of stand.now) }
+    requires sound { IsSoundPoint machine.now (point_of stand.now) }
     requires begun { stand.now.begun ≤ length sections.now }
     requires there { IsThere machine.now line.now }
     ensures { result ≡ specs.open_fault machine.now sections.now (point_of stand.now) line.now }
@@ -291,7 +291,7 @@ pub fn fault(
     line: &LogLine,
 ) -> Option<MisfitKind>
     requires machine { IsValidMachine machine.now }
-    requires sound { IsSound machine.now (point_of stand.now) }
+    requires sound { IsSoundPoint machine.now (point_of stand.now) }
     requires begun { stand.now.begun ≤ length sections.now }
     requires there { IsThere machine.now line.now }
     ensures { result ≡ specs.fault_at machine.now sections.now (point_of stand.now) line.now }

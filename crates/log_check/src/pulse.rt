@@ -69,7 +69,7 @@ fn ahead(plan: &[Planned], i: usize, tick: u64) -> u64
 
 /// By how many ticks a pulse is behind it.
 fn behind(plan: &[Planned], i: usize, tick: u64) -> u64
-    ensures { result ≡ specs.behind plan.now i tick }
+    ensures { result ≡ specs.ticks_late plan.now i tick }
 {
     if i < plan.len() {
         tick.saturating_sub(plan[i].tick)

@@ -92,11 +92,11 @@ axis_of word =
     else (if bytes_eq word (codes "z") then Some (Home 2) else None))
 
 -- what a section does: `move`, or `home` and an axis
-abbrev pub kind_of : List Text → Option SectionKind
-kind_of [] = None
-kind_of (word ∷ []) = if bytes_eq word (codes "move") then Some Moves else None
-kind_of (word ∷ axis ∷ []) = if bytes_eq word (codes "home") then axis_of axis else None
-kind_of (word ∷ axis ∷ more ∷ words) = None
+abbrev pub kind_said : List Text → Option SectionKind
+kind_said [] = None
+kind_said (word ∷ []) = if bytes_eq word (codes "move") then Some Moves else None
+kind_said (word ∷ axis ∷ []) = if bytes_eq word (codes "home") then axis_of axis else None
+kind_said (word ∷ axis ∷ more ∷ words) = None
 
 -- what a section's line says, by its number, its turn and its kind
 abbrev pub section_with : ℕ → ℕ → Option SectionKind → Said
@@ -107,7 +107,7 @@ section_with i turn (Some kind) = if is_turn turn then Ok (line.Section i turn k
 abbrev pub section_turn : Option ℕ → Option (ℕ × List Text) → Said
 section_turn None turn = Err BadLine
 section_turn (Some i) None = Err BadLine
-section_turn (Some i) (Some t) = section_with i t.0 (kind_of t.1)
+section_turn (Some i) (Some t) = section_with i t.0 (kind_said t.1)
 
 -- behind `section`: `I turn S move`, or `I turn S home A`
 abbrev pub section_line : List Text → Said
@@ -141,16 +141,16 @@ pulse_line m (board ∷ stepper ∷ tick ∷ sign ∷ words) =
     if is_none_left words then pulse_with m board stepper (number tick) (is_up sign) else Err BadLine
 
 -- the machine has this board
-abbrev pub known : Option ℕ → LogLine → Said
-known None said = Err Unknown
-known (Some b) said = Ok said
+abbrev pub board_said : Option ℕ → LogLine → Said
+board_said None said = Err Unknown
+board_said (Some b) said = Ok said
 
 -- what the line of a closed switch says, by its board, its section, its tick and the line of the scene
 abbrev pub cut_with : Machine → Text → Option ℕ → Option ℕ → Option ℕ → Said
 cut_with m board None tick from = Err BadLine
 cut_with m board (Some i) None from = Err BadLine
 cut_with m board (Some i) (Some tick) None = Err BadLine
-cut_with m board (Some i) (Some tick) (Some from) = known (board_from 0 board m.boards) (line.Cut i)
+cut_with m board (Some i) (Some tick) (Some from) = board_said (board_from 0 board m.boards) (line.Cut i)
 
 -- behind `cut`: `I BOARD PIN TICK LINE`
 abbrev pub cut_line : Machine → List Text → Said

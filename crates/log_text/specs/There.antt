@@ -6,14 +6,14 @@ use Rattle.log_text.specs.declared.line.LogLine.TheVariants as line
 use Rattle.plan_types.specs.Clock.{run_turns}
 
 -- the line of a section that starts in a turn in which one may
-abbrev pub IsEarly : LogLine → Type 0
-IsEarly line.Note = ⊥
-IsEarly (line.Board b turn tick) = ⊥
-IsEarly (line.Line b turn tick from) = ⊥
-IsEarly (line.Section i turn kind) = turn < run_turns
-IsEarly (line.Pulse s tick up) = ⊥
-IsEarly (line.Cut i) = ⊥
-IsEarly line.End = ⊥
+abbrev pub StartsEarly : LogLine → Type 0
+StartsEarly line.Note = ⊥
+StartsEarly (line.Board b turn tick) = ⊥
+StartsEarly (line.Line b turn tick from) = ⊥
+StartsEarly (line.Section i turn kind) = turn < run_turns
+StartsEarly (line.Pulse s tick up) = ⊥
+StartsEarly (line.Cut i) = ⊥
+StartsEarly line.End = ⊥
 
 -- the machine has the board or the stepper that the line names, its turn is one in which a section may start,
 -- and a time has 64 bits

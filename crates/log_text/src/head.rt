@@ -124,7 +124,7 @@ pub fn board_line(machine: &Machine, text: &[u8]) -> Result<LogLine, MisfitKind>
 /// A line, where the machine has a board of this name.
 pub fn known(machine: &Machine, name: &[u8], line: LogLine) -> Result<LogLine, MisfitKind>
     requires { IsValidMachine machine.now }
-    ensures value { result ≡ specs.known (board_from 0 name.now machine.now.boards) line }
+    ensures value { result ≡ specs.board_said (board_from 0 name.now machine.now.boards) line }
     ensures line { IfOk result (λ said. said ≡ line) }
 {
     match board_named(machine.boards.as_slice(), name) {

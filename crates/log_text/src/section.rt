@@ -3,7 +3,7 @@
 ghost use Rattle.std.specs.Prelude.{◌≡◌, IfOk};
 ghost use Rattle.text_core.specs.Words.{words_of};
 ghost use Rattle.log_text.specs.Said as specs;
-ghost use Rattle.log_text.specs.There.{IsEarly};
+ghost use Rattle.log_text.specs.There.{StartsEarly};
 
 use crate::line::LogLine;
 use crate::number::{is_turn, labelled, number};
@@ -27,7 +27,7 @@ fn axis_of(word: &[u8]) -> Option<SectionKind>
 
 /// What a section does.
 fn kind_of(text: &[u8]) -> Option<SectionKind>
-    ensures { result ≡ specs.kind_of (words_of text.now) }
+    ensures { result ≡ specs.kind_said (words_of text.now) }
 {
     let (word, rest) = next_word(text)?;
     let Some((axis, rest)) = next_word(rest) else {
@@ -47,7 +47,7 @@ fn kind_of(text: &[u8]) -> Option<SectionKind>
 /// What the line of a section says behind `section`.
 pub fn section_line(text: &[u8]) -> Result<LogLine, MisfitKind>
     ensures value { result ≡ specs.section_line (words_of text.now) }
-    ensures early { IfOk result (λ said. IsEarly said) }
+    ensures early { IfOk result (λ said. StartsEarly said) }
 {
     let Some((digits, rest)) = next_word(text) else {
         return Err(MisfitKind::BadLine);

@@ -11,7 +11,7 @@ use Rattle.plan_types.proofs.Places.{length-places}
 use Rattle.plan_types.proofs.Lowest.{least_of-below}
 use Rattle.std.proofs.Math.Seq.{get_or-append_seam}
 use Rattle.lookahead.specs.declared.stream.LookStream.{LookStream}
-use Rattle.lookahead.specs.Stream.{place_of, speed_by, speed_at, known_caps, rise, IsStreamOf, IsOpenStreamOf, IsEndedStreamOf, IsFinalSpeed, IsOpenEnd}
+use Rattle.lookahead.specs.Stream.{junction_place, speed_by, speed_at, known_caps, rise, IsStreamOf, IsOpenStreamOf, IsEndedStreamOf, IsFinalSpeed, IsOpenEnd}
 use Rattle.lookahead.proofs.Caps.{length-caps}
 use Rattle.lookahead.proofs.Streams.{speed-final, allowed-at, length-allowed, place-mono}
 use Rattle.lookahead.proofs.Pushes.{length-known, caps-ended}
@@ -41,7 +41,7 @@ speeds-at moves scv k h =
     get_or-map (λ s. least_of (allowed_by (caps moves scv) (places 0 ch) s)) (places 0 ch) k 0 0 (omega arith)
 
 -- a settled speed is the greatest one of every section that begins with these moves
-pub settled-stays : (moves more : List Move) (scv k : ℕ) → k < length moves → speed_by (map speed_change moves) (known_caps moves scv) k + place_of (map speed_change moves) k ≤ place_of (map speed_change moves) (length moves) → get_or (greatest_speeds (moves ++ more) scv) k 0 ≡ speed_by (map speed_change moves) (known_caps moves scv) k
+pub settled-stays : (moves more : List Move) (scv k : ℕ) → k < length moves → speed_by (map speed_change moves) (known_caps moves scv) k + junction_place (map speed_change moves) k ≤ junction_place (map speed_change moves) (length moves) → get_or (greatest_speeds (moves ++ more) scv) k 0 ≡ speed_by (map speed_change moves) (known_caps moves scv) k
 settled-stays moves more scv k inside final =
     let ch = map speed_change moves in
     let ch' = map speed_change (moves ++ more) in
@@ -55,12 +55,12 @@ settled-stays moves more scv k inside final =
     let count' = length-caps (moves ++ more) scv in
     let most : max 1 (length moves) ≡ length moves = omega arith in
     let same : (j : ℕ) → j < length known → get_or all j 0 ≡ get_or known j 0 = λ j h. caps-same moves more scv j (omega arith) ∙ sym (get_or-take (max 1 (length moves)) (caps moves scv) j 0 (omega arith)) in
-    let places : (j : ℕ) → j ≤ length ch → place_of ch' j ≡ place_of ch j = λ j h. ap (λ xs. place_of xs j) mapped ∙ places-same 0 ch (map speed_change more) j h in
-    let end : place_of ch (length known) ≡ place_of ch (length moves) = ap (place_of ch) count in
+    let places : (j : ℕ) → j ≤ length ch → junction_place ch' j ≡ junction_place ch j = λ j h. ap (λ xs. junction_place xs j) mapped ∙ places-same 0 ch (map speed_change more) j h in
+    let end : junction_place ch (length known) ≡ junction_place ch (length moves) = ap (junction_place ch) count in
     speeds-at (moves ++ more) scv k (omega arith) ∙ speed-final ch known ch' all k (omega arith) (omega arith) (omega arith) (omega arith) same places (omega arith) (omega arith)
 
 -- a speed that is not settled is lower where the section ends here
-pub could-fall : (moves : List Move) (scv k : ℕ) → k < length moves → place_of (map speed_change moves) (length moves) < speed_by (map speed_change moves) (known_caps moves scv) k + place_of (map speed_change moves) k → get_or (greatest_speeds moves scv) k 0 < speed_by (map speed_change moves) (known_caps moves scv) k
+pub could-fall : (moves : List Move) (scv k : ℕ) → k < length moves → junction_place (map speed_change moves) (length moves) < speed_by (map speed_change moves) (known_caps moves scv) k + junction_place (map speed_change moves) k → get_or (greatest_speeds moves scv) k 0 < speed_by (map speed_change moves) (known_caps moves scv) k
 could-fall moves scv k inside far =
     let ch = map speed_change moves in
     let all = caps moves scv in
@@ -70,16 +70,16 @@ could-fall moves scv k inside far =
     let count = length-caps moves scv in
     let known : length (known_caps moves scv) ≡ n = length-known moves scv ∙ omega arith in
     let last : get_or all n 0 ≡ 0 = ap (λ xs. get_or xs n 0) (caps-ended moves scv (omega arith)) ∙ ap (λ i. get_or (known_caps moves scv ++ 0 ∷ []) i 0) (sym known) ∙ get_or-append_seam (known_caps moves scv) 0 [] 0 in
-    let s = place_of ch k in
+    let s = junction_place ch k in
     let at = allowed-at all (places 0 ch) s n (omega arith) (omega arith) in
     let up = place-mono ch all k n (omega arith) (omega arith) in
     let length_is = length-allowed all (places 0 ch) s (omega arith) in
-    let below = least_of-below (allowed_by all (places 0 ch) s) (place_of ch n - s) n (omega arith) (omega arith) in
+    let below = least_of-below (allowed_by all (places 0 ch) s) (junction_place ch n - s) n (omega arith) (omega arith) in
     let is = speeds-at moves scv k (omega arith) in
     omega arith
 
 -- the speed at the end of a move is final too
-pub ends-final : (moves : List Move) (scv k v : ℕ) → k < length moves → v ≡ speed_by (map speed_change moves) (known_caps moves scv) k → v + place_of (map speed_change moves) k ≤ place_of (map speed_change moves) (length moves) → IsFinalSpeed moves scv k v
+pub ends-final : (moves : List Move) (scv k v : ℕ) → k < length moves → v ≡ speed_by (map speed_change moves) (known_caps moves scv) k → v + junction_place (map speed_change moves) k ≤ junction_place (map speed_change moves) (length moves) → IsFinalSpeed moves scv k v
 ends-final moves scv k v inside is final = λ more. settled-stays moves more scv k inside (rw is at final) ∙ sym is
 
 -- a stream after a move was taken out, or not
@@ -92,7 +92,7 @@ still-open old new scv moves going is pushed risen room = record {
 }
 
 -- what a stream that goes on gives
-pub open-given : (old new : LookStream) (scv : ℕ) (moves : List Move) (r : Option (Move × ℕ × ℕ)) → IsOpenStreamOf old scv moves → new.pushed ≡ old.pushed → new.risen ≡ old.risen → (deque_len old.lows < deque_capacity old.lows → deque_len new.lows < deque_capacity new.lows) → MatchOption r (((length (known_caps moves scv) ≤ old.taken + 1) ⊎ (place_of (map speed_change moves) (length moves) < speed_by (map speed_change moves) (known_caps moves scv) (old.taken + 1) + place_of (map speed_change moves) (old.taken + 1))) × (new.taken ≡ old.taken) × IsStreamOf new scv moves (known_caps moves scv)) (λ r. (r.0 ≡ slice_index_or moves old.taken r.0) × (r.1 ≡ speed_by (map speed_change moves) (known_caps moves scv) old.taken) × (r.2 ≡ speed_by (map speed_change moves) (known_caps moves scv) (old.taken + 1)) × (speed_by (map speed_change moves) (known_caps moves scv) (old.taken + 1) + place_of (map speed_change moves) (old.taken + 1) ≤ place_of (map speed_change moves) (length moves)) × (old.taken + 1 < length (known_caps moves scv)) × (new.taken ≡ old.taken + 1) × IsStreamOf new scv moves (known_caps moves scv)) → MatchOption r (IsOpenEnd moves scv old.taken × (new.taken ≡ old.taken) × IsOpenStreamOf new scv moves) (λ r. (r.0 ≡ slice_index_or moves old.taken r.0) × IsFinalSpeed moves scv old.taken r.1 × IsFinalSpeed moves scv (old.taken + 1) r.2 × (new.taken ≡ old.taken + 1) × IsOpenStreamOf new scv moves)
+pub open-given : (old new : LookStream) (scv : ℕ) (moves : List Move) (r : Option (Move × ℕ × ℕ)) → IsOpenStreamOf old scv moves → new.pushed ≡ old.pushed → new.risen ≡ old.risen → (deque_len old.lows < deque_capacity old.lows → deque_len new.lows < deque_capacity new.lows) → MatchOption r (((length (known_caps moves scv) ≤ old.taken + 1) ⊎ (junction_place (map speed_change moves) (length moves) < speed_by (map speed_change moves) (known_caps moves scv) (old.taken + 1) + junction_place (map speed_change moves) (old.taken + 1))) × (new.taken ≡ old.taken) × IsStreamOf new scv moves (known_caps moves scv)) (λ r. (r.0 ≡ slice_index_or moves old.taken r.0) × (r.1 ≡ speed_by (map speed_change moves) (known_caps moves scv) old.taken) × (r.2 ≡ speed_by (map speed_change moves) (known_caps moves scv) (old.taken + 1)) × (speed_by (map speed_change moves) (known_caps moves scv) (old.taken + 1) + junction_place (map speed_change moves) (old.taken + 1) ≤ junction_place (map speed_change moves) (length moves)) × (old.taken + 1 < length (known_caps moves scv)) × (new.taken ≡ old.taken + 1) × IsStreamOf new scv moves (known_caps moves scv)) → MatchOption r (IsOpenEnd moves scv old.taken × (new.taken ≡ old.taken) × IsOpenStreamOf new scv moves) (λ r. (r.0 ≡ slice_index_or moves old.taken r.0) × IsFinalSpeed moves scv old.taken r.1 × IsFinalSpeed moves scv (old.taken + 1) r.2 × (new.taken ≡ old.taken + 1) × IsOpenStreamOf new scv moves)
 open-given old new scv moves None going pushed risen room given =
     let n = length-known moves scv in
     let end : IsOpenEnd moves scv old.taken = elim given.0 [
@@ -111,14 +111,14 @@ open-given old new scv moves (Some r) going pushed risen room given =
     let passed = is.passed_is in
     let final = is.start_final in
     let reach = is.reach_is in
-    let end : place_of (map speed_change moves) old.pushed ≡ place_of (map speed_change moves) (length moves) = ap (place_of (map speed_change moves)) is.pushed_is in
+    let end : junction_place (map speed_change moves) old.pushed ≡ junction_place (map speed_change moves) (length moves) = ap (junction_place (map speed_change moves)) is.pushed_is in
     let one = given.1 in
     let two = given.2 in
     let low = given.3 in
     (given.0, ends-final moves scv old.taken r.1 (omega arith) one (omega arith), ends-final moves scv (old.taken + 1) r.2 (omega arith) two (omega arith), given.5, still-open old new scv moves going given.6 pushed risen room)
 
 -- at a junction of a section that ends, the end is near enough to stop
-stops : (moves : List Move) (scv k : ℕ) → k ≤ length moves → 0 < length moves → speed_by (map speed_change moves) (caps moves scv) k + place_of (map speed_change moves) k ≤ place_of (map speed_change moves) (length moves)
+stops : (moves : List Move) (scv k : ℕ) → k ≤ length moves → 0 < length moves → speed_by (map speed_change moves) (caps moves scv) k + junction_place (map speed_change moves) k ≤ junction_place (map speed_change moves) (length moves)
 stops moves scv k inside some =
     let ch = map speed_change moves in
     let all = caps moves scv in
@@ -128,15 +128,15 @@ stops moves scv k inside some =
     let count = length-caps moves scv in
     let known : length (known_caps moves scv) ≡ n = length-known moves scv ∙ omega arith in
     let last : get_or all n 0 ≡ 0 = ap (λ xs. get_or xs n 0) (caps-ended moves scv some) ∙ ap (λ i. get_or (known_caps moves scv ++ 0 ∷ []) i 0) (sym known) ∙ get_or-append_seam (known_caps moves scv) 0 [] 0 in
-    let s = place_of ch k in
+    let s = junction_place ch k in
     let at = allowed-at all (places 0 ch) s n (omega arith) (omega arith) in
     let up = place-mono ch all k n inside (omega arith) in
     let length_is = length-allowed all (places 0 ch) s (omega arith) in
-    let below = least_of-below (allowed_by all (places 0 ch) s) (place_of ch n - s) n (omega arith) (omega arith) in
+    let below = least_of-below (allowed_by all (places 0 ch) s) (junction_place ch n - s) n (omega arith) (omega arith) in
     omega arith
 
 -- what a stream of a section that has ended gives
-pub ended-given : (old new : LookStream) (scv : ℕ) (moves : List Move) (r : Option (Move × ℕ × ℕ)) → IsEndedStreamOf old scv moves → MatchOption r (((length (caps moves scv) ≤ old.taken + 1) ⊎ (place_of (map speed_change moves) (length moves) < speed_by (map speed_change moves) (caps moves scv) (old.taken + 1) + place_of (map speed_change moves) (old.taken + 1))) × (new.taken ≡ old.taken) × IsStreamOf new scv moves (caps moves scv)) (λ r. (r.0 ≡ slice_index_or moves old.taken r.0) × (r.1 ≡ speed_by (map speed_change moves) (caps moves scv) old.taken) × (r.2 ≡ speed_by (map speed_change moves) (caps moves scv) (old.taken + 1)) × (speed_by (map speed_change moves) (caps moves scv) (old.taken + 1) + place_of (map speed_change moves) (old.taken + 1) ≤ place_of (map speed_change moves) (length moves)) × (old.taken + 1 < length (caps moves scv)) × (new.taken ≡ old.taken + 1) × IsStreamOf new scv moves (caps moves scv)) → MatchOption r ((old.taken ≡ length moves) × (new.taken ≡ old.taken) × IsEndedStreamOf new scv moves) (λ r. (r.0 ≡ slice_index_or moves old.taken r.0) × (r.1 ≡ speed_at moves scv old.taken) × (r.2 ≡ speed_at moves scv (old.taken + 1)) × (new.taken ≡ old.taken + 1) × IsEndedStreamOf new scv moves)
+pub ended-given : (old new : LookStream) (scv : ℕ) (moves : List Move) (r : Option (Move × ℕ × ℕ)) → IsEndedStreamOf old scv moves → MatchOption r (((length (caps moves scv) ≤ old.taken + 1) ⊎ (junction_place (map speed_change moves) (length moves) < speed_by (map speed_change moves) (caps moves scv) (old.taken + 1) + junction_place (map speed_change moves) (old.taken + 1))) × (new.taken ≡ old.taken) × IsStreamOf new scv moves (caps moves scv)) (λ r. (r.0 ≡ slice_index_or moves old.taken r.0) × (r.1 ≡ speed_by (map speed_change moves) (caps moves scv) old.taken) × (r.2 ≡ speed_by (map speed_change moves) (caps moves scv) (old.taken + 1)) × (speed_by (map speed_change moves) (caps moves scv) (old.taken + 1) + junction_place (map speed_change moves) (old.taken + 1) ≤ junction_place (map speed_change moves) (length moves)) × (old.taken + 1 < length (caps moves scv)) × (new.taken ≡ old.taken + 1) × IsStreamOf new scv moves (caps moves scv)) → MatchOption r ((old.taken ≡ length moves) × (new.taken ≡ old.taken) × IsEndedStreamOf new scv moves) (λ r. (r.0 ≡ slice_index_or moves old.taken r.0) × (r.1 ≡ speed_at moves scv old.taken) × (r.2 ≡ speed_at moves scv (old.taken + 1)) × (new.taken ≡ old.taken + 1) × IsEndedStreamOf new scv moves)
 ended-given old new scv moves None going given =
     let n = length-caps moves scv in
     let within = going.taken_within in

@@ -11,7 +11,7 @@ use Rattle.plan_types.specs.Speeds.{places, allowed_by, caps, later_caps, juncti
 use Rattle.plan_types.proofs.Places.{length-places, places-next, places-first}
 use Rattle.lookahead.specs.declared.lows.Low.{Low}
 use Rattle.lookahead.specs.Lows.{no_low, IsAdded}
-use Rattle.lookahead.specs.Stream.{place_of, speed_by, rise, height, known_caps, AreLows, IsStreamOf, IsOpenStreamOf}
+use Rattle.lookahead.specs.Stream.{junction_place, speed_by, rise, height, known_caps, AreLows, IsStreamOf, IsOpenStreamOf}
 use Rattle.lookahead.specs.declared.stream.LookStream.{LookStream}
 use Rattle.lookahead.proofs.Caps.{length-caps}
 use Rattle.lookahead.proofs.Streams.{rise-next, rise-first, speed-final}
@@ -65,7 +65,7 @@ place-stays start [] c (suc k) h = absurd (omega arith)
 place-stays start (d ∷ changes) c zero h = refl
 place-stays start (d ∷ changes) c (suc k) h = place-stays (start + d) changes c k (omega arith)
 
-pub place-last : (changes : List ℕ) (c : ℕ) → place_of (changes ++ c ∷ []) (length changes + 1) ≡ place_of changes (length changes) + c
+pub place-last : (changes : List ℕ) (c : ℕ) → junction_place (changes ++ c ∷ []) (length changes + 1) ≡ junction_place changes (length changes) + c
 place-last changes c =
     let next = places-next 0 (changes ++ c ∷ []) (length changes) (longer changes c) in
     let stays = place-stays 0 changes c (length changes) (omega arith) in
@@ -146,7 +146,7 @@ lows-added hs n from old new height are added is inside =
     }
 
 -- the rise at the new junction, and the others
-module _ (ch caps ch' : List ℕ) (cap n : ℕ) (count : length caps ≡ n) (changes : length ch ≡ n) (some : 0 < n) (same_places : (i : ℕ) → i ≤ n → place_of ch' i ≡ place_of ch i) (same_changes : (i : ℕ) → i < n → get_or ch' i 0 ≡ get_or ch i 0) where
+module _ (ch caps ch' : List ℕ) (cap n : ℕ) (count : length caps ≡ n) (changes : length ch ≡ n) (some : 0 < n) (same_places : (i : ℕ) → i ≤ n → junction_place ch' i ≡ junction_place ch i) (same_changes : (i : ℕ) → i < n → get_or ch' i 0 ≡ get_or ch i 0) where
   same_caps : (i : ℕ) → i < n → get_or (caps ++ cap ∷ []) i 0 ≡ get_or caps i 0
   same_caps i h = get_or-append caps (cap ∷ []) 0 i (omega arith)
 
@@ -162,7 +162,7 @@ module _ (ch caps ch' : List ℕ) (cap n : ℕ) (count : length caps ≡ n) (cha
       let d = same_changes (n - 1) (omega arith) in
       omega arith
 
-  pub lows-next : (from risen reach : ℕ) (old new : List Low) → risen ≡ min cap (rise ch caps (n - 1) + get_or ch (n - 1) 0) → reach ≡ place_of ch n → AreLows (height ch caps) n from old → IsAdded old new n (risen + reach) → from ≤ n → AreLows (height ch' (caps ++ cap ∷ [])) (n + 1) from new
+  pub lows-next : (from risen reach : ℕ) (old new : List Low) → risen ≡ min cap (rise ch caps (n - 1) + get_or ch (n - 1) 0) → reach ≡ junction_place ch n → AreLows (height ch caps) n from old → IsAdded old new n (risen + reach) → from ≤ n → AreLows (height ch' (caps ++ cap ∷ [])) (n + 1) from new
   lows-next from risen reach old new is end are added inside =
       let same : (j : ℕ) → j < n → height ch' (caps ++ cap ∷ []) j ≡ height ch caps j =
       λ j h. (
@@ -173,10 +173,10 @@ module _ (ch caps ch' : List ℕ) (cap n : ℕ) (count : length caps ≡ n) (cha
       let p = same_places n (omega arith) in
       lows-added (height ch' (caps ++ cap ∷ [])) n from old new (risen + reach) (lows-stay (height ch caps) (height ch' (caps ++ cap ∷ [])) n from old same are) added (omega arith) inside
 
-  pub start-next : (t : ℕ) → t < n → n ≤ length ch' → speed_by ch caps t + place_of ch t ≤ place_of ch n → speed_by ch' (caps ++ cap ∷ []) t ≡ speed_by ch caps t
+  pub start-next : (t : ℕ) → t < n → n ≤ length ch' → speed_by ch caps t + junction_place ch t ≤ junction_place ch n → speed_by ch' (caps ++ cap ∷ []) t ≡ speed_by ch caps t
   start-next t inside longer final =
       let more : length (caps ++ cap ∷ []) ≡ suc (length caps) = one_longer caps cap in
-      let end : place_of ch (length caps) ≡ place_of ch n = ap (place_of ch) count in
+      let end : junction_place ch (length caps) ≡ junction_place ch n = ap (junction_place ch) count in
       speed-final ch caps ch' (caps ++ cap ∷ []) t (omega arith) (omega arith) (omega arith) (omega arith) (λ j h. same_caps j (omega arith)) (λ j h. same_places j (omega arith)) (omega arith) (omega arith)
 
 -- a stream after a push
@@ -199,14 +199,14 @@ pushed-later old new scv moves one risen going some few small e1 e2 e3 e4 e5 e6 
     let last : get_or old.moves.items (length old.moves.items - 1) one ≡ get_or moves (n - 1) one =
     (let i : old.taken + (length old.moves.items - 1) ≡ n - 1 = omega arith in ap (λ xs. get_or xs (length old.moves.items - 1) one) is.waiting ∙ get_or-drop old.taken moves (length old.moves.items - 1) one ∙ ap (λ i. get_or moves i one) i) in
     let cap_is : junction_cap (get_or old.moves.items (length old.moves.items - 1) one) one old.scv ≡ cap = ap (λ m. junction_cap m one old.scv) last ∙ ap (junction_cap (get_or moves (n - 1) one) one) is.scv_is in
-    let places : (i : ℕ) → i ≤ n → place_of ch' i ≡ place_of ch i = λ i h. ap (λ xs. place_of xs i) mapped ∙ place-stays 0 ch (speed_change one) i (omega arith) in
+    let places : (i : ℕ) → i ≤ n → junction_place ch' i ≡ junction_place ch i = λ i h. ap (λ xs. junction_place xs i) mapped ∙ place-stays 0 ch (speed_change one) i (omega arith) in
     let same : (i : ℕ) → i < n → get_or ch' i 0 ≡ get_or ch i 0 = λ i h. ap (λ xs. get_or xs i 0) mapped ∙ get_or-append ch (speed_change one ∷ []) 0 i (omega arith) in
     let new_change : get_or ch' n 0 ≡ speed_change one = ap (λ i. get_or ch' i 0) (sym changes) ∙ ap (λ xs. get_or xs (length ch) 0) mapped ∙ get_or-append_seam ch (speed_change one) [] 0 in
     let before : old.risen ≡ rise ch caps (n - 1) + get_or ch (n - 1) 0 = going.risen_is (omega arith) ∙ ap (λ i. rise ch caps (i - 1) + get_or ch (i - 1) 0) pushed in
     let risen_is : risen ≡ min cap (rise ch caps (n - 1) + get_or ch (n - 1) 0) = rise_is ∙ ap (λ x. min x old.risen) cap_is ∙ ap (min cap) before in
     let rise' = new_rise ch caps ch' cap n count changes some places same in
-    let end : old.reach ≡ place_of ch n = is.reach_is ∙ ap (place_of ch) pushed in
-    let next : place_of ch' (n + 1) ≡ place_of ch' n + get_or ch' n 0 = places-next 0 ch' n (omega arith) in
+    let end : old.reach ≡ junction_place ch n = is.reach_is ∙ ap (junction_place ch) pushed in
+    let next : junction_place ch' (n + 1) ≡ junction_place ch' n + get_or ch' n 0 = places-next 0 ch' n (omega arith) in
     let here = places n (omega arith) in
     let passed = is.passed_is in
     let start = is.start_is in
@@ -228,8 +228,8 @@ pushed-later old new scv moves one risen going some few small e1 e2 e3 e4 e5 e6 
         caps_count = omega arith;
         taken_inside = omega arith;
         taken_within = omega arith;
-        passed_is = e4 ∙ passed ∙ sym at_taken ∙ ap (place_of ch') (sym e3);
-        reach_is = (let x : new.reach ≡ place_of ch' (n + 1) = omega arith in x ∙ ap (place_of ch') (sym new_pushed));
+        passed_is = e4 ∙ passed ∙ sym at_taken ∙ ap (junction_place ch') (sym e3);
+        reach_is = (let x : new.reach ≡ junction_place ch' (n + 1) = omega arith in x ∙ ap (junction_place ch') (sym new_pushed));
         start_is = e5 ∙ start ∙ sym start' ∙ ap (λ i. speed_by ch' (caps ++ cap ∷ []) i) (sym e3) ∙ ap (λ xs. speed_by ch' xs new.taken) (sym known);
         reach_small = omega arith;
         few = omega arith;
@@ -250,8 +250,8 @@ pushed-first old new scv one risen going small e1 e2 e3 e4 e5 e6 e7 e8 zero_is l
     let none : old.taken ≡ 0 = (let i = is.taken_inside in omega arith) in
     let pushed : old.pushed ≡ 0 = is.pushed_is in
     let new_pushed : new.pushed ≡ 1 = omega arith in
-    let reach : old.reach ≡ 0 = is.reach_is ∙ ap (place_of []) pushed in
-    let passed : old.passed ≡ 0 = is.passed_is ∙ ap (place_of []) none in
+    let reach : old.reach ≡ 0 = is.reach_is ∙ ap (junction_place []) pushed in
+    let passed : old.passed ≡ 0 = is.passed_is ∙ ap (junction_place []) none in
     let start : old.start ≡ 0 = is.start_is ∙ ap (speed_by [] (0 ∷ [])) none ∙ omega arith in
     let final = is.start_final in
     let ch' : List ℕ = speed_change one ∷ [] in
@@ -265,8 +265,8 @@ pushed-first old new scv one risen going small e1 e2 e3 e4 e5 e6 e7 e8 zero_is l
         caps_count = omega arith;
         taken_inside = omega arith;
         taken_within = omega arith;
-        passed_is = e4 ∙ passed ∙ sym (ap (place_of ch') (e3 ∙ none));
-        reach_is = (let x : new.reach ≡ place_of ch' 1 = omega arith in x ∙ ap (place_of ch') (sym new_pushed));
+        passed_is = e4 ∙ passed ∙ sym (ap (junction_place ch') (e3 ∙ none));
+        reach_is = (let x : new.reach ≡ junction_place ch' 1 = omega arith in x ∙ ap (junction_place ch') (sym new_pushed));
         start_is = e5 ∙ start ∙ sym (ap (speed_by ch' (0 ∷ [])) (e3 ∙ none) ∙ omega arith);
         reach_small = omega arith;
         few = omega arith;
@@ -308,9 +308,9 @@ finished-later old new scv moves going some e1 e2 e3 e4 e5 e6 e7 added =
     let all = length-caps moves scv in
     let count : length known ≡ n = length-known moves scv ∙ omega arith in
     let pushed = is.pushed_is in
-    let places : (i : ℕ) → i ≤ n → place_of ch i ≡ place_of ch i = λ i h. refl in
+    let places : (i : ℕ) → i ≤ n → junction_place ch i ≡ junction_place ch i = λ i h. refl in
     let same : (i : ℕ) → i < n → get_or ch i 0 ≡ get_or ch i 0 = λ i h. refl in
-    let end : old.reach ≡ place_of ch n = is.reach_is ∙ ap (place_of ch) pushed in
+    let end : old.reach ≡ junction_place ch n = is.reach_is ∙ ap (junction_place ch) pushed in
     let inside : old.taken < n = (let i = is.taken_inside in omega arith) in
     let passed = is.passed_is in
     let start = is.start_is in
@@ -328,8 +328,8 @@ finished-later old new scv moves going some e1 e2 e3 e4 e5 e6 e7 added =
       caps_count = omega arith;
       taken_inside = omega arith;
       taken_within = omega arith;
-      passed_is = e4 ∙ passed ∙ ap (place_of ch) (sym e3);
-      reach_is = e7 ∙ is.reach_is ∙ ap (place_of ch) (sym e6);
+      passed_is = e4 ∙ passed ∙ ap (junction_place ch) (sym e3);
+      reach_is = e7 ∙ is.reach_is ∙ ap (junction_place ch) (sym e6);
       start_is = e5 ∙ start ∙ sym start' ∙ ap (speed_by ch (known ++ 0 ∷ [])) (sym e3) ∙ ap (λ xs. speed_by ch xs new.taken) (sym ended);
       reach_small = omega arith;
       few = is.few;
@@ -347,8 +347,8 @@ finished old new scv [] going e1 e2 e3 e4 e5 e6 e7 low lows =
       caps_count = is.caps_count;
       taken_inside = (let i = is.taken_inside in omega arith);
       taken_within = (let i = is.taken_within in omega arith);
-      passed_is = e4 ∙ is.passed_is ∙ ap (place_of []) (sym e3);
-      reach_is = e7 ∙ is.reach_is ∙ ap (place_of []) (sym e6);
+      passed_is = e4 ∙ is.passed_is ∙ ap (junction_place []) (sym e3);
+      reach_is = e7 ∙ is.reach_is ∙ ap (junction_place []) (sym e6);
       start_is = e5 ∙ is.start_is ∙ ap (speed_by [] (0 ∷ [])) (sym e3);
       reach_small = (let i = is.reach_small in omega arith);
       few = is.few;
@@ -374,8 +374,8 @@ same-stream old new scv moves going e1 e2 e3 e4 e5 e6 e7 e8 e9 room =
         caps_count = is.caps_count;
         taken_inside = (let i = is.taken_inside in omega arith);
         taken_within = (let i = is.taken_within in omega arith);
-        passed_is = e5 ∙ is.passed_is ∙ ap (place_of ch) (sym e4);
-        reach_is = e8 ∙ is.reach_is ∙ ap (place_of ch) (sym e7);
+        passed_is = e5 ∙ is.passed_is ∙ ap (junction_place ch) (sym e4);
+        reach_is = e8 ∙ is.reach_is ∙ ap (junction_place ch) (sym e7);
         start_is = e6 ∙ is.start_is ∙ ap (speed_by ch known) (sym e4);
         reach_small = (let i = is.reach_small in omega arith);
         few = is.few;

@@ -13,12 +13,12 @@ abbrev pub known_caps : List Move → ℕ → List ℕ
 known_caps moves scv = take (max 1 (length moves)) (caps moves scv)
 
 -- the place of junction k
-abbrev pub place_of : List ℕ → ℕ → ℕ
-place_of changes k = slice_index (places 0 changes) k
+abbrev pub junction_place : List ℕ → ℕ → ℕ
+junction_place changes k = slice_index (places 0 changes) k
 
 -- the squared speed that these caps allow at junction k
 abbrev pub speed_by : List ℕ → List ℕ → ℕ → ℕ
-speed_by changes caps k = least_of (allowed_by caps (places 0 changes) (place_of changes k))
+speed_by changes caps k = least_of (allowed_by caps (places 0 changes) (junction_place changes k))
 
 -- the squared speed that the caps up to junction j allow there
 unfoldable pub rise : List ℕ → List ℕ → ℕ → ℕ
@@ -27,7 +27,7 @@ rise changes caps (suc j) = min (slice_index caps (suc j)) (rise changes caps j 
 
 -- how high a junction stands: its squared speed plus its place
 abbrev pub height : List ℕ → List ℕ → ℕ → ℕ
-height changes caps j = rise changes caps j + place_of changes j
+height changes caps j = rise changes caps j + junction_place changes j
 
 -- the least heights of junctions from one on, so many in all, each with the last junction that has it
 pub record AreLows (heights : ℕ → ℕ) (count from : ℕ) (lows : List Low) : Type 0 where
@@ -51,8 +51,8 @@ pub record IsStreamOf (s : LookStream) (scv : ℕ) (moves : List Move) (caps : L
   pub caps_count : length caps ≤ length moves + 1
   pub taken_inside : s.taken < length caps
   pub taken_within : s.taken ≤ length moves
-  pub passed_is : s.passed ≡ place_of (map speed_change moves) s.taken
-  pub reach_is : s.reach ≡ place_of (map speed_change moves) s.pushed
+  pub passed_is : s.passed ≡ junction_place (map speed_change moves) s.taken
+  pub reach_is : s.reach ≡ junction_place (map speed_change moves) s.pushed
   pub start_is : s.start ≡ speed_by (map speed_change moves) caps s.taken
   pub reach_small : s.reach ≤ s.pushed * 2 ^ 105
   pub few : length moves ≤ 2_000_000

@@ -34,7 +34,7 @@ impl LookStream {
     ghost use Rattle.std.specs.VecDeque.{deque_len, deque_capacity};
     ghost use Rattle.plan_types.specs.declared.plan.Move.{Move};
     ghost use Rattle.plan_types.specs.Speeds.{caps, junction_cap, speed_change};
-    ghost use Rattle.lookahead.specs.Stream.{IsStreamOf, IsOpenStreamOf, IsEndedStreamOf, IsFinalSpeed, IsOpenEnd, settled_count, speed_at, speed_by, place_of};
+    ghost use Rattle.lookahead.specs.Stream.{IsStreamOf, IsOpenStreamOf, IsEndedStreamOf, IsFinalSpeed, IsOpenEnd, settled_count, speed_at, speed_by, junction_place};
 
     /// A stream of a section that has no move yet, with the square corner velocity `scv` in nm/s.
     pub fn new(alloc: Global, scv: u64) -> LookStream
@@ -127,16 +127,16 @@ impl LookStream {
     fn take_first(&mut self) -> Option<(Move, u128, u128)>
         ensures speeds { (moves : List Move) → (scv : ℕ) → (caps : List ℕ) → IsStreamOf self.old scv moves caps →
             MatchOption result (((length caps ≤ self.old.taken + 1)
-            ⊎ (place_of (map speed_change moves) (length moves)
+            ⊎ (junction_place (map speed_change moves) (length moves)
             < speed_by (map speed_change moves) caps (self.old.taken + 1)
-            + place_of (map speed_change moves) (self.old.taken + 1)))
+            + junction_place (map speed_change moves) (self.old.taken + 1)))
             × (self.new.taken ≡ self.old.taken) × IsStreamOf self.new scv moves caps)
             (λ r. (r.0 ≡ slice_index_or moves self.old.taken r.0)
             × (r.1 ≡ speed_by (map speed_change moves) caps self.old.taken)
             × (r.2 ≡ speed_by (map speed_change moves) caps (self.old.taken + 1))
             × (speed_by (map speed_change moves) caps (self.old.taken + 1)
-            + place_of (map speed_change moves) (self.old.taken + 1)
-            ≤ place_of (map speed_change moves) (length moves))
+            + junction_place (map speed_change moves) (self.old.taken + 1)
+            ≤ junction_place (map speed_change moves) (length moves))
             × (self.old.taken + 1 < length caps) × (self.new.taken ≡ self.old.taken + 1)
             × IsStreamOf self.new scv moves caps) }
         ensures pushed { self.new.pushed ≡ self.old.pushed }

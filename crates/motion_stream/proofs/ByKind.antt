@@ -28,7 +28,7 @@ use Rattle.section_stream.specs.Looking.{IsFuture}
 use Rattle.step_feed.specs.Pacing.{Release}
 use Rattle.motion_work.specs.Homes.{last_step, moving_in}
 use Rattle.motion_work.specs.Known.{lines_by}
-use Rattle.motion_work.specs.Seen.{IsHomed, IsPlanned, Started, lines_of}
+use Rattle.motion_work.specs.Seen.{IsHomed, IsPlanned, Started, planning_lines}
 use Rattle.motion_work.proofs.Staying.{lines_by_added}
 use Rattle.section_feed.specs.Boards.{IsLasting, MayTake}
 use Rattle.section_feed.specs.Lined.{line_at}
@@ -36,7 +36,7 @@ use Rattle.section_feed.proofs.Taken.{end-late}
 use Rattle.motion_work.specs.Told.{Told}
 use Rattle.motion_stream.specs.declared.course.Course.{Course}
 use Rattle.motion_stream.specs.Courses.{GoesAs, HomesOn, IsGoingOn, IsLaid}
-use Rattle.motion_stream.specs.Motions.{answered}
+use Rattle.motion_stream.specs.Motions.{started_until}
 use Rattle.motion_stream.specs.Seen.{EndsBy, Going, IsContinued, items_read, moves_end, sections_in}
 
 clash : true ≡ false → ⊥
@@ -117,7 +117,7 @@ pub laid_home : (kind : SectionKind) (m : Machine) (clocks : List Clocks) (low :
 laid_home Moves m clocks low s e over = absurd (clash (sym e))
 laid_home (Home axis) m clocks low s e over = over
 
-pub lines_home : (kind : SectionKind) (end : ℕ) (clocks : List Clocks) → is_home kind ≡ true → lines_of kind end clocks ≡ map (lines_by (end + 276)) clocks
+pub lines_home : (kind : SectionKind) (end : ℕ) (clocks : List Clocks) → is_home kind ≡ true → planning_lines kind end clocks ≡ map (lines_by (end + 276)) clocks
 lines_home Moves end clocks e = absurd (clash (sym e))
 lines_home (Home axis) end clocks e = refl
 
@@ -145,7 +145,7 @@ whole_moves true moves = ([], sym (append-nil moves))
 whole_moves false moves = refl
 
 -- where it ends with what was released
-pub answered_board : (m : Machine) (next : ℕ) (g : Going) (b : ℕ) → b < length m.boards → slice_index_or (answered m next g).boards b [] ≡ g.released b
+pub answered_board : (m : Machine) (next : ℕ) (g : Going) (b : ℕ) → b < length m.boards → slice_index_or (started_until m next g).boards b [] ≡ g.released b
 answered_board m next g b lt = get_or-map-range_with_len g.released 0 (length m.boards) b b [] lt (let e : 0 + b ≡ b = omega arith in e)
 
 pub answered_items : (begun : List Started) (g : Going) (s : Started) → g.goes ≡ false → s.section ≡ section_with g.kind g.moves g.dwell → items_read (begun ++ s ∷ []) None ≡ items_read begun (Some g)

@@ -26,8 +26,8 @@ use Rattle.motion_stream.specs.declared.course.Course.{Course}
 use Rattle.motion_stream.specs.declared.course.Open.{Open}
 use Rattle.motion_stream.specs.declared.course.Open.TheVariants as opens
 use Rattle.motion_stream.specs.Clear.{EndsOutside, IsClearTo, clear_by, clear_of, never, next_begin, settled_turn}
-use Rattle.motion_stream.specs.Courses.{IsCourseOf, IsEarly, IsGoing, IsGoingOn, IsIdle, IsLater, IsTold}
-use Rattle.motion_stream.specs.Motions.{IsPlannerOf, Planner, is_none_left}
+use Rattle.motion_stream.specs.Courses.{IsCourseOf, BeginsNoEarlier, IsGoing, IsGoingOn, IsIdle, IsLater, KnowsConnecting}
+use Rattle.motion_stream.specs.Motions.{IsPlannerOf, Planner, is_nothing_left}
 use Rattle.motion_stream.specs.Seen.{AreWhole, EndsBy, Going, IsContinued, Seen, items_read, moves_end, sections_in}
 use Rattle.motion_stream.proofs.Drawing.{whole_none}
 use Rattle.motion_stream.proofs.Wholing.{source_front}
@@ -50,7 +50,7 @@ ends_last : (next n : ℕ) (past : List Started) (s : Started) → AreDone next 
 ends_last next n past s done le = All-append (EndsOutside next n) past (s ∷ []) (ends_done next n past done) (All-cons (EndsOutside next n) s [] (inr le) (All-nil (EndsOutside next n)))
 
 -- before connecting ended nothing was begun
-told_some : (m : Machine) (c : Course) (told : Option Told) (past : List Started) (s : Started) (begun : List Started) (going : Option Going) → IsTold m c told begun going → begun ≡ past ++ s ∷ [] → told ≡ None → ⊥
+told_some : (m : Machine) (c : Course) (told : Option Told) (past : List Started) (s : Started) (begun : List Started) (going : Option Going) → KnowsConnecting m c told begun going → begun ≡ past ++ s ∷ [] → told ≡ None → ⊥
 told_some m c None past s begun going h e n = none_behind past s (sym h.1 ∙ e)
 told_some m c (Some t) past s begun going h e n = none_some (sym n)
 
@@ -99,7 +99,7 @@ cancel (x ∷ xs) ys zs e = cancel xs ys zs (tails e) where
   tails p = cc
 
 -- the next section is not begun before what waits may begin it
-begins_by : (ready next n : ℕ) (read : Bool) (end : Option ReadEnd) (its more : List Item) (s : Section) (behind : List Item) → n ≤ (if (is_none_left its && is_some end) && read then never else max (next_begin ready its) next) → IsLater (next + 260) (next + 260) ready end its → ((e : ReadEnd) → end ≡ Some e → more ≡ []) → items.Begin s.kind s.dwell ∷ behind ≡ its ++ more → n + 260 ≤ ready + s.dwell
+begins_by : (ready next n : ℕ) (read : Bool) (end : Option ReadEnd) (its more : List Item) (s : Section) (behind : List Item) → n ≤ (if (is_nothing_left its && is_some end) && read then never else max (next_begin ready its) next) → IsLater (next + 260) (next + 260) ready end its → ((e : ReadEnd) → end ≡ Some e → more ≡ []) → items.Begin s.kind s.dwell ∷ behind ≡ its ++ more → n + 260 ≤ ready + s.dwell
 begins_by ready next n read None [] more s behind le later over e = omega (arith, le, later)
 begins_by ready next n read (Some x) [] more s behind le later over e = absurd (nothing (e ∙ over x refl)) where
   nothing : items.Begin s.kind s.dwell ∷ behind ≡ [] → ⊥
@@ -114,9 +114,9 @@ begins_by ready next n read end (items.Move one ∷ rest) more s behind le later
 begins_by ready next n read end (items.End ∷ rest) more s behind le later over e = absurd cc
 
 -- no section goes on whose end is not known
-idle_is : (m : Machine) (c : Course) (seen : Seen) (n : ℕ) (goes connected : Bool) (told : Option Told) → c.goes ≡ goes → c.connected ≡ connected → seen.told ≡ told → IsCourseOf m c seen → IsIdle m c seen.begun seen.going → IsOpen goes c.next seen.begun → IsTold m c told seen.begun seen.going
+idle_is : (m : Machine) (c : Course) (seen : Seen) (n : ℕ) (goes connected : Bool) (told : Option Told) → c.goes ≡ goes → c.connected ≡ connected → seen.told ≡ told → IsCourseOf m c seen → IsIdle m c seen.begun seen.going → IsOpen goes c.next seen.begun → KnowsConnecting m c told seen.begun seen.going
     → (c.connected ≡ true → IsLater (c.next + 260) (c.next + 260) c.ready c.source.end c.source.items.items)
-    → n ≤ (if goes then c.ready - 260 else (if connected then (if (is_none_left c.source.items.items && is_some c.source.end) && c.read then never else max (next_begin c.ready c.source.items.items) c.next) else c.next)) → IsClearTo m seen n
+    → n ≤ (if goes then c.ready - 260 else (if connected then (if (is_nothing_left c.source.items.items && is_some c.source.end) && c.read then never else max (next_begin c.ready c.source.items.items) c.next) else c.next)) → IsClearTo m seen n
 idle_is m c seen n true connected None eg ec et h i o d early le = absurd (none_behind o.0 o.1 (sym d.1 ∙ o.2))
 idle_is m c seen n true connected (Some t) eg ec et h i o d early le =
     let next = h.next in
@@ -160,7 +160,7 @@ idle_is m c seen n false false None eg ec et h i o d early le =
 
 by_open : (m : Machine) (o : Open) (c : Course) (seen : Seen) (n : ℕ) → c.current ≡ o → IsCourseOf m c seen → IsGoing m o c seen.told seen.begun seen.going → n ≤ clear_by c o → IsClearTo m seen n
 by_open m opens.Nothing c seen n e h i le =
-    idle_is m c seen n c.goes c.connected seen.told refl refl refl h i i.goes h.told (subst (λ o. IsEarly o (c.next + 260) (c.next + 260) c) e h.early) le
+    idle_is m c seen n c.goes c.connected seen.told refl refl refl h i i.goes h.told (subst (λ o. BeginsNoEarlier o (c.next + 260) (c.next + 260) c) e h.early) le
 by_open m (opens.Goes s homes) c seen n e h i le = goes_clear m s homes c seen n h i le
 
 -- what a note tells as clear is
@@ -172,14 +172,14 @@ never_late : (b : Bool) (next n : ℕ) → next ≤ never → next ≤ n → nex
 never_late true next n le lt = le
 never_late false next n le lt = lt
 
-idle_next : (m : Machine) (c : Course) (goes connected : Bool) (told : Option Told) (begun : List Started) (going : Option Going) → c.next ≤ 2 ^ 42 → going ≡ None → IsOpen goes c.next begun → IsTold m c told begun going
-    → c.next ≤ (if goes then c.ready - 260 else (if connected then (if (is_none_left c.source.items.items && is_some c.source.end) && c.read then never else max (next_begin c.ready c.source.items.items) c.next) else c.next))
+idle_next : (m : Machine) (c : Course) (goes connected : Bool) (told : Option Told) (begun : List Started) (going : Option Going) → c.next ≤ 2 ^ 42 → going ≡ None → IsOpen goes c.next begun → KnowsConnecting m c told begun going
+    → c.next ≤ (if goes then c.ready - 260 else (if connected then (if (is_nothing_left c.source.items.items && is_some c.source.end) && c.read then never else max (next_begin c.ready c.source.items.items) c.next) else c.next))
 idle_next m c true connected None begun going small none o d = absurd (none_behind o.0 o.1 (sym d.1 ∙ o.2))
 idle_next m c true connected (Some t) begun going small none o d =
     let ready = d.ready none ∙ ap (ready_after t.first) o.2 ∙ ready_more t.first o.0 o.1 in
     let late = o.4 in
     omega (arith, ready, late)
-idle_next m c false true told begun going small none o d = never_late ((is_none_left c.source.items.items && is_some c.source.end) && c.read) c.next (max (next_begin c.ready c.source.items.items) c.next) (omega (arith, small)) (omega arith)
+idle_next m c false true told begun going small none o d = never_late ((is_nothing_left c.source.items.items && is_some c.source.end) && c.read) c.next (max (next_begin c.ready c.source.items.items) c.next) (omega (arith, small)) (omega arith)
 idle_next m c false false told begun going small none o d = omega arith
 
 open_next : (m : Machine) (o : Open) (c : Course) (seen : Seen) → IsCourseOf m c seen → IsGoing m o c seen.told seen.begun seen.going → c.next ≤ clear_by c o

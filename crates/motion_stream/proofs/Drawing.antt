@@ -17,7 +17,7 @@ use Rattle.step_feed.specs.Units.{StepUnit}
 use Rattle.plan_types.specs.declared.plan.Held.{Held}
 use Rattle.plan_types.specs.Sections.{clocks_at}
 use Rattle.motion_work.specs.Known.{AreHeldBy}
-use Rattle.motion_work.specs.Begins.{done_news, listed}
+use Rattle.motion_work.specs.Begins.{done_news, news_items}
 use Rattle.motion_work.specs.Feeds.{batches_at, units_at}
 use Rattle.motion_work.specs.Seen.{IsOpen, Started, ready_after}
 use Rattle.motion_work.specs.Told.{Told}
@@ -31,9 +31,9 @@ use Rattle.motion_stream.specs.declared.course.Open.{Open}
 use Rattle.motion_stream.specs.declared.course.Open.TheVariants as opens
 use Rattle.motion_stream.proofs.Rowing.{row_first}
 use Rattle.motion_stream.proofs.Laid.{laid_later}
-use Rattle.motion_stream.specs.Courses.{AreAhead, IsCourseBy, IsCourseOf, IsEarly, IsGoing, IsGoingOn, IsIdle, IsLater, IsTold, IsUptake, row_at}
+use Rattle.motion_stream.specs.Courses.{AreAhead, IsCourseBy, IsCourseOf, BeginsNoEarlier, IsGoing, IsGoingOn, IsIdle, IsLater, KnowsConnecting, IsUptake, row_at}
 use Rattle.motion_stream.specs.Rows.{batches_of, units_in}
-use Rattle.motion_stream.specs.Puts.{GoesOn}
+use Rattle.motion_stream.specs.Puts.{SectionsGoOn}
 use Rattle.motion_stream.specs.Seen.{AreWhole, Going, Seen, count_of, items_read}
 use Rattle.motion_stream.specs.Steps.{Advances, HasPassed, IsFed, IsPassed}
 use Rattle.motion_stream.specs.Texts.{IsSourceOf}
@@ -92,7 +92,7 @@ pub record IsKept (old new : Course) : Type 0 where
   pub lines : new.lines ≡ old.lines
   pub place : new.place ≡ old.place
 
-pub told_kept : (m : Machine) (old new : Course) (told : Option Told) (begun : List Started) (going : Option Going) → IsKept old new → new.ready ≡ old.ready → old.next ≤ new.next → IsTold m old told begun going → IsTold m new told begun going
+pub told_kept : (m : Machine) (old new : Course) (told : Option Told) (begun : List Started) (going : Option Going) → IsKept old new → new.ready ≡ old.ready → old.next ≤ new.next → KnowsConnecting m old told begun going → KnowsConnecting m new told begun going
 told_kept m old new None begun going kept ready later h = (kept.connected ∙ h.0, h.1, h.2)
 told_kept m old new (Some t) begun going kept ready later h = record {
   connected = kept.connected ∙ h.connected;
@@ -157,11 +157,11 @@ fed_on m c seen k at fed h =
       place = h.place;
       few = omega (arith, few, at);
       going = h.going;
-      early = by c.current refl (subst (λ n. IsEarly c.current (n + 260) (n + 260) c) at h.early);
+      early = by c.current refl (subst (λ n. BeginsNoEarlier c.current (n + 260) (n + 260) c) at h.early);
       uptake = record { waiting = h.uptake.waiting; none = h.uptake.none; held = λ b lt. held_later (c.next + 260 + 16) (k + 261 + 16) (clocks_at c.lines.each.items b).held (omega (arith, at)) (h.uptake.held b lt) };
     }
   where
-    by : (o : Open) → c.current ≡ o → IsEarly o (k + 260) (k + 260) c → IsEarly o (k + 260) (k + 261) c
+    by : (o : Open) → c.current ≡ o → BeginsNoEarlier o (k + 260) (k + 260) c → BeginsNoEarlier o (k + 260) (k + 261) c
     by opens.Nothing e early = λ on. later_fed k c.ready c.source.end c.source.items.items (fed e on) (early on)
     by (opens.Goes s homes) e early = early
 
@@ -170,7 +170,7 @@ abbrev pub behind : Seen → List Started → Option Going → Seen
 behind seen begun going = record { text = seen.text; ended = seen.ended; read = seen.read; told = seen.told; fresh = seen.fresh; next = seen.next + 1; begun = begun; going = going }
 
 pub course_on : (m : Machine) (old new : Course) (seen : Seen) (begun : List Started) (going : Option Going) (turn free : ℕ) → IsCourseBy m old seen turn free → IsKept old new → new.next ≡ old.next + 1 → old.next < 2 ^ 42
-    → items_read begun going ≡ items_read seen.begun seen.going → IsTold m new seen.told begun going → count_of begun going ≡ count_of seen.begun seen.going → IsGoing m new.current new seen.told begun going → IsEarly new.current turn free new
+    → items_read begun going ≡ items_read seen.begun seen.going → KnowsConnecting m new seen.told begun going → count_of begun going ≡ count_of seen.begun seen.going → IsGoing m new.current new seen.told begun going → BeginsNoEarlier new.current turn free new
     → IsCourseBy m new (behind seen begun going) turn free
 course_on m old new seen begun going turn free h kept next small same told count goes early =
     let place = h.few in
@@ -190,7 +190,7 @@ course_on m old new seen begun going turn free h kept next small same told count
     }
 
 -- the same sections go on
-pub same_go : (k : ℕ) (begun : List Started) (going : Option Going) → GoesOn k begun going begun going
+pub same_go : (k : ℕ) (begun : List Started) (going : Option Going) → SectionsGoOn k begun going begun going
 same_go k begun going = record { more = []; are = sym (append-nil begun); moves = tt; goes = λ g e. inr (g, e, refl, refl) }
 
 -- no section goes on
@@ -206,7 +206,7 @@ idle_passed m old new seen k batches done h nothing after kept ready goes next a
     let place : old.place ≡ length seen.begun = h.place ∙ ap (count_of seen.begun) none in
     let all_is : (n : ℕ) (all : List Started) → AreWhole m seen.told n seen.begun seen.going all → all ≡ seen.begun = λ n all w. whole_none m seen.told n seen.begun all seen.going none w in
     let ahead_is : AreAhead m old.ahead.items k seen.begun = subst (λ n. AreAhead m old.ahead.items n seen.begun) (sym at) idle.ahead in
-    let early_old : old.connected ≡ true → IsLater (k + 260) (k + 261) old.ready old.source.end old.source.items.items = subst (λ o. IsEarly o (k + 260) (k + 261) old) nothing h.early in (
+    let early_old : old.connected ≡ true → IsLater (k + 260) (k + 261) old.ready old.source.end old.source.items.items = subst (λ o. BeginsNoEarlier o (k + 260) (k + 261) old) nothing h.early in (
       behind seen seen.begun seen.going,
       record {
         text = refl;
@@ -220,7 +220,7 @@ idle_passed m old new seen k batches done h nothing after kept ready goes next a
         batches_are = λ all w.
             batches_are m k (slice_index_or old.ahead.items 0 []) [] (boards_in_all all) batches (are ∙ ap (λ n. batches_of (length m.boards) n (slice_index_or old.ahead.items 0 []) []) (sym at))
             (λ b lt. ap (λ us. units_in (slice_index_or old.ahead.items 0 []) b ++ us) (no_units b) ∙ append-nil (units_in (slice_index_or old.ahead.items 0 []) b) ∙ front_units m old.ahead.items k b seen.begun ahead_is lt ∙ ap (λ x. units_at b k (boards_in_all x)) (sym (all_is (seen.next + 1) all w)));
-        done_is = λ all w. ap listed news ∙ done_are old.goes k old.ready old.place seen.begun open_is last place ∙ ap (done_notes k 0) (sym (all_is (seen.next + 1) all w));
+        done_is = λ all w. ap news_items news ∙ done_are old.goes k old.ready old.place seen.begun open_is last place ∙ ap (done_notes k 0) (sym (all_is (seen.next + 1) all w));
       },
       course_on m old new seen seen.begun seen.going (k + 260) (k + 261) h kept next small refl (told_kept m old new seen.told seen.begun seen.going kept ready (omega (arith, next)) h.told) refl
           (subst (λ o. IsGoing m o new seen.told seen.begun seen.going) (sym after) (record {
@@ -228,12 +228,12 @@ idle_passed m old new seen k batches done h nothing after kept ready goes next a
             goes = subst (λ n. IsOpen new.goes n seen.begun) (ap (λ n. n + 1) at ∙ sym next) (subst (λ g. IsOpen g (k + 1) seen.begun) (sym goes) (open_next old.goes k old.ready seen.begun open_is last));
             ahead = ahead_next m old.ahead.items new.ahead.items old.next new.next seen.begun ahead next idle.ahead;
           }))
-          (subst (λ o. IsEarly o (k + 260) (k + 261) new) (sym after) (λ on.
+          (subst (λ o. BeginsNoEarlier o (k + 260) (k + 261) new) (sym after) (λ on.
           subst (λ s. IsLater (k + 260) (k + 261) new.ready s.end s.items.items) (sym kept.source) (subst (λ r. IsLater (k + 260) (k + 261) r old.source.end old.source.items.items) (sym ready)
           (early_old (sym kept.connected ∙ on))))),
     )
   where
-    last_ready : (told : Option Told) → IsTold m old told seen.begun seen.going → (past : List Started) (s : Started) → seen.begun ≡ past ++ s ∷ [] → old.ready ≡ s.end + 260
+    last_ready : (told : Option Told) → KnowsConnecting m old told seen.begun seen.going → (past : List Started) (s : Started) → seen.begun ≡ past ++ s ∷ [] → old.ready ≡ s.end + 260
     last_ready None t past s e = absurd (none_behind past s (sym t.1 ∙ e))
     last_ready (Some t) i past s e =
         let idle : IsIdle m old seen.begun seen.going = subst (λ o. IsGoing m o old seen.told seen.begun seen.going) nothing h.going in

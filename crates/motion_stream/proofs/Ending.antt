@@ -14,7 +14,7 @@ use Rattle.plan_types.specs.declared.plan.Move.{Move}
 use Rattle.plan_types.specs.declared.plan.ReadEnd.{ReadEnd}
 use Rattle.plan_types.specs.declared.plan.Section.{Section}
 use Rattle.step_feed.specs.Pacing.{batch_at}
-use Rattle.motion_work.specs.Begins.{listed}
+use Rattle.motion_work.specs.Begins.{news_items}
 use Rattle.motion_work.specs.Feeds.{units_at}
 use Rattle.motion_work.specs.Further.{AreFurther}
 use Rattle.motion_work.specs.Puts.{IsReadNews}
@@ -75,7 +75,7 @@ read_count m c seen whole turn free x e h may =
     omega (arith, p, b, a, o, s)
 
 -- how the text was read, as it is told
-told_read : (m : Machine) (c : Course) (seen : Seen) (whole : List ℕ) (all : List Started) (turn free : ℕ) (told : Bool) (end : Option ReadEnd) → c.source.end ≡ end → IsCourseBy m c seen turn free → MayBe m seen whole all → IsReadNews m whole (listed (read_news told end (c.place + begins_in c.source.items.items)))
+told_read : (m : Machine) (c : Course) (seen : Seen) (whole : List ℕ) (all : List Started) (turn free : ℕ) (told : Bool) (end : Option ReadEnd) → c.source.end ≡ end → IsCourseBy m c seen turn free → MayBe m seen whole all → IsReadNews m whole (news_items (read_news told end (c.place + begins_in c.source.items.items)))
 told_read m c seen whole all turn free told None e h may = inl refl
 told_read m c seen whole all turn free true (Some x) e h may = inl refl
 told_read m c seen whole all turn free false (Some x) e h may =
@@ -84,8 +84,8 @@ told_read m c seen whole all turn free false (Some x) e h may =
 
 -- or not yet
 pub told_known : (m : Machine) (c : Course) (seen : Seen) (whole : List ℕ) (all : List Started) (turn free : ℕ) (told : Bool) (end : Option ReadEnd) → (end ≡ None) ⊎ (end ≡ c.source.end) → IsCourseBy m c seen turn free → MayBe m seen whole all
-    → IsReadNews m whole (listed (read_news told end (c.place + begins_in c.source.items.items)))
-told_known m c seen whole all turn free told end (inl e) h may = subst (λ x. IsReadNews m whole (listed (read_news told x (c.place + begins_in c.source.items.items)))) (sym e) (inl refl)
+    → IsReadNews m whole (news_items (read_news told end (c.place + begins_in c.source.items.items)))
+told_known m c seen whole all turn free told end (inl e) h may = subst (λ x. IsReadNews m whole (news_items (read_news told x (c.place + begins_in c.source.items.items)))) (sym e) (inl refl)
 told_known m c seen whole all turn free told end (inr e) h may = told_read m c seen whole all turn free told end (sym e) h may
 
 none_left : {X : Type 0} (xs ys : List X) → xs ++ ys ≡ [] → (xs ≡ []) × (ys ≡ [])
@@ -123,7 +123,7 @@ out_begun m c seen whole k turn free end (inr (e, put)) h may at x is =
     (all_out (length m.boards) k c.next n seen.begun (omega (arith, count, place, left)) at done none, i.none)
 
 pub out_known : (m : Machine) (c : Course) (seen : Seen) (whole : List ℕ) (all : List Started) (k turn free : ℕ) (told : Bool) (end : Option ReadEnd) → (end ≡ None) ⊎ ((end ≡ c.source.end) × HasPutAll (length m.boards) c) → IsCourseBy m c seen turn free → MayBe m seen whole all → c.next ≡ k + 1
-    → (listed (read_news told end (c.place + begins_in c.source.items.items)) ≡ []) ⊎ AreOut (length m.boards) k (length (program_sections m whole)) all
+    → (news_items (read_news told end (c.place + begins_in c.source.items.items)) ≡ []) ⊎ AreOut (length m.boards) k (length (program_sections m whole)) all
 out_known m c seen whole all k turn free told None known h may at = inl refl
 out_known m c seen whole all k turn free true (Some x) known h may at = inl refl
 out_known m c seen whole all k turn free false (Some x) known h may at =
@@ -187,7 +187,7 @@ put_all m c seen whole k turn free x e h may at out =
     }
 
 -- only one piece of news tells it
-read_plain : (o : Option NoteNews) (ns : List NoteNews) → IsPlain o → tells_read (listed o ++ ns) ≡ tells_read ns
+read_plain : (o : Option NoteNews) (ns : List NoteNews) → IsPlain o → tells_read (news_items o ++ ns) ≡ tells_read ns
 read_plain None ns h = refl
 read_plain (Some (news.Start section kind turn last moving)) ns h = refl
 read_plain (Some (news.Done section turn)) ns h = refl
@@ -207,14 +207,14 @@ tells told None = false
 tells true (Some end) = false
 tells false (Some end) = true
 
-read_alone : (told : Bool) (end : Option ReadEnd) (sections k : ℕ) (further : List NoteNews) → AreFurther k further → tells_read (listed (read_news told end sections) ++ further) ≡ tells told end
+read_alone : (told : Bool) (end : Option ReadEnd) (sections k : ℕ) (further : List NoteNews) → AreFurther k further → tells_read (news_items (read_news told end sections) ++ further) ≡ tells told end
 read_alone told None sections k further are = read_further k further are
 read_alone true (Some end) sections k further are = read_further k further are
 read_alone false (Some end) sections k further are = refl
 
-pub tells_when : (done start : Option NoteNews) (told : Bool) (end : Option ReadEnd) (sections k : ℕ) (further ns : List NoteNews) → IsPlain done → IsPlain start → AreFurther k further → ns ≡ listed done ++ (listed start ++ (listed (read_news told end sections) ++ further)) → tells_read ns ≡ tells told end
+pub tells_when : (done start : Option NoteNews) (told : Bool) (end : Option ReadEnd) (sections k : ℕ) (further ns : List NoteNews) → IsPlain done → IsPlain start → AreFurther k further → ns ≡ news_items done ++ (news_items start ++ (news_items (read_news told end sections) ++ further)) → tells_read ns ≡ tells told end
 tells_when done start told end sections k further ns plain_done plain_start are is =
-    ap tells_read is ∙ read_plain done (listed start ++ (listed (read_news told end sections) ++ further)) plain_done ∙ read_plain start (listed (read_news told end sections) ++ further) plain_start ∙ read_alone told end sections k further are
+    ap tells_read is ∙ read_plain done (news_items start ++ (news_items (read_news told end sections) ++ further)) plain_done ∙ read_plain start (news_items (read_news told end sections) ++ further) plain_start ∙ read_alone told end sections k further are
 
 after_is : (told : Bool) (end : Option ReadEnd) → read_after told end ≡ (told || tells told end)
 after_is true None = refl

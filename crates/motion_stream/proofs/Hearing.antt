@@ -51,9 +51,9 @@ use Rattle.motion_stream.specs.declared.course.Open.TheVariants as opens
 use Rattle.motion_stream.specs.declared.source.Source.{Source}
 use Rattle.motion_stream.proofs.ByKind.{all_of, answered_board, answered_items, can, goes_beside, goes_longer, homes_on, laid_home, lines_home, planned_home, whole_moves}
 use Rattle.motion_stream.proofs.Laid.{laid_later, laid_more}
-use Rattle.motion_stream.specs.Courses.{AreLaid, AreAhead, HomesOn, IsConnected, IsCourseBy, IsCourseOf, IsEarly, IsGoing, IsGoingOn, IsIdle, IsLater, IsTold, IsUptake, row_at}
+use Rattle.motion_stream.specs.Courses.{AreLaid, AreAhead, HomesOn, IsConnected, IsCourseBy, IsCourseOf, BeginsNoEarlier, IsGoing, IsGoingOn, IsIdle, IsLater, KnowsConnecting, IsUptake, row_at}
 use Rattle.motion_stream.specs.Gone.{HasHeardBy}
-use Rattle.motion_stream.specs.Motions.{IsLonger, IsMore, answered, begun_with, going_with, hears_answer, lines_kept, read_on, waits_by, with_answer, with_further, with_lines}
+use Rattle.motion_stream.specs.Motions.{IsLonger, IsMore, started_until, begun_with, going_with, hears_answer, lines_kept, read_on, waits_by, with_answer, with_further, with_lines}
 use Rattle.motion_stream.specs.Seen.{Going, Seen, count_of, items_read, sections_in}
 use Rattle.motion_stream.specs.Texts.{HasGrown, IsSourceOf, ended_after, text_after}
 use Rattle.motion_stream.proofs.Drawing.{boards_in_all, later_easy, units_snoc, uptake_kept}
@@ -111,7 +111,7 @@ pub record IsBeside (old new : Course) : Type 0 where
   pub ahead : new.ahead ≡ old.ahead
   pub next : new.next ≡ old.next
 
-told_beside : (m : Machine) (old new : Course) (told : Option Told) (begun : List Started) (going more : Option Going) → IsBeside old new → (more ≡ None → going ≡ None) → (going ≡ None → more ≡ None) → IsTold m old told begun going → IsTold m new told begun more
+told_beside : (m : Machine) (old new : Course) (told : Option Told) (begun : List Started) (going more : Option Going) → IsBeside old new → (more ≡ None → going ≡ None) → (going ≡ None → more ≡ None) → KnowsConnecting m old told begun going → KnowsConnecting m new told begun more
 told_beside m old new None begun going more b back on h = (b.connected ∙ h.0, h.1, on h.2)
 told_beside m old new (Some t) begun going more b back on h = record {
   connected = b.connected ∙ h.connected;
@@ -139,7 +139,7 @@ same_more (Some g) = record { kind = refl; dwell = refl; start = refl; last = re
 
 -- a piece is read, and no section takes moves of it
 pub text_passed : (m : Machine) (old new : Course) (seen : Seen) (bytes : List ℕ) (end : Bool) → IsBeside old new → (IsGoing m old.current old seen.told seen.begun seen.going → IsGoing m new.current new seen.told seen.begun seen.going)
-    → ((text : List ℕ) (ended : Bool) (told : List Item) → IsSourceOf m old.source text ended told → IsSourceOf m new.source (text_after text ended bytes) (ended_after ended end) told) → (IsEarly old.current (old.next + 260) (old.next + 260) old → IsEarly new.current (new.next + 260) (new.next + 260) new) → IsCourseOf m old seen
+    → ((text : List ℕ) (ended : Bool) (told : List Item) → IsSourceOf m old.source text ended told → IsSourceOf m new.source (text_after text ended bytes) (ended_after ended end) told) → (BeginsNoEarlier old.current (old.next + 260) (old.next + 260) old → BeginsNoEarlier new.current (new.next + 260) (new.next + 260) new) → IsCourseOf m old seen
     → (going : Option Going) × IsMore seen.going going × IsCourseOf m new (read_on seen bytes end going)
 text_passed m old new seen bytes end b goes reads early h =
     let few = h.few in
@@ -252,7 +252,7 @@ text_heard m old mid new s later homes seen bytes end b was now reads reader sto
             place = b.place ∙ h.place;
             few = few;
             going = subst (λ o. IsGoing m o new seen.told seen.begun seen.going) (sym now) (subst (λ x. IsGoingOn m x homes new seen.told seen.begun seen.going) (sym same.0) (going_beside m s homes old new seen.told seen.begun seen.going b i));
-            early = subst (λ o. IsEarly o (new.next + 260) (new.next + 260) new) (sym now) (λ on. absurd (clash (sym on ∙ ap (λ (x : SectionStream). is_taking (queue_of x)) same.0 ∙ t)));
+            early = subst (λ o. BeginsNoEarlier o (new.next + 260) (new.next + 260) new) (sym now) (λ on. absurd (clash (sym on ∙ ap (λ (x : SectionStream). is_taking (queue_of x)) same.0 ∙ t)));
             uptake = uptake_kept old new (old.next + 260) (new.next + 260) seen.fresh b.connected b.lines (let e = b.next in omega (arith, e)) h.uptake;
           },
         )
@@ -296,13 +296,13 @@ text_heard m old mid new s later homes seen bytes end b was now reads reader sto
               before = λ z. subst (λ w. AreBefore w (g.released z)) (sym n) (i.before z);
               ahead = subst (λ a. AreAhead m a.items new.next seen.begun) (sym b.ahead) (subst (λ z. AreAhead m old.ahead.items z seen.begun) (sym b.next) i.ahead);
             });
-            early = subst (λ o. IsEarly o (new.next + 260) (new.next + 260) new) (sym now) all.stops;
+            early = subst (λ o. BeginsNoEarlier o (new.next + 260) (new.next + 260) new) (sym now) all.stops;
             uptake = uptake_kept old new (old.next + 260) (new.next + 260) seen.fresh b.connected b.lines (let e = b.next in omega (arith, e)) h.uptake;
           },
         )
 
 -- lines that a word tells where they are known
-heard_known : (m : Machine) (next : ℕ) (w : WordMsg) (told : Option Told) (c : Course) (begun : List Started) (going : Option Going) → c.connected ≡ true → IsTold m c told begun going → heard m next w told ≡ told
+heard_known : (m : Machine) (next : ℕ) (w : WordMsg) (told : Option Told) (c : Course) (begun : List Started) (going : Option Going) → c.connected ≡ true → KnowsConnecting m c told begun going → heard m next w told ≡ told
 heard_known m next w None c begun going on h = absurd (clash (sym on ∙ h.0))
 heard_known m next w (Some t) c begun going on h = refl
 
@@ -311,7 +311,7 @@ with_told m c seen told e h = record {
   machine = h.machine;
   source = h.source;
   read = h.read;
-  told = subst (λ x. IsTold m c x seen.begun seen.going) (sym e) h.told;
+  told = subst (λ x. KnowsConnecting m c x seen.begun seen.going) (sym e) h.told;
   next = h.next;
   small = h.small;
   place = h.place;
@@ -324,7 +324,7 @@ with_told m c seen told e h = record {
 pub lines_known : (m : Machine) (c : Course) (seen : Seen) (w : WordMsg) → c.connected ≡ true → IsCourseOf m c seen → IsCourseOf m c (with_lines m seen w)
 lines_known m c seen w on h = with_told m c seen (heard m seen.next w seen.told) (heard_known m seen.next w seen.told c seen.begun seen.going on h.told) h
 
-unknown : (m : Machine) (told : Option Told) (c : Course) (begun : List Started) (going : Option Going) → c.connected ≡ false → IsTold m c told begun going → (told ≡ None) × (begun ≡ []) × (going ≡ None)
+unknown : (m : Machine) (told : Option Told) (c : Course) (begun : List Started) (going : Option Going) → c.connected ≡ false → KnowsConnecting m c told begun going → (told ≡ None) × (begun ≡ []) × (going ≡ None)
 unknown m None c begun going off h = (refl, h.1, h.2)
 unknown m (Some t) c begun going off h = absurd (clash (sym h.connected ∙ off))
 
@@ -342,7 +342,7 @@ idle_going m opens.Nothing old new told more begun going none nil goes next ahea
 }
 idle_going m (opens.Goes s homes) old new told more begun going none nil goes next ahead h = absurd (none_some h.g (sym nil ∙ h.is))
 
-any_early : (m : Machine) (o : Open) (old c : Course) (told : Option Told) (begun : List Started) (going : Option Going) (turn : ℕ) → IsGoing m o old told begun going → going ≡ None → turn ≤ c.ready → IsEarly o turn turn c
+any_early : (m : Machine) (o : Open) (old c : Course) (told : Option Told) (begun : List Started) (going : Option Going) (turn : ℕ) → IsGoing m o old told begun going → going ≡ None → turn ≤ c.ready → BeginsNoEarlier o turn turn c
 any_early m opens.Nothing old c told begun going turn i none le = λ on. later_easy turn turn c.ready c.source.end c.source.items.items le le
 any_early m (opens.Goes s homes) old c told begun going turn i none le = absurd (none_some i.g (sym none ∙ i.is))
 
@@ -362,7 +362,7 @@ lines_told m old new seen w off told waiting ready on source read place goes cur
       machine = h.machine;
       source = subst (λ s. IsSourceOf m s seen.text seen.ended (items_read seen.begun seen.going)) (sym source) h.source;
       read = read ∙ h.read;
-      told = subst (λ x. IsTold m new x seen.begun seen.going) (sym heard_is) (record {
+      told = subst (λ x. KnowsConnecting m new x seen.begun seen.going) (sym heard_is) (record {
         connected = on;
         lines = refl;
         ready = λ e. first ∙ sym (ap (ready_after t.first) u.1);
@@ -378,7 +378,7 @@ lines_told m old new seen w off told waiting ready on source read place goes cur
       place = place ∙ h.place;
       few = omega (arith, few, place, next);
       going = subst (λ o. IsGoing m o new (heard m seen.next w seen.told) seen.begun seen.going) (sym current) (idle_going m old.current old new seen.told (heard m seen.next w seen.told) seen.begun seen.going u.1 u.2 (sym goes) (sym next) (sym ahead) h.going);
-      early = subst (λ o. IsEarly o (new.next + 260) (new.next + 260) new) (sym current) (any_early m old.current old new seen.told seen.begun seen.going (new.next + 260) h.going u.2 (omega (arith, ready, next)));
+      early = subst (λ o. BeginsNoEarlier o (new.next + 260) (new.next + 260) new) (sym current) (any_early m old.current old new seen.told seen.begun seen.going (new.next + 260) h.going u.2 (omega (arith, ready, next)));
       uptake = record {
         waiting = ap (λ v. v.items) waiting ∙ h.uptake.waiting;
         none = λ no. absurd (clash (sym on ∙ no));
@@ -402,7 +402,7 @@ waiting_is m s homes c told begun going i next at = ap (λ b. b && nat_le c.star
 unheard : (m : Machine) (o : Open) (c : Course) (told : Option Told) (begun : List Started) (going : Option Going) (next : ℕ) → waits_by o c.start c.next ≡ false → IsGoing m o c told begun going → c.next ≡ next → hears_answer m next going ≡ None
 unheard m opens.Nothing c told begun going next w i at = ap (hears_answer m next) i.none
 unheard m (opens.Goes s homes) c told begun going next w i at =
-    ap (hears_answer m next) i.is ∙ ap (λ (b : Bool). if b then Some (answered m next i.g) else None) (sym (waiting_is m s homes c told begun going i next at) ∙ w)
+    ap (hears_answer m next) i.is ∙ ap (λ (b : Bool). if b then Some (started_until m next i.g) else None) (sym (waiting_is m s homes c told begun going i next at) ∙ w)
 
 pub none_heard : (m : Machine) (c : Course) (seen : Seen) (w : WordMsg) → (tells_homed w.news && waits_by c.current c.start c.next) ≡ false → IsCourseOf m c seen → IsCourseOf m c (with_answer m seen w)
 none_heard m c seen w e h = subst (λ (o : Option Started). IsCourseOf m c (with_ended seen o)) (sym (by (tells_homed w.news) e)) h where
@@ -430,11 +430,11 @@ near_end m s old seen i began at b lt =
 
 -- the section that ends by an answer
 pub answer_told : (m : Machine) (s : SectionStream) (old new : Course) (seen : Seen) (i : IsGoingOn m s true old seen.told seen.begun seen.going) → i.g.start ≤ old.next → old.next ≤ 2 ^ 42 → new.current ≡ opens.Nothing → new.goes ≡ true → new.ready ≡ old.next + 260 → new.connected ≡ old.connected → new.lines ≡ old.lines
-    → new.source ≡ old.source → new.read ≡ old.read → new.place ≡ old.place → new.ahead ≡ old.ahead → new.next ≡ old.next → IsCourseOf m old seen → IsCourseOf m new (with_ended seen (Some (answered m seen.next i.g)))
+    → new.source ≡ old.source → new.read ≡ old.read → new.place ≡ old.place → new.ahead ≡ old.ahead → new.next ≡ old.next → IsCourseOf m old seen → IsCourseOf m new (with_ended seen (Some (started_until m seen.next i.g)))
 answer_told m s old new seen i began small nothing goes ready on lines source read place ahead next h =
     let g = i.g in
     let same = h.next in
-    let x = answered m seen.next g in
+    let x = started_until m seen.next g in
     let begun = seen.begun ++ x ∷ [] in
     let few = h.few in
     let p = place in
@@ -461,16 +461,16 @@ answer_told m s old new seen i began small nothing goes ready on lines source re
               ∙ ap (λ n. units_at b (n + j) (boards_in_all seen.begun)) next ∙ i.ahead.units j b lt ∙ ap (λ a. row_at a.items j b) (sym ahead);
         };
       });
-      early = subst (λ o. IsEarly o (new.next + 260) (new.next + 260) new) (sym nothing) (λ c. later_easy (new.next + 260) (new.next + 260) new.ready new.source.end new.source.items.items (omega (arith, ready, next)) (omega (arith, ready, next)));
+      early = subst (λ o. BeginsNoEarlier o (new.next + 260) (new.next + 260) new) (sym nothing) (λ c. later_easy (new.next + 260) (new.next + 260) new.ready new.source.end new.source.items.items (omega (arith, ready, next)) (omega (arith, ready, next)));
       uptake = uptake_kept old new (old.next + 260) (new.next + 260) seen.fresh on lines (omega (arith, next)) h.uptake;
     }
   where
-    told_by : (told : Option Told) → told ≡ Some i.t → HomesOn m i.t.clocks i.g → is_home i.g.kind ≡ true → i.g.start ≤ seen.next → seen.next < no_end → IsTold m old told seen.begun seen.going → IsTold m new told (seen.begun ++ answered m seen.next i.g ∷ []) None
+    told_by : (told : Option Told) → told ≡ Some i.t → HomesOn m i.t.clocks i.g → is_home i.g.kind ≡ true → i.g.start ≤ seen.next → seen.next < no_end → KnowsConnecting m old told seen.begun seen.going → KnowsConnecting m new told (seen.begun ++ started_until m seen.next i.g ∷ []) None
     told_by None e homes home st tiny c = absurd (none_some i.t e)
     told_by (Some u) e homes home st tiny d =
         let g = i.g in
         let t = i.t in
-        let x = answered m seen.next g in
+        let x = started_until m seen.next g in
         let c : IsConnected m old t seen.begun seen.going = subst (λ (z : Told). IsConnected m old z seen.begun seen.going) (some_same u t e) d in
         let r = ready_more t.first seen.begun x in
         let at = h.next in
@@ -516,8 +516,8 @@ heard_by : (m : Machine) (o : Open) (old new : Course) (seen : Seen) → waits_b
 heard_by m opens.Nothing old new seen waits i small nothing goes ready on lines source read place ahead next h = absurd (clash (sym waits))
 heard_by m (opens.Goes s false) old new seen waits i small nothing goes ready on lines source read place ahead next h = absurd (clash (sym waits))
 heard_by m (opens.Goes s true) old new seen waits i small nothing goes ready on lines source read place ahead next h =
-    let hears : hears_answer m seen.next seen.going ≡ Some (answered m seen.next i.g) =
-    ap (hears_answer m seen.next) i.is ∙ ap (λ (b : Bool). if b then Some (answered m seen.next i.g) else None) (sym (waiting_is m s true old seen.told seen.begun seen.going i seen.next h.next) ∙ waits) in
+    let hears : hears_answer m seen.next seen.going ≡ Some (started_until m seen.next i.g) =
+    ap (hears_answer m seen.next) i.is ∙ ap (λ (b : Bool). if b then Some (started_until m seen.next i.g) else None) (sym (waiting_is m s true old seen.told seen.begun seen.going i seen.next h.next) ∙ waits) in
     let began : i.g.start ≤ old.next = elim (leb_tells old.start old.next) [ inl p ↦ (let le = p.1 in let e = i.start_is in omega (arith, le, e)) | inr p ↦ absurd (clash (sym waits ∙ p.0)) ] in
     subst (λ (o : Option Started). IsCourseOf m new (with_ended seen o)) (sym hears) (answer_told m s old new seen i began small nothing goes ready on lines source read place ahead next h)
 
@@ -533,10 +533,10 @@ pub text_idle : (m : Machine) (old : Course) (source : Source) (seen : Seen) (by
 text_idle m old source seen bytes end was reads grown h =
     let new : Course = record old { source = source; current = opens.Nothing } in
     let b : IsBeside old new = record { read = refl; connected = refl; lines = refl; ready = refl; start = refl; place = refl; goes = refl; ahead = refl; next = refl } in
-    text_passed m old new seen bytes end b (λ i. idle_beside m old new seen.begun seen.going b (subst (λ o. IsGoing m o old seen.told seen.begun seen.going) was i)) reads (λ e. nothing_early old new b grown (subst (λ o. IsEarly o (old.next + 260) (old.next + 260) old) was e)) h
+    text_passed m old new seen bytes end b (λ i. idle_beside m old new seen.begun seen.going b (subst (λ o. IsGoing m o old seen.told seen.begun seen.going) was i)) reads (λ e. nothing_early old new b grown (subst (λ o. BeginsNoEarlier o (old.next + 260) (old.next + 260) old) was e)) h
 
 -- the lines that wait, and those that were heard of
-told_lined : (m : Machine) (old : Course) (lines : BoardLines) (told : Option Told) (begun : List Started) (going : Option Going) → lines.each ≡ old.lines.each → IsTold m old told begun going → IsTold m (record old { lines = lines }) told begun going
+told_lined : (m : Machine) (old : Course) (lines : BoardLines) (told : Option Told) (begun : List Started) (going : Option Going) → lines.each ≡ old.lines.each → KnowsConnecting m old told begun going → KnowsConnecting m (record old { lines = lines }) told begun going
 told_lined m old lines None begun going e h = h
 told_lined m old lines (Some t) begun going e h = record { connected = h.connected; lines = ap (λ v. v.items) e ∙ h.lines; ready = h.ready; started = h.started; sent = h.sent; clocks = h.clocks; laid = h.laid; first = h.first; late = h.late }
 
@@ -562,7 +562,7 @@ going_lined m (opens.Goes s homes) old lines told begun going i = record {
   ahead = i.ahead;
 }
 
-early_lined : (o : Open) (turn free : ℕ) (old : Course) (lines : BoardLines) → IsEarly o turn free old → IsEarly o turn free (record old { lines = lines })
+early_lined : (o : Open) (turn free : ℕ) (old : Course) (lines : BoardLines) → BeginsNoEarlier o turn free old → BeginsNoEarlier o turn free (record old { lines = lines })
 early_lined opens.Nothing turn free old lines e = e
 early_lined (opens.Goes s homes) turn free old lines e = e
 
@@ -590,12 +590,12 @@ own_heard (l ∷ ls) =
     All-cons P l ls (inl (refl, refl)) (λ i d lt. inr (own_heard ls i d lt))
 
 -- once connecting ended all lines of a word are kept
-kept_on : (m : Machine) (c : Course) (told : Option Told) (begun : List Started) (going : Option Going) (ls : List BoardLine) → c.connected ≡ true → IsTold m c told begun going → lines_kept told ls ≡ ls
+kept_on : (m : Machine) (c : Course) (told : Option Told) (begun : List Started) (going : Option Going) (ls : List BoardLine) → c.connected ≡ true → KnowsConnecting m c told begun going → lines_kept told ls ≡ ls
 kept_on m c None begun going ls on h = absurd (clash (sym on ∙ h.0))
 kept_on m c (Some t) begun going ls on h = refl
 
 -- before it none is
-kept_off : (m : Machine) (c : Course) (told : Option Told) (begun : List Started) (going : Option Going) (ls : List BoardLine) → c.connected ≡ false → IsTold m c told begun going → lines_kept told ls ≡ []
+kept_off : (m : Machine) (c : Course) (told : Option Told) (begun : List Started) (going : Option Going) (ls : List BoardLine) → c.connected ≡ false → KnowsConnecting m c told begun going → lines_kept told ls ≡ []
 kept_off m c None begun going ls off h = refl
 kept_off m c (Some t) begun going ls off h = absurd (clash (sym h.connected ∙ off))
 

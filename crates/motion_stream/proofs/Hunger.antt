@@ -26,9 +26,9 @@ use Rattle.motion_work.specs.Told.{Told}
 use Rattle.motion_stream.specs.declared.course.Course.{Course}
 use Rattle.motion_stream.specs.declared.course.Open.{Open}
 use Rattle.motion_stream.specs.declared.course.Open.TheVariants as opens
-use Rattle.motion_stream.specs.Courses.{IsCourseOf, IsEarly, IsStopped, IsGoing, IsGoingOn, IsTold}
+use Rattle.motion_stream.specs.Courses.{IsCourseOf, BeginsNoEarlier, IsStopped, IsGoing, IsGoingOn, KnowsConnecting}
 use Rattle.motion_stream.specs.Hunger.{AreSettled, HasEnough, HasNoEnd, IsReadOn, IsSated, IsShort, Lacks, awaits, wanted, wanted_by}
-use Rattle.motion_stream.specs.Motions.{IsPlannerOf, Planner, hungry, is_none_left, lacks, waits_by, wants}
+use Rattle.motion_stream.specs.Motions.{IsPlannerOf, Planner, hungry, is_nothing_left, lacks, waits_by, wants}
 use Rattle.motion_stream.specs.Seen.{Going, Seen, items_read, sections_in}
 use Rattle.motion_stream.specs.Texts.{MayBecome}
 use Rattle.motion_stream.proofs.Wholing.{source_front}
@@ -52,7 +52,7 @@ awaits_is m (opens.Goes s homes) c told begun going k i =
     homes_of : Going → Bool
     homes_of g = is_home g.kind
 
-wanted_is : (m : Machine) (c : Course) (told : Option Told) (begun : List Started) (going : Option Going) (k : ℕ) → IsTold m c told begun going → waits_by c.current c.start k ≡ awaits going k → wants (record { machine = m; course = c }) k ≡ wanted_by told going k
+wanted_is : (m : Machine) (c : Course) (told : Option Told) (begun : List Started) (going : Option Going) (k : ℕ) → KnowsConnecting m c told begun going → waits_by c.current c.start k ≡ awaits going k → wants (record { machine = m; course = c }) k ≡ wanted_by told going k
 wanted_is m c None begun going k i w = ap (λ b. if b then (if waits_by c.current c.start k then Some k else (if nat_lt k 64 then None else Some (k - 64))) else Some k) i.0
 wanted_is m c (Some t) begun going k i w =
     ap (λ b. if b then (if waits_by c.current c.start k then Some k else (if nat_lt k 64 then None else Some (k - 64))) else Some k) i.connected ∙ ap (λ b. if b then Some k else (if nat_lt k 64 then None else Some (k - 64))) w
@@ -79,7 +79,7 @@ settled m s homes c told begun going i =
     }
 
 -- where more is asked for
-none_waits : (its : List Item) → is_none_left its ≡ true → its ≡ []
+none_waits : (its : List Item) → is_nothing_left its ≡ true → its ≡ []
 none_waits [] e = refl
 none_waits (i ∷ its) e = absurd (clash (sym e))
 
@@ -94,7 +94,7 @@ not_less : (a b : ℕ) → nat_lt a b ≡ false → b ≤ a
 not_less a b e = elim (leb_tells (suc a) b) [ inl p ↦ absurd (clash (sym p.0 ∙ e)) | inr p ↦ omega (arith, p.1) ]
 
 -- the next section has not begun in the text
-next_short : (m : Machine) (c : Course) (told : Option Told) (begun : List Started) (k : ℕ) → IsTold m c told begun None → c.connected ≡ true → nat_lt c.ready (k + 261) ≡ true → IsShort m told begun None k
+next_short : (m : Machine) (c : Course) (told : Option Told) (begun : List Started) (k : ℕ) → KnowsConnecting m c told begun None → c.connected ≡ true → nat_lt c.ready (k + 261) ≡ true → IsShort m told begun None k
 next_short m c None begun k i on lt = absurd (clash (sym on ∙ i.0))
 next_short m c (Some t) begun k i on lt = let ready = i.ready refl in let l = less c.ready (k + 261) lt in (t, refl, omega (arith, ready, l))
 
@@ -105,14 +105,14 @@ idle_lacks m c seen k h none end (inl fresh) =
     let own = (none_both (items_read seen.begun seen.going) c.source.items.items nil).0 in
     record { told = told; read = read_on m c seen h end; no_end = subst (λ g. HasNoEnd seen.begun g told) (sym none) (nil ∙ sym own ∙ ap (items_read seen.begun) none); short = inl nil }
 idle_lacks m c seen k h none end (inr e) =
-    let soon = both (c.connected && is_none_left c.source.items.items) (nat_lt c.ready (k + 261)) e in
-    let on = both c.connected (is_none_left c.source.items.items) soon.0 in
+    let soon = both (c.connected && is_nothing_left c.source.items.items) (nat_lt c.ready (k + 261)) e in
+    let on = both c.connected (is_nothing_left c.source.items.items) soon.0 in
     let told = items_read seen.begun seen.going ++ c.source.items.items in
     record {
       told = told;
       read = read_on m c seen h end;
       no_end = subst (λ g. HasNoEnd seen.begun g told) (sym none) (ap (λ its. items_read seen.begun seen.going ++ its) (none_waits c.source.items.items on.1) ∙ append-nil (items_read seen.begun seen.going) ∙ ap (items_read seen.begun) none);
-      short = inr (subst (λ g. IsShort m seen.told seen.begun g k) (sym none) (next_short m c seen.told seen.begun k (subst (λ g. IsTold m c seen.told seen.begun g) none h.told) on.0 soon.1));
+      short = inr (subst (λ g. IsShort m seen.told seen.begun g k) (sym none) (next_short m c seen.told seen.begun k (subst (λ g. KnowsConnecting m c seen.told seen.begun g) none h.told) on.0 soon.1));
     }
 
 -- one goes on
@@ -182,7 +182,7 @@ going_lacks m s homes c seen k h i stops end (inr e) =
       short = inr (subst (λ g. IsShort m seen.told seen.begun g k) (sym i.is) (settled_to (queue_of s), settled m s homes c seen.told seen.begun seen.going i, less (settled_to (queue_of s)) ((k + 261) * turn_ns) on.1));
     }
 
-by_open : (m : Machine) (o : Open) (c : Course) (seen : Seen) (k : ℕ) → IsCourseOf m c seen → IsGoing m o c seen.told seen.begun seen.going → IsEarly o (c.next + 260) (c.next + 260) c → c.source.end ≡ None → (c.source.opened ≡ false) ⊎ (lacks c o k ≡ true) → Lacks m seen k
+by_open : (m : Machine) (o : Open) (c : Course) (seen : Seen) (k : ℕ) → IsCourseOf m c seen → IsGoing m o c seen.told seen.begun seen.going → BeginsNoEarlier o (c.next + 260) (c.next + 260) c → c.source.end ≡ None → (c.source.opened ≡ false) ⊎ (lacks c o k ≡ true) → Lacks m seen k
 by_open m opens.Nothing c seen k h i early end why = idle_lacks m c seen k h i.none end why
 by_open m (opens.Goes s homes) c seen k h i early end why = going_lacks m s homes c seen k h i early end why
 
@@ -205,16 +205,16 @@ one_false : (a b : Bool) → (a && b) ≡ false → (a ≡ false) ⊎ (b ≡ fal
 one_false true b e = inr e
 one_false false b e = inl refl
 
-some_waits : (its : List Item) → is_none_left its ≡ false → (i : Item) × (rest : List Item) × (its ≡ i ∷ rest)
+some_waits : (its : List Item) → is_nothing_left its ≡ false → (i : Item) × (rest : List Item) × (its ≡ i ∷ rest)
 some_waits [] e = absurd (clash e)
 some_waits (i ∷ its) e = (i, its, refl)
 
-idle_enough : (m : Machine) (c : Course) (told : Option Told) (begun : List Started) (k : ℕ) → IsTold m c told begun None → lacks c opens.Nothing k ≡ false → HasEnough m told begun None (items_of (sections_in begun) ++ c.source.items.items) k
+idle_enough : (m : Machine) (c : Course) (told : Option Told) (begun : List Started) (k : ℕ) → KnowsConnecting m c told begun None → lacks c opens.Nothing k ≡ false → HasEnough m told begun None (items_of (sections_in begun) ++ c.source.items.items) k
 idle_enough m c None begun k i e = tt
 idle_enough m c (Some t) begun k i e =
     let its = items_of (sections_in begun) ++ c.source.items.items in
-    elim (one_false (c.connected && is_none_left c.source.items.items) (nat_lt c.ready (k + 261)) e) as (λ _. HasEnough m (Some t) begun None its k) [
-      | inl f ↦ elim (one_false c.connected (is_none_left c.source.items.items) f) as (λ _. HasEnough m (Some t) begun None its k) [
+    elim (one_false (c.connected && is_nothing_left c.source.items.items) (nat_lt c.ready (k + 261)) e) as (λ _. HasEnough m (Some t) begun None its k) [
+      | inl f ↦ elim (one_false c.connected (is_nothing_left c.source.items.items) f) as (λ _. HasEnough m (Some t) begun None its k) [
         | inl off ↦ absurd (clash (sym i.connected ∙ off))
         | inr some ↦ (let w = some_waits c.source.items.items some in inl (w.0, w.1, ap (λ xs. items_of (sections_in begun) ++ xs) w.2))
       ]
@@ -227,9 +227,9 @@ going_enough m s homes c told begun going k i e = elim (one_false (is_taking (qu
   | inr far ↦ inr (settled_to (queue_of s), settled m s homes c told begun going i, not_less (settled_to (queue_of s)) ((k + 261) * turn_ns) far)
 ]
 
-enough_by : (m : Machine) (o : Open) (c : Course) (seen : Seen) (k : ℕ) → IsTold m c seen.told seen.begun seen.going → IsGoing m o c seen.told seen.begun seen.going → lacks c o k ≡ false → HasEnough m seen.told seen.begun seen.going (items_read seen.begun seen.going ++ c.source.items.items) k
+enough_by : (m : Machine) (o : Open) (c : Course) (seen : Seen) (k : ℕ) → KnowsConnecting m c seen.told seen.begun seen.going → IsGoing m o c seen.told seen.begun seen.going → lacks c o k ≡ false → HasEnough m seen.told seen.begun seen.going (items_read seen.begun seen.going ++ c.source.items.items) k
 enough_by m opens.Nothing c seen k t i e =
-    subst (λ g. HasEnough m seen.told seen.begun g (items_read seen.begun g ++ c.source.items.items) k) (sym i.none) (idle_enough m c seen.told seen.begun k (subst (λ g. IsTold m c seen.told seen.begun g) i.none t) e)
+    subst (λ g. HasEnough m seen.told seen.begun g (items_read seen.begun g ++ c.source.items.items) k) (sym i.none) (idle_enough m c seen.told seen.begun k (subst (λ g. KnowsConnecting m c seen.told seen.begun g) i.none t) e)
 enough_by m (opens.Goes s homes) c seen k t i e =
     subst (λ told. HasEnough m told seen.begun seen.going (items_read seen.begun seen.going ++ c.source.items.items) k) (sym i.told_is)
     (subst (λ g. HasEnough m (Some i.t) seen.begun g (items_read seen.begun g ++ c.source.items.items) k) (sym i.is) (going_enough m s homes c seen.told seen.begun seen.going k i e))

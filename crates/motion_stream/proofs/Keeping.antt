@@ -22,9 +22,9 @@ use Rattle.motion_work.proofs.Putting.{started_last}
 use Rattle.motion_work.proofs.Turning.{none_behind}
 use Rattle.motion_stream.specs.declared.course.Course.{Course}
 use Rattle.motion_stream.specs.Clear.{EndsOutside, IsClearTo, tells_sections}
-use Rattle.motion_stream.specs.Courses.{IsCourseOf, IsTold}
-use Rattle.motion_stream.specs.Motions.{Can, IsMore, IsPlannerOf, Makes, Planner, begun_with, ended_in, going_with, read_on, with_answer, with_lines, with_word}
-use Rattle.motion_stream.specs.Puts.{ArePutBy, HaveBegun, IsBehind}
+use Rattle.motion_stream.specs.Courses.{IsCourseOf, KnowsConnecting}
+use Rattle.motion_stream.specs.Motions.{CanTurnPlanner, IsMore, IsPlannerOf, Makes, Planner, begun_with, ended_in, going_with, read_on, with_answer, with_lines, with_word}
+use Rattle.motion_stream.specs.Puts.{ArePutBy, HaveBegun, IsSeenBehind}
 use Rattle.motion_stream.specs.Seen.{AreWhole, Going, Seen, count_of, sections_in}
 use Rattle.motion_stream.specs.Texts.{MayBecome}
 use Rattle.motion_stream.specs.Wholes.{AreOf, IsToldOf}
@@ -52,7 +52,7 @@ first_late : (next turn : ℕ) (o : Option (List Clocks)) (t : Told) → told_at
 first_late next turn None t e = absurd (none_some e)
 first_late next turn (Some clocks) t e = (let f : first_start (max next turn) ≡ t.first = ap (λ (x : Told). x.first) (some_same (record { first = first_start (max next turn); clocks = clocks }) t e) in omega (arith, f))
 
-lines_clear : (m : Machine) (c : Course) (seen : Seen) (w : WordMsg) (n : ℕ) (told : Option Told) → seen.told ≡ told → IsTold m c told seen.begun seen.going → IsClearTo m seen n → IsClearTo m (with_lines m seen w) n
+lines_clear : (m : Machine) (c : Course) (seen : Seen) (w : WordMsg) (n : ℕ) (told : Option Told) → seen.told ≡ told → KnowsConnecting m c told seen.begun seen.going → IsClearTo m seen n → IsClearTo m (with_lines m seen w) n
 lines_clear m c seen w n (Some t) e h cl =
     let same : heard m seen.next w seen.told ≡ seen.told = ap (heard m seen.next w) e ∙ sym e in
     record {
@@ -105,7 +105,7 @@ told_none ns None e = refl
 told_none ns (Some u) e = absurd (none_some (sym e))
 
 -- no section is begun in a turn that is clear
-not_begun : (m : Machine) (c : Course) (seen next : Seen) (k n : ℕ) (ns : List NoteNews) → IsCourseOf m c next → IsBehind m seen next k ns → IsClearTo m seen n → k < n → count_of next.begun next.going ≡ count_of seen.begun seen.going
+not_begun : (m : Machine) (c : Course) (seen next : Seen) (k n : ℕ) (ns : List NoteNews) → IsCourseOf m c next → IsSeenBehind m seen next k ns → IsClearTo m seen n → k < n → count_of next.begun next.going ≡ count_of seen.begun seen.going
 not_begun m c seen next k n ns h is cl lt = ∥∥₁_elim (are_there P next next.text h (own_text next.ended next.text)) (hlevel props) (λ w. ∥∥₁_elim (told_all P next next.text w.0 next.told next.going refl refl h h.told w.1.may.sections w.1) (hlevel props) (λ told. by_told next.told refl w.0 w.1 told)) where
   P : Planner
   P = record { machine = m; course = c }
@@ -134,7 +134,7 @@ not_begun m c seen next k n ns h is cl lt = ∥∥₁_elim (are_there P next nex
           let r = ap (λ x. ready_after x old) z.2 in
           omega (arith, low, at, start, lt, r)
 
-behind_clear : (m : Machine) (c : Course) (seen next : Seen) (k n : ℕ) (ns : List NoteNews) → k ≡ seen.next → IsCourseOf m c next → IsBehind m seen next k ns → IsClearTo m seen n → k < n → IsClearTo m next n
+behind_clear : (m : Machine) (c : Course) (seen next : Seen) (k n : ℕ) (ns : List NoteNews) → k ≡ seen.next → IsCourseOf m c next → IsSeenBehind m seen next k ns → IsClearTo m seen n → k < n → IsClearTo m next n
 behind_clear m c seen next k n ns at h is cl lt = record {
   ends = λ all w. (let o = same all w in subst (All (EndsOutside next.next n)) (sym o.2) (λ i d l. later (get_or o.0 i d) (cl.ends o.0 o.1 i d l)));
   begins = λ t whole all others s told may w e.
@@ -187,7 +187,7 @@ further_none k (news.Read end sections ∷ ns) h = absurd h
 read_none : (m : Machine) (whole : List ℕ) (ns more : List NoteNews) (k : ℕ) → IsReadNews m whole ns → AreFurther k more → tells_sections (ns ++ more) ≡ false
 read_none m whole ns more k h f = elim h [ inl e ↦ ap (λ x. tells_sections (x ++ more)) e ∙ further_none k more f | inr e ↦ ap (λ x. tells_sections (x ++ more)) e ∙ further_none k more f ]
 
-pub turn_clear : (p q : Planner) (seen : Seen) (ps : List Put) (k n : ℕ) (batches : List Batch) (note : Note) → IsPlannerOf p seen → ArePutBy p.machine seen ps → Can p k → Makes p k batches note q → IsClearTo p.machine seen n → k < n
+pub turn_clear : (p q : Planner) (seen : Seen) (ps : List Put) (k n : ℕ) (batches : List Batch) (note : Note) → IsPlannerOf p seen → ArePutBy p.machine seen ps → CanTurnPlanner p k → Makes p k batches note q → IsClearTo p.machine seen n → k < n
     → (next : Seen) × IsPlannerOf q next × IsClearTo q.machine next n × (tells_sections note.news ≡ false)
 turn_clear p q seen ps k n batches note h put can makes cl lt =
     let m = p.machine in

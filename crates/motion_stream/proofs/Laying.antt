@@ -21,9 +21,9 @@ use Rattle.motion_work.specs.Seen.{Started}
 use Rattle.motion_work.specs.Told.{Told, heard, tells_homed}
 use Rattle.motion_work.specs.Turns.{done_notes}
 use Rattle.motion_work.proofs.Putting.{begun_stay, done_stay, out_more, put_more, same_on}
-use Rattle.motion_stream.specs.Courses.{IsCourseOf, IsTold}
-use Rattle.motion_stream.specs.Motions.{Can, Hears, IsMore, IsPlannerOf, Makes, Planner, Reads, answered, begun_with, ended_in, going_with, hears_answer, read_on, with_lines, with_word}
-use Rattle.motion_stream.specs.Puts.{ArePutBy, IsBehind, IsNew, IsPutOf}
+use Rattle.motion_stream.specs.Courses.{IsCourseOf, KnowsConnecting}
+use Rattle.motion_stream.specs.Motions.{CanTurnPlanner, Hears, IsMore, IsPlannerOf, Makes, Planner, TakesText, started_until, begun_with, ended_in, going_with, hears_answer, read_on, with_lines, with_word}
+use Rattle.motion_stream.specs.Puts.{ArePutBy, IsSeenBehind, IsNew, IsPutOf}
 use Rattle.motion_stream.specs.Seen.{AreWhole, EndsBy, Going, Seen, nothing_seen}
 use Rattle.motion_stream.proofs.ByKind.{answered_board, whole_moves}
 use Rattle.motion_stream.specs.Texts.{MayBecome, ended_after, text_after}
@@ -65,7 +65,7 @@ text_kept m seen ps bytes end going more put = record {
   started = λ whole all may. put.started whole all (record { text = sooner_text seen.ended end seen.text bytes whole may.text; sections = sooner_whole m seen.told seen.next seen.begun all seen.going going more may.sections });
 }
 
-pub text_put : (p q : Planner) (seen : Seen) (ps : List Put) (bytes : List ℕ) (end : Bool) → IsPlannerOf p seen → ArePutBy p.machine seen ps → Reads p bytes end q → (going : Option Going) × IsPlannerOf q (read_on seen bytes end going) × ArePutBy q.machine (read_on seen bytes end going) ps
+pub text_put : (p q : Planner) (seen : Seen) (ps : List Put) (bytes : List ℕ) (end : Bool) → IsPlannerOf p seen → ArePutBy p.machine seen ps → TakesText p bytes end q → (going : Option Going) × IsPlannerOf q (read_on seen bytes end going) × ArePutBy q.machine (read_on seen bytes end going) ps
 text_put p q seen ps bytes end of put reads =
     let r = reads.1 seen of in
     (r.0, r.2, subst (λ m. ArePutBy m (read_on seen bytes end r.0) ps) (sym reads.0) (text_kept p.machine seen ps bytes end r.0 r.1 put))
@@ -94,7 +94,7 @@ puts_stay m text begun s k j [] new le h = tt
 puts_stay m text begun s k j (p ∷ ps) new le h = (put_stays m text begun s k j p new (omega (arith, le)) h.0, puts_stay m text begun s k (j + 1) ps new (omega (arith, le)) h.1)
 
 -- one more turn
-pub turn_kept : (m : Machine) (seen next : Seen) (ps : List Put) (k : ℕ) (batches : List Batch) (note : Note) → k ≡ seen.next → IsBehind m seen next k note.news → IsPutOf m seen next k batches note → ArePutBy m seen ps → ArePutBy m next (ps ++ record { batches = batches; note = note } ∷ [])
+pub turn_kept : (m : Machine) (seen next : Seen) (ps : List Put) (k : ℕ) (batches : List Batch) (note : Note) → k ≡ seen.next → IsSeenBehind m seen next k note.news → IsPutOf m seen next k batches note → ArePutBy m seen ps → ArePutBy m next (ps ++ record { batches = batches; note = note } ∷ [])
 turn_kept m seen next ps k batches note at is puts put =
     let p : Put = record { batches = batches; note = note } in
     let count = put.count in
@@ -120,7 +120,7 @@ turn_kept m seen next ps k batches note at is puts put =
           ];
     }
 
-pub turn_put : (p q : Planner) (seen : Seen) (ps : List Put) (k : ℕ) (batches : List Batch) (note : Note) → IsPlannerOf p seen → ArePutBy p.machine seen ps → Can p k → Makes p k batches note q → (next : Seen) × IsPlannerOf q next × ArePutBy q.machine next (ps ++ record { batches = batches; note = note } ∷ [])
+pub turn_put : (p q : Planner) (seen : Seen) (ps : List Put) (k : ℕ) (batches : List Batch) (note : Note) → IsPlannerOf p seen → ArePutBy p.machine seen ps → CanTurnPlanner p k → Makes p k batches note q → (next : Seen) × IsPlannerOf q next × ArePutBy q.machine next (ps ++ record { batches = batches; note = note } ∷ [])
 turn_put p q seen ps k batches note of put can makes =
     let t = makes.1 seen of in
     let at : k ≡ seen.next = sym can.next ∙ of.next in
@@ -140,7 +140,7 @@ heard_none m next w (Some t) going none e = absurd (some_none e) where
   some_none : Some t ≡ None → ⊥
   some_none p = cc
 
-pub none_going : (m : Machine) (c : Course) (told : Option Told) (begun : List Started) (going : Option Going) → IsTold m c told begun going → told ≡ None → going ≡ None
+pub none_going : (m : Machine) (c : Course) (told : Option Told) (begun : List Started) (going : Option Going) → KnowsConnecting m c told begun going → told ≡ None → going ≡ None
 none_going m c None begun going h e = h.2
 none_going m c (Some t) begun going h e = absurd (some_none e) where
   some_none : Some t ≡ None → ⊥
@@ -151,20 +151,20 @@ ends_home : (kind : SectionKind) (m : Machine) (next : ℕ) (x : Started) → is
 ends_home Moves m next x home end start = absurd cc
 ends_home (Home axis) m next x home end start = omega (arith, end, start)
 
-one_whole : (m : Machine) (told : Option Told) (next : ℕ) (begun all : List Started) (g : Going) (waits : Bool) → (is_home g.kind && nat_le g.start next) ≡ waits → AreWhole m told next (begun_with begun (if waits then Some (answered m next g) else None)) (going_with (Some g) (if waits then Some (answered m next g) else None)) all → (told ≡ None → ⊥)
+one_whole : (m : Machine) (told : Option Told) (next : ℕ) (begun all : List Started) (g : Going) (waits : Bool) → (is_home g.kind && nat_le g.start next) ≡ waits → AreWhole m told next (begun_with begun (if waits then Some (started_until m next g) else None)) (going_with (Some g) (if waits then Some (started_until m next g) else None)) all → (told ≡ None → ⊥)
     → AreWhole m told next begun (Some g) all
 one_whole m told next begun all g false e w on = w
 one_whole m None next begun all g true e w on = absurd (on refl)
 one_whole m (Some t) next begun all g true e w on =
     let home = both (is_home g.kind) (nat_le g.start next) e in
     let start : g.start ≤ next = elim (leb_tells g.start next) [ inl p ↦ p.1 | inr p ↦ absurd (clash (sym home.1 ∙ p.0)) ] in (
-      answered m next g,
+      started_until m next g,
       w,
       record {
         section = refl;
         moves = whole_moves g.goes g.moves;
         start = refl;
-        ends = ends_home g.kind m next (answered m next g) home.0 refl start;
+        ends = ends_home g.kind m next (started_until m next g) home.0 refl start;
         last = refl;
         moving = refl;
         same = λ b k lt below. ap (batch_at k) (answered_board m next g b lt);

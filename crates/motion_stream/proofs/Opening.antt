@@ -31,9 +31,9 @@ use Rattle.motion_work.proofs.Staying.{lines_by_all}
 use Rattle.plan_types.specs.Machines.{IsValidMachine}
 use Rattle.plan_types.specs.Sections.{clocks_at, turns_of_move, is_home}
 use Rattle.plan_types.specs.Valid.{IsValidLine, IsValidMove}
-use Rattle.gcode_program.specs.Held.{IsNear}
+use Rattle.gcode_program.specs.Held.{IsShortOrNear}
 use Rattle.section_plan.specs.Runs.{IsPlannable, IsReadyBoard, move_ns}
-use Rattle.section_stream.specs.Apart.{AreApart}
+use Rattle.section_stream.specs.Apart.{AreTurnsApart}
 use Rattle.section_feed.specs.Boards.{IsLasting}
 use Rattle.section_feed.proofs.Lasts.{kept-lasting, last-soon, lines-small}
 use Rattle.motion_work.proofs.Turning.{clocks_later, end_after, ready_more}
@@ -43,11 +43,11 @@ use Rattle.motion_stream.specs.declared.course.Open.TheVariants as opens
 use Rattle.motion_stream.specs.declared.source.Source.{Source}
 use Rattle.motion_stream.proofs.Drawing.{same_go, some_same, uptake_kept}
 use Rattle.motion_stream.proofs.Laid.{laid_later}
-use Rattle.motion_stream.specs.Courses.{AreAhead, GoesAs, IsConnected, IsCourseBy, IsCourseOf, IsEarly, IsGoing, IsIdle, IsLater, IsTold}
+use Rattle.motion_stream.specs.Courses.{AreAhead, GoesAs, IsConnected, IsCourseBy, IsCourseOf, BeginsNoEarlier, IsGoing, IsIdle, IsLater, KnowsConnecting}
 use Rattle.motion_stream.specs.Gone.{HasOpened, TellsAs}
 use Rattle.motion_stream.specs.Seen.{AreWhole, Going, Seen, count_of, items_read, sections_in}
 use Rattle.motion_stream.proofs.ByKind.{starts_late}
-use Rattle.motion_stream.specs.Steps.{AreBegun, IsBegun, IsDue, IsNotDue}
+use Rattle.motion_stream.specs.Steps.{AreBegun, IsBegun, IsSectionDue, IsNotDue}
 use Rattle.motion_stream.specs.Texts.{IsSourceOf}
 use Rattle.motion_stream.proofs.Sourcing.{waiting_good}
 
@@ -66,7 +66,7 @@ pub record IsLinked (m : Machine) (c : Course) (told : Option Told) (begun : Lis
   pub told_is : told ≡ Some t
   pub is : IsConnected m c t begun going
 
-pub linked : (m : Machine) (c : Course) (told : Option Told) (begun : List Started) (going : Option Going) → c.connected ≡ true → IsTold m c told begun going → IsLinked m c told begun going
+pub linked : (m : Machine) (c : Course) (told : Option Told) (begun : List Started) (going : Option Going) → c.connected ≡ true → KnowsConnecting m c told begun going → IsLinked m c told begun going
 linked m c None begun going on h = absurd (clash (sym on ∙ h.0))
 linked m c (Some t) begun going on h = record { t = t; told_is = refl; is = h }
 
@@ -96,7 +96,7 @@ due_in m c seen k start dwell kind rest h next nothing on its at soon =
     let l = linked m c seen.told seen.begun seen.going on h.told in
     let idle : IsIdle m c seen.begun seen.going = subst (λ o. IsGoing m o c seen.told seen.begun seen.going) nothing h.going in
     let ready : c.ready ≡ ready_after l.t.first seen.begun = l.is.ready idle.none in
-    let early : IsLater (k + 260) (k + 261) c.ready c.source.end c.source.items.items = (subst (λ o. IsEarly o (k + 260) (k + 261) c) nothing h.early) on in
+    let early : IsLater (k + 260) (k + 261) c.ready c.source.end c.source.items.items = (subst (λ o. BeginsNoEarlier o (k + 260) (k + 261) c) nothing h.early) on in
     let least : k + 260 ≤ c.ready + dwell = begin_least c.source.end (subst (IsLater (k + 260) (k + 261) c.ready c.source.end) its early) in
     let late = l.is.late in
     record {
@@ -197,7 +197,7 @@ section_begun m old new seen k start dwell last moving kind rest s homes n h nex
         source = source_on m old.source new.source seen.text seen.ended (items_read seen.begun seen.going) (items_read seen.begun (Some g)) o.reader o.end o.ended o.opened
             (ap (λ x. items_read seen.begun x ++ old.source.items.items) none ∙ ap (λ is. items_of (sections_in seen.begun) ++ is) its ∙ section_source seen.begun kind dwell start last moving opened.moves opened.ends rest new.source.items.items opened.items_are) h.source;
         read = o.read ∙ h.read;
-        told = subst (λ x. IsTold m new x seen.begun (Some g)) (sym d.told_is) (record {
+        told = subst (λ x. KnowsConnecting m new x seen.begun (Some g)) (sym d.told_is) (record {
           connected = o.connected ∙ d.is.connected;
           lines = ap (λ x. x.each.items) o.lines ∙ d.is.lines;
           ready = λ e. absurd (none_some g (sym e));
@@ -231,7 +231,7 @@ section_begun m old new seen k start dwell last moving kind rest s homes n h nex
           before = λ b. tt;
           ahead = subst (λ x. AreAhead m x.items new.next seen.begun) (sym o.ahead) (subst (λ x. AreAhead m old.ahead.items x seen.begun) (sym n') d.idle.ahead);
         });
-        early = subst (λ x. IsEarly x (new.next + 260) (new.next + 260) new) (sym current) opened.stops;
+        early = subst (λ x. BeginsNoEarlier x (new.next + 260) (new.next + 260) new) (sym current) opened.stops;
         uptake = uptake_kept old new (k + 261) (new.next + 260) seen.fresh o.connected o.lines (omega (arith, n', next)) h.uptake;
       },
     )
@@ -277,7 +277,7 @@ not_later c k None (items.End ∷ its) due l = tt
 not_later c k (Some e) (items.End ∷ its) due l = tt
 
 still_early : (o : Open) (c : Course) (k : ℕ) → (o ≡ opens.Nothing → c.connected ≡ true → (kind : SectionKind) (dwell : ℕ) (rest : List Item) → c.source.items.items ≡ items.Begin kind dwell ∷ rest → k + 260 < c.ready + dwell)
-    → IsEarly o (k + 260) (k + 261) c → IsEarly o (k + 261) (k + 261) c
+    → BeginsNoEarlier o (k + 260) (k + 261) c → BeginsNoEarlier o (k + 261) (k + 261) c
 still_early opens.Nothing c k due e = λ on. not_later c k c.source.end c.source.items.items (due refl on) (e on)
 still_early (opens.Goes s homes) c k due e = e
 
@@ -305,21 +305,21 @@ none_begun m c seen k next due h =
         place = h.place;
         few = omega (arith, few, next);
         going = h.going;
-        early = subst (λ x. IsEarly c.current x x c) (let e : k + 261 ≡ c.next + 260 = omega (arith, next) in e) (still_early c.current c k due h.early);
+        early = subst (λ x. BeginsNoEarlier c.current x x c) (let e : k + 261 ≡ c.next + 260 = omega (arith, next) in e) (still_early c.current c k due h.early);
         uptake = uptake_kept c c (k + 261) (c.next + 260) seen.fresh refl refl (omega (arith, next)) h.uptake;
       },
     )
 
 -- what holds where a section is due
-pub due_at : (m : Machine) (c : Course) (seen : Seen) (k start : ℕ) (kind : SectionKind) (d : IsDue c (k + 260) kind start) → c.next ≡ k + 1 → IsCourseBy m c seen (k + 260) (k + 261) → IsDueIn m c seen k start d.dwell kind d.rest
+pub due_at : (m : Machine) (c : Course) (seen : Seen) (k start : ℕ) (kind : SectionKind) (d : IsSectionDue c (k + 260) kind start) → c.next ≡ k + 1 → IsCourseBy m c seen (k + 260) (k + 261) → IsDueIn m c seen k start d.dwell kind d.rest
 due_at m c seen k start kind d next h = due_in m c seen k start d.dwell kind d.rest h next d.nothing d.connected d.items_are d.start_is d.soon
 
-pub due_clocks : (m : Machine) (c : Course) (seen : Seen) (k start : ℕ) (kind : SectionKind) → IsDue c (k + 260) kind start → c.next ≡ k + 1 → IsCourseBy m c seen (k + 260) (k + 261) → AreBoardClocks m c.lines.each.items start
+pub due_clocks : (m : Machine) (c : Course) (seen : Seen) (k start : ℕ) (kind : SectionKind) → IsSectionDue c (k + 260) kind start → c.next ≡ k + 1 → IsCourseBy m c seen (k + 260) (k + 261) → AreBoardClocks m c.lines.each.items start
 due_clocks m c seen k start kind d next h =
     let i = due_at m c seen k start kind d next h in
     subst (λ (x : List Clocks). AreBoardClocks m x start) (sym i.is.lines) (clocks_later m i.t.clocks i.t.first start i.first i.is.clocks)
 
-pub due_exact : (m : Machine) (c : Course) (seen : Seen) (k start : ℕ) (kind : SectionKind) → IsDue c (k + 260) kind start → c.next ≡ k + 1 → IsCourseBy m c seen (k + 260) (k + 261) → start ≡ k + 260
+pub due_exact : (m : Machine) (c : Course) (seen : Seen) (k start : ℕ) (kind : SectionKind) → IsSectionDue c (k + 260) kind start → c.next ≡ k + 1 → IsCourseBy m c seen (k + 260) (k + 261) → start ≡ k + 260
 due_exact m c seen k start kind d next h = (due_at m c seen k start kind d next h).exact
 
 pub due_good : (m : Machine) (c : Course) (seen : Seen) (turn free : ℕ) → IsCourseBy m c seen turn free → All IsGood c.source.items.items
@@ -344,7 +344,7 @@ roomy l start valid clock small =
     omega (arith, ticks, clock)
 
 -- six turns of a board have 25 ticks or more
-apart_many : (clocks : Clocks) (k n : ℕ) → 1_000_000 ≤ clocks.first.freq → AreApart clocks → clocks.first.at ≤ k * turn_ns → lines_tick clocks (k * turn_ns) + 25 * n ≤ lines_tick clocks ((k + 6 * n) * turn_ns)
+apart_many : (clocks : Clocks) (k n : ℕ) → 1_000_000 ≤ clocks.first.freq → AreTurnsApart clocks → clocks.first.at ≤ k * turn_ns → lines_tick clocks (k * turn_ns) + 25 * n ≤ lines_tick clocks ((k + 6 * n) * turn_ns)
 apart_many clocks k zero low apart begun =
     let e : k + 6 * 0 ≡ k = omega arith in
     let f = ap (λ j. lines_tick clocks (j * turn_ns)) e in
@@ -376,7 +376,7 @@ home_ready m clocks one start valid h early small good = record {
   machine = valid;
   boards = h.count;
   lines = λ b lt. record { freq = h.freq b lt; board = board_ready (clocks_at clocks b) start (h.lasting b lt (early b lt)) (h.before b lt) small };
-  short = near_short (one ∷ []) (one_all IsValidMove one good.0) (one_all IsNear one good.1);
+  short = near_short (one ∷ []) (one_all IsValidMove one good.0) (one_all IsShortOrNear one good.1);
   few = omega arith;
   some = omega arith;
   turn_small = omega (arith, small);

@@ -18,7 +18,7 @@ use Rattle.motion_work.proofs.Turning.{started_more}
 use Rattle.motion_stream.specs.declared.course.Course.{Course}
 use Rattle.motion_stream.specs.declared.course.Open.{Open}
 use Rattle.motion_stream.specs.declared.course.Open.TheVariants as opens
-use Rattle.motion_stream.specs.Courses.{IsGoing, IsGoingOn, IsTold}
+use Rattle.motion_stream.specs.Courses.{IsGoing, IsGoingOn, KnowsConnecting}
 use Rattle.motion_stream.specs.Motions.{IsPlannerOf, Planner}
 use Rattle.motion_stream.specs.Puts.{ArePutBy}
 use Rattle.motion_stream.specs.Seen.{AreWhole, Going, IsContinued, Seen, sections_in}
@@ -59,7 +59,7 @@ split_last m begun x all whole others are e =
     e ∙ ap (λ (ss : List Started). sections_in ss ++ others) are ∙ ap (λ ss. ss ++ others) (map-append (λ (y : Started). y.section) begun (x ∷ [])) ∙ append_assoc (sections_in begun) (x.section ∷ []) others
 
 -- what is known of connecting
-pub told_all : (p : Planner) (seen : Seen) (whole : List ℕ) (all : List Started) (told : Option Told) (going : Option Going) → seen.told ≡ told → seen.going ≡ going → IsPlannerOf p seen → IsTold p.machine p.course told seen.begun going → AreWhole p.machine told seen.next seen.begun going all → AreOf p.machine seen whole all
+pub told_all : (p : Planner) (seen : Seen) (whole : List ℕ) (all : List Started) (told : Option Told) (going : Option Going) → seen.told ≡ told → seen.going ≡ going → IsPlannerOf p seen → KnowsConnecting p.machine p.course told seen.begun going → AreWhole p.machine told seen.next seen.begun going all → AreOf p.machine seen whole all
     → ∥ IsToldOf p.machine told all ∥₁
 told_all p seen whole all None None et eg h c w of = merely (w ∙ c.1)
 told_all p seen whole all None (Some g) et eg h c w of = absurd w
@@ -83,7 +83,7 @@ last_sent m seen t begun x all told are w =
     let u : w.t ≡ t = some_same w.t t (sym w.told_is ∙ told) in
     subst (λ (v : Told). AreSentBy m v.clocks seen.next (x ∷ [])) u (subst (λ (y : Started). AreSentBy m w.t.clocks seen.next (y ∷ [])) same (w.sent, tt))
 
-sent_all : (p : Planner) (seen : Seen) (whole : List ℕ) (all : List Started) (told : Option Told) (going : Option Going) → seen.told ≡ told → seen.going ≡ going → IsTold p.machine p.course told seen.begun going → AreWhole p.machine told seen.next seen.begun going all → AreOf p.machine seen whole all
+sent_all : (p : Planner) (seen : Seen) (whole : List ℕ) (all : List Started) (told : Option Told) (going : Option Going) → seen.told ≡ told → seen.going ≡ going → KnowsConnecting p.machine p.course told seen.begun going → AreWhole p.machine told seen.next seen.begun going all → AreOf p.machine seen whole all
     → ∥ AreSentIn p.machine told seen.next all ∥₁
 sent_all p seen whole all None None et eg c w of = merely tt
 sent_all p seen whole all None (Some g) et eg c w of = absurd w

@@ -27,7 +27,7 @@ use Rattle.section_units.specs.Sections.{AreBefore}
 use Rattle.step_feed.specs.Pacing.{Release, at_turn, batch_at}
 use Rattle.step_feed.specs.Units.{StepUnit}
 use Rattle.motion_work.specs.Feeds.{units_at}
-use Rattle.motion_work.specs.Seen.{AreDone, IsOpen, IsPlanned, Started, lines_of}
+use Rattle.motion_work.specs.Seen.{AreDone, IsOpen, IsPlanned, Started, planning_lines}
 use Rattle.motion_work.specs.Told.{Told}
 use Rattle.motion_work.specs.Turns.{done_notes}
 use Rattle.motion_work.proofs.Turning.{done_later, end_after, other_done, ready_more, started_more}
@@ -35,10 +35,10 @@ use Rattle.motion_stream.specs.declared.course.Course.{Course}
 use Rattle.motion_stream.specs.declared.course.Open.TheVariants as opens
 use Rattle.motion_stream.proofs.Laid.{laid_later, laid_more}
 use Rattle.section_feed.proofs.Laid.{section-laid}
-use Rattle.motion_stream.specs.Courses.{AreAhead, IsConnected, IsCourseBy, IsEarly, IsGoing, IsGoingOn, IsLaid, GoesAs, MovesOn, IsTold, row_at}
+use Rattle.motion_stream.specs.Courses.{AreAhead, IsConnected, IsCourseBy, BeginsNoEarlier, IsGoing, IsGoingOn, IsLaid, GoesAs, MovesOn, KnowsConnecting, row_at}
 use Rattle.motion_stream.specs.Gone.{HasEnded, HasGivenRows, released_in}
 use Rattle.motion_stream.specs.Rows.{AreJoined, batches_of, units_in}
-use Rattle.motion_stream.specs.Motions.{answered}
+use Rattle.motion_stream.specs.Motions.{started_until}
 use Rattle.motion_stream.specs.Seen.{AreWhole, EndsBy, Going, IsContinued, Seen, count_of, items_read, moves_end}
 use Rattle.motion_stream.proofs.ByKind.{all_of, answered_board, answered_items, continued_sooner, ends_late, ends_sooner, goes_by, moves_kind, whole_moves}
 use Rattle.motion_stream.specs.Steps.{IsPassed}
@@ -80,7 +80,7 @@ not_done m k next begun g s done before is =
 -- a turn before the first one of a section
 pub before_passed : (m : Machine) (old new : Course) (s : SectionStream) (homes : Bool) (seen : Seen) (k : ℕ) (batches : List Batch) → IsGoingOn m s homes old seen.told seen.begun seen.going → IsCourseBy m old seen (k + 260) (k + 261) → IsKept old new → new.ready ≡ old.ready → new.start ≡ old.start → new.next ≡ old.next + 1
     → k ≡ old.next → old.next < 2 ^ 42 → old.next + 250 < old.start → new.ahead.items ≡ drop 1 old.ahead.items → batches ≡ batches_of (length m.boards) old.next (slice_index_or old.ahead.items 0 []) []
-    → (IsGoingOn m s homes new seen.told seen.begun seen.going → IsGoing m new.current new seen.told seen.begun seen.going) → IsEarly new.current (k + 260) (k + 261) new
+    → (IsGoingOn m s homes new seen.told seen.begun seen.going → IsGoing m new.current new seen.told seen.begun seen.going) → BeginsNoEarlier new.current (k + 260) (k + 261) new
     → (next : Seen) × IsPassed m seen next k batches None × IsCourseBy m new next (k + 260) (k + 261)
 before_passed m old new s homes seen k batches i h kept ready start next at small far ahead are goes early =
     let g = i.g in
@@ -165,7 +165,7 @@ drawn_sooner m k next g own x at c = record {
 pub drawn_passed : (m : Machine) (old new : Course) (s later : SectionStream) (homes : Bool) (own : List (List StepUnit)) (seen : Seen) (k : ℕ) (batches : List Batch) → IsGoingOn m s homes old seen.told seen.begun seen.going → IsCourseBy m old seen (k + 260) (k + 261) → IsKept old new → new.ready ≡ old.ready → new.start ≡ old.start
     → new.next ≡ old.next + 1 → k ≡ old.next → old.next < 2 ^ 42 → old.start ≤ old.next + 250 → new.ahead.items ≡ drop 1 old.ahead.items → batches ≡ batches_of (length m.boards) old.next (slice_index_or old.ahead.items 0 []) own
     → HasDrawn s later k own → All (IsPackedTo (next_of later + 251)) (boards_in later) → (homes ≡ false → IsLeft later)
-    → ((begun : List Started) (going : Option Going) → IsGoingOn m later homes new seen.told begun going → IsGoing m new.current new seen.told begun going) → IsEarly new.current (k + 260) (k + 261) new
+    → ((begun : List Started) (going : Option Going) → IsGoingOn m later homes new seen.told begun going → IsGoing m new.current new seen.told begun going) → BeginsNoEarlier new.current (k + 260) (k + 261) new
     → (next : Seen) × IsPassed m seen next k batches None × IsCourseBy m new next (k + 260) (k + 261)
 drawn_passed m old new s later homes own seen k batches i h kept ready start next at small near ahead are drawn packed left goes early =
     let g = i.g in
@@ -226,7 +226,7 @@ drawn_passed m old new s later homes own seen k batches i h kept ready start nex
           })) early,
     )
   where
-    told_more : (told : Option Told) → IsTold m old told seen.begun seen.going → IsTold m new told seen.begun (Some (going_more i.g k own))
+    told_more : (told : Option Told) → KnowsConnecting m old told seen.begun seen.going → KnowsConnecting m new told seen.begun (Some (going_more i.g k own))
     told_more None t = absurd (none_some i.g (sym t.2 ∙ i.is))
     told_more (Some t) c = record {
       connected = kept.connected ∙ c.connected;
@@ -270,7 +270,7 @@ abbrev pub going_all : Going → ℕ → List (List StepUnit) → List (List (Li
 going_all g k own rows = record { kind = g.kind; dwell = g.dwell; start = g.start; moves = g.moves; goes = g.goes; last = g.last; moving = g.moving; released = all_released g k own rows }
 
 abbrev pub closed : Machine → Going → ℕ → List (List StepUnit) → List (List (List StepUnit)) → ℕ → Started
-closed m g k own rows end = answered m end (going_all g k own rows)
+closed m g k own rows end = started_until m end (going_all g k own rows)
 
 closed_board : (m : Machine) (g : Going) (k : ℕ) (own : List (List StepUnit)) (rows : List (List (List StepUnit))) (end b : ℕ) → b < length m.boards → slice_index_or (closed m g k own rows end).boards b [] ≡ all_released g k own rows b
 closed_board m g k own rows end b lt = answered_board m end (going_all g k own rows) b lt
@@ -348,15 +348,15 @@ ended_passed m old new s later last homes own rows end seen k batches off i h ke
                   ap (λ n. units_at b n (boards_in_all begun)) e ∙ units_snoc seen.begun x b (k + 1 + j) ∙ ap (λ us. us ++ batch_at (k + 1 + j) (slice_index_or x.boards b [])) others ∙ ap (λ us. row_at (drop 1 old.ahead.items) j b ++ us) rest ∙ sym (joined.units j b lt);
             };
           }))
-          (subst (λ o. IsEarly o (k + 260) (k + 261) new) (sym nothing) (λ c. later_easy (k + 260) (k + 261) new.ready new.source.end new.source.items.items (omega (arith, ready, late)) (omega (arith, ready, late)))),
+          (subst (λ o. BeginsNoEarlier o (k + 260) (k + 261) new) (sym nothing) (λ c. later_easy (k + 260) (k + 261) new.ready new.source.end new.source.items.items (omega (arith, ready, late)) (omega (arith, ready, late)))),
     )
   where
-    connected : (told : Option Told) → told ≡ Some i.t → IsTold m old told seen.begun seen.going → IsConnected m old i.t seen.begun seen.going
+    connected : (told : Option Told) → told ≡ Some i.t → KnowsConnecting m old told seen.begun seen.going → IsConnected m old i.t seen.begun seen.going
     connected None e c = absurd (none_some i.t e)
     connected (Some u) e c = subst (λ (z : Told). IsConnected m old z seen.begun seen.going) (some_same u i.t e) c
 
     told_more : (told : Option Told) → told ≡ Some i.t → (x : Started) → x ≡ closed m i.g k own rows end → end ≡ section_end m i.t.clocks i.g.moves i.g.start → IsConnected m old i.t seen.begun seen.going → i.g.kind ≡ Moves → MovesOn m i.t.clocks old.next i.g → IsSectionOn m i.t.clocks i.g.start false later i.g.moves (more_released i.g k own) → IsSectionOn m i.t.clocks i.g.start false last i.g.moves (all_released i.g k own rows) → k + 1 ≤ end → i.g.start ≤ end → new.ready ≡ end + 260
-        → IsTold m new told (seen.begun ++ closed m i.g k own rows end ∷ []) None
+        → KnowsConnecting m new told (seen.begun ++ closed m i.g k own rows end ∷ []) None
     told_more None e x xs end_is c kind moves gives on late starts ready = absurd (none_some i.t e)
     told_more (Some u) e x xs end_is c kind moves gives on late starts ready = subst (λ (z : Told). IsConnected m new z (seen.begun ++ closed m i.g k own rows end ∷ []) None) (sym (some_same u i.t e)) (record {
       connected = kept.connected ∙ c.connected;
@@ -378,7 +378,7 @@ ended_passed m old new s later last homes own rows end seen k batches off i h ke
           })));
       sent = ∥∥₁_elim c.sent ∥∥₁_prop (λ all. ∥∥₁_map (all_of (λ b. AreSentOn m i.t.clocks i.g.moves i.g.start b (all_released i.g k own rows b)) (length m.boards)
           (λ b lt. section-sent m i.t.clocks i.g.start false last i.g.moves i.g.moves (all_released i.g k own rows) b on (whole_moves (is_taking (queue_of last)) i.g.moves) lt)) (λ each. sent_more m i.t.clocks seen.begun (closed m i.g k own rows end) all
-          (λ b lt. subst (λ z. AreSentOn m (lines_of z end i.t.clocks) i.g.moves i.g.start b (slice_index_or (closed m i.g k own rows end).boards b [])) (sym kind) (subst (AreSentOn m i.t.clocks i.g.moves i.g.start b) (sym (closed_board m i.g k own rows end b lt)) (each b lt)))));
+          (λ b lt. subst (λ z. AreSentOn m (planning_lines z end i.t.clocks) i.g.moves i.g.start b (slice_index_or (closed m i.g k own rows end).boards b [])) (sym kind) (subst (AreSentOn m i.t.clocks i.g.moves i.g.start b) (sym (closed_board m i.g k own rows end b lt)) (each b lt)))));
       clocks = c.clocks;
       laid = laid_more m i.t.clocks (new.next + 268) seen.begun (closed m i.g k own rows end) (laid_later m i.t.clocks (old.next + 268) (new.next + 268) seen.begun (omega (arith, next)) c.laid) (
           let soon = i.soon in

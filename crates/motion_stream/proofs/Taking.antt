@@ -10,7 +10,7 @@ use Rattle.plan_types.specs.Machines.{IsValidMachine}
 use Rattle.plan_types.specs.Sections.{clocks_at}
 use Rattle.gcode_program.specs.declared.items.Item.{Item}
 use Rattle.gcode_program.specs.declared.items.Item.TheVariants as items
-use Rattle.gcode_program.specs.Held.{IsNear}
+use Rattle.gcode_program.specs.Held.{IsShortOrNear}
 use Rattle.gcode_program.specs.Items.{IsGood, ending, moves_in}
 use Rattle.plan_types.specs.Valid.{IsValidMove}
 use Rattle.section_plan.specs.Runs.{IsShortMove}
@@ -64,7 +64,7 @@ same_released m clocks turn homing s moves released given same h =
 pub good_short : (one : Move) (rest : List Item) → All IsGood (items.Move one ∷ rest) → IsShortMove one
 good_short one rest h =
     let g = All-head IsGood (items.Move one) rest h in
-    All-head IsShortMove one [] (near_short (one ∷ []) (one_all IsValidMove one g.0) (one_all IsNear one g.1))
+    All-head IsShortMove one [] (near_short (one ∷ []) (one_all IsValidMove one g.0) (one_all IsShortOrNear one g.1))
   where
     one_all : (P : Move → Type 0) (x : Move) → P x → All P (x ∷ [])
     one_all P x p = All-cons P x [] p (All-nil P)

@@ -11,7 +11,7 @@ use Rattle.plan_types.specs.declared.plan.ReadEnd.{ReadEnd}
 use Rattle.plan_types.specs.Sections.{clocks_at}
 use Rattle.plan_types.specs.Lines.{Clocks}
 use Rattle.step_feed.specs.Units.{StepUnit}
-use Rattle.motion_work.specs.Begins.{listed}
+use Rattle.motion_work.specs.Begins.{news_items}
 use Rattle.motion_work.specs.Feeds.{batches_at, units_at}
 use Rattle.motion_work.specs.Puts.{IsPut, IsReadNews, begun_notes}
 use Rattle.motion_work.specs.declared.told.BoardLine.{BoardLine}
@@ -23,12 +23,12 @@ use Rattle.motion_work.proofs.Putting.{begun_before, begun_last, done_stay, same
 use Rattle.motion_stream.specs.declared.course.Course.{Course}
 use Rattle.motion_stream.specs.declared.course.Open.{Open}
 use Rattle.motion_stream.specs.declared.course.Open.TheVariants as opens
-use Rattle.motion_stream.specs.Courses.{IsCourseBy, IsCourseOf, IsEarly, IsGoing, IsSoundBy, IsTold}
-use Rattle.motion_stream.specs.Motions.{AreEarly, Turns}
+use Rattle.motion_stream.specs.Courses.{IsCourseBy, IsCourseOf, BeginsNoEarlier, IsGoing, IsSoundBy, KnowsConnecting}
+use Rattle.motion_stream.specs.Motions.{AreEarly, TurnsCourse}
 use Rattle.motion_stream.specs.News.{HasPutAll, IsPlain, begins_in, read_after, read_news}
-use Rattle.motion_stream.specs.Puts.{AreGrown, GoesOn, HaveBegun, IsNew}
+use Rattle.motion_stream.specs.Puts.{AreGrown, SectionsGoOn, HaveBegun, IsNew}
 use Rattle.motion_stream.specs.Seen.{AreWhole, Going, Seen}
-use Rattle.motion_stream.specs.Steps.{Advances, AreBegun, Begins, IsPassed}
+use Rattle.motion_stream.specs.Steps.{Advances, AreBegun, BeginsSection, IsPassed}
 use Rattle.motion_stream.specs.Uptakes.{TakesUp, emptied, lined}
 use Rattle.motion_stream.proofs.Drawing.{boards_in_all, units_snoc, uptake_kept}
 use Rattle.motion_stream.proofs.Leaving.{leaves_behind}
@@ -54,7 +54,7 @@ read_on m old new seen read e h = subst (λ c. IsCourseOf m c (record { text = s
   uptake = uptake_kept old (record old { read = read }) (old.next + 260) (old.next + 260) seen.fresh refl refl refl h.uptake;
 })
   where
-    told_as : (t : Option Told) → IsTold m old t seen.begun seen.going → IsTold m (record old { read = read }) t seen.begun seen.going
+    told_as : (t : Option Told) → KnowsConnecting m old t seen.begun seen.going → KnowsConnecting m (record old { read = read }) t seen.begun seen.going
     told_as None i = i
     told_as (Some t) i = record { connected = i.connected; lines = i.lines; ready = i.ready; started = i.started; sent = i.sent; clocks = i.clocks; laid = i.laid; first = i.first; late = i.late }
 
@@ -80,7 +80,7 @@ read_on m old new seen read e h = subst (λ c. IsCourseOf m c (record { text = s
       ahead = i.ahead;
     }
 
-    early_as : (o : Open) → IsEarly o (old.next + 260) (old.next + 260) old → IsEarly o (old.next + 260) (old.next + 260) (record old { read = read })
+    early_as : (o : Open) → BeginsNoEarlier o (old.next + 260) (old.next + 260) old → BeginsNoEarlier o (old.next + 260) (old.next + 260) (record old { read = read })
     early_as opens.Nothing i = i
     early_as (opens.Goes s homes) i = i
 
@@ -101,7 +101,7 @@ early_on m old mid seen next turn free same h k early on =
     let l = linked m mid next.told next.begun next.going on k.told in
     by seen.told h.told (sym same ∙ l.told_is) l.is.lines
   where
-    by : (told : Option Told) → IsTold m old told seen.begun seen.going → told ≡ Some (linked m mid next.told next.begun next.going on k.told).t → mid.lines.each.items ≡ (linked m mid next.told next.begun next.going on k.told).t.clocks → (b : ℕ) → b < length m.boards → (clocks_at mid.lines.each.items b).first.clock < 2 ^ 62
+    by : (told : Option Told) → KnowsConnecting m old told seen.begun seen.going → told ≡ Some (linked m mid next.told next.begun next.going on k.told).t → mid.lines.each.items ≡ (linked m mid next.told next.begun next.going on k.told).t.clocks → (b : ℕ) → b < length m.boards → (clocks_at mid.lines.each.items b).first.clock < 2 ^ 62
     by None i e lines = absurd (none_some e) where
       none_some : {X : Type 0} {x : X} → None ≡ Some x → ⊥
       none_some p = cc
@@ -110,7 +110,7 @@ early_on m old mid seen next turn free same h k early on =
       same_told p = cc
 
 -- news that tell no further line
-told_plain : (o : Option NoteNews) (ns : List NoteNews) (t : Option Told) → IsPlain o → told_on (listed o ++ ns) t ≡ told_on ns t
+told_plain : (o : Option NoteNews) (ns : List NoteNews) (t : Option Told) → IsPlain o → told_on (news_items o ++ ns) t ≡ told_on ns t
 told_plain None ns t h = refl
 told_plain (Some n) ns None h = refl
 told_plain (Some (news.Start section kind turn last moving)) ns (Some t) h = refl
@@ -118,20 +118,20 @@ told_plain (Some (news.Done section turn)) ns (Some t) h = refl
 told_plain (Some (news.Read end sections)) ns (Some t) h = absurd h
 told_plain (Some (news.Line board line from)) ns (Some t) h = absurd h
 
-heard_plain : (heard : List BoardLine) (o : Option NoteNews) (ns : List NoteNews) → IsPlain o → WereHeard heard ns → WereHeard heard (listed o ++ ns)
+heard_plain : (heard : List BoardLine) (o : Option NoteNews) (ns : List NoteNews) → IsPlain o → WereHeard heard ns → WereHeard heard (news_items o ++ ns)
 heard_plain heard None ns h w = w
 heard_plain heard (Some (news.Start section kind turn last moving)) ns h w = w
 heard_plain heard (Some (news.Done section turn)) ns h w = w
 heard_plain heard (Some (news.Read end sections)) ns h w = absurd h
 heard_plain heard (Some (news.Line board line from)) ns h w = absurd h
 
-told_reading : (told : Bool) (end : Option ReadEnd) (sections : ℕ) (ns : List NoteNews) (t : Option Told) → told_on (listed (read_news told end sections) ++ ns) t ≡ told_on ns t
+told_reading : (told : Bool) (end : Option ReadEnd) (sections : ℕ) (ns : List NoteNews) (t : Option Told) → told_on (news_items (read_news told end sections) ++ ns) t ≡ told_on ns t
 told_reading told None sections ns t = refl
 told_reading true (Some end) sections ns t = refl
 told_reading false (Some end) sections ns None = refl
 told_reading false (Some end) sections ns (Some t) = refl
 
-heard_reading : (heard : List BoardLine) (told : Bool) (end : Option ReadEnd) (sections : ℕ) (ns : List NoteNews) → WereHeard heard ns → WereHeard heard (listed (read_news told end sections) ++ ns)
+heard_reading : (heard : List BoardLine) (told : Bool) (end : Option ReadEnd) (sections : ℕ) (ns : List NoteNews) → WereHeard heard ns → WereHeard heard (news_items (read_news told end sections) ++ ns)
 heard_reading heard told None sections ns w = w
 heard_reading heard true (Some end) sections ns w = w
 heard_reading heard false (Some end) sections ns w = w
@@ -148,7 +148,7 @@ moves_both : (xs ys : List Started) → AreMoves xs → AreMoves ys → AreMoves
 moves_both [] ys a b = b
 moves_both (x ∷ xs) ys a b = (a.0, moves_both xs ys a.1 b)
 
-both_go : (k : ℕ) (a b c : List Started) (x y z : Option Going) → GoesOn k a x b y → GoesOn k b y c z → GoesOn k a x c z
+both_go : (k : ℕ) (a b c : List Started) (x y z : Option Going) → SectionsGoOn k a x b y → SectionsGoOn k b y c z → SectionsGoOn k a x c z
 both_go k a b c x y z h i = record {
   more = h.more ++ i.more;
   are = i.are ∙ ap (λ s. s ++ i.more) h.are ∙ append_assoc a h.more i.more;
@@ -161,8 +161,8 @@ both_go k a b c x y z h i = record {
 
 -- a turn
 pub turned : (m : Machine) (old first mid begun new : Course) (k : ℕ) (further : List NoteNews) (batches : List Batch) (done start : Option NoteNews) (note : Note) (read : Bool) (end : Option ReadEnd) → (end ≡ None) ⊎ ((end ≡ begun.source.end) × HasPutAll (length m.boards) begun)
-    → (HasPutAll (length m.boards) begun → end ≡ begun.source.end) → read ≡ read_after begun.read end → old.next ≡ k → IsPlain done → IsPlain start → TakesUp m old k further first → Advances m first k batches done mid → Begins m mid k start begun → new ≡ record begun { read = read } → note.turn ≡ k
-    → note.news ≡ listed done ++ (listed start ++ (listed (read_news begun.read end (begun.place + begins_in begun.source.items.items)) ++ further)) → Turns m old k batches note new
+    → (HasPutAll (length m.boards) begun → end ≡ begun.source.end) → read ≡ read_after begun.read end → old.next ≡ k → IsPlain done → IsPlain start → TakesUp m old k further first → Advances m first k batches done mid → BeginsSection m mid k start begun → new ≡ record begun { read = read } → note.turn ≡ k
+    → note.news ≡ news_items done ++ (news_items start ++ (news_items (read_news begun.read end (begun.place + begins_in begun.source.items.items)) ++ further)) → TurnsCourse m old k batches note new
 turned m old first mid begun new k further batches done start note read end known told_all after at plain_done plain_start takes passes begins new_is turn told seen h =
     let u = takes seen h in
     let a = passes (lined (emptied seen) further) u.is in
@@ -172,8 +172,8 @@ turned m old first mid begun new k further batches done start note read end know
     let p = a.1 in
     let q = b.1 in
     let behind : begun.next ≡ k + 1 = b.2.next ∙ q.next ∙ p.next ∙ ap (λ n. n + 1) (sym h.next ∙ at) in
-    let r = listed (read_news begun.read end (begun.place + begins_in begun.source.items.items)) in
-    let tail = listed start ++ (r ++ further) in
+    let r = news_items (read_news begun.read end (begun.place + begins_in begun.source.items.items)) in
+    let tail = news_items start ++ (r ++ further) in
     let same : told_on note.news seen.told ≡ told_on further seen.told =
     ap (λ ns. told_on ns seen.told) told ∙ told_plain done tail seen.told plain_done ∙ told_plain start (r ++ further) seen.told plain_start ∙ told_reading begun.read end (begun.place + begins_in begun.source.items.items) further seen.told in (
       now,
@@ -183,7 +183,7 @@ turned m old first mid begun new k further batches done start note read end know
         told = q.told ∙ p.told ∙ sym same;
         fresh = q.fresh ∙ p.fresh;
         heard = subst (WereHeard seen.fresh) (sym told) (heard_plain seen.fresh done tail plain_done (heard_plain seen.fresh start (r ++ further) plain_start (heard_reading seen.fresh begun.read end (begun.place + begins_in begun.source.items.items) further u.heard)));
-        taken = λ t is. leaves_behind m t.clocks k further note.news (listed done) (listed start) r seen.fresh told (u.taken t is);
+        taken = λ t is. leaves_behind m t.clocks k further note.news (news_items done) (news_items start) r seen.fresh told (u.taken t is);
         next = q.next ∙ p.next;
         reading = reading_told m begun seen next now k (begun.next + 260) (begun.next + 260) end note.news b.2 behind (q.text ∙ p.text) (q.ended ∙ p.ended) (b.2.read ∙ q.read ∙ p.read) refl after known told_all (tells_when done start begun.read end (begun.place + begins_in begun.source.items.items) k further note.news plain_done plain_start u.further_are told);
         sections = both_go k seen.begun a.0.begun next.begun seen.going a.0.going next.going p.sections q.sections;
@@ -197,25 +197,25 @@ turned m old first mid begun new k further batches done start note read end know
     grown_by : {a : Seen} (all : List Started) → AreBegun m a k start all → IsPassed m (lined (emptied seen) further) a k batches done → AreGrown m seen k all
     grown_by all g p = record { old = g.before; whole = whole_lined m further seen.told seen.next seen.begun g.before seen.going (p.whole g.before g.whole); are = elim g.are [ inl e ↦ inl e.0 | inr e ↦ inr (e.0, e.1, e.2.new) ] }
 
-    put_by : {a : Seen} (all : List Started) (whole : List ℕ) → AreBegun m a k start all → IsPassed m (lined (emptied seen) further) a k batches done → HaveBegun m seen k → AreFurther k further → IsReadNews m whole (listed (read_news begun.read end (begun.place + begins_in begun.source.items.items)))
-        → (listed (read_news begun.read end (begun.place + begins_in begun.source.items.items)) ≡ []) ⊎ AreOut (length m.boards) k (length (program_sections m whole)) all → IsPut m whole all k (record { batches = batches; note = note })
+    put_by : {a : Seen} (all : List Started) (whole : List ℕ) → AreBegun m a k start all → IsPassed m (lined (emptied seen) further) a k batches done → HaveBegun m seen k → AreFurther k further → IsReadNews m whole (news_items (read_news begun.read end (begun.place + begins_in begun.source.items.items)))
+        → (news_items (read_news begun.read end (begun.place + begins_in begun.source.items.items)) ≡ []) ⊎ AreOut (length m.boards) k (length (program_sections m whole)) all → IsPut m whole all k (record { batches = batches; note = note })
     put_by all whole g p started is_further is_read out =
         let before = g.before in
         let was = whole_lined m further seen.told seen.next seen.begun before seen.going (p.whole before g.whole) in
         let early : All (λ s. s.start < k + 260) before = started before was in
-        let r = listed (read_news begun.read end (begun.place + begins_in begun.source.items.items)) ++ further in
+        let r = news_items (read_news begun.read end (begun.place + begins_in begun.source.items.items)) ++ further in
         let d = p.done_is before g.whole in
         let none : begun_notes k 0 before ≡ [] = begun_before k 0 before early in
         elim g.are [
           | inl e ↦ record {
             batches_are = p.batches_are before g.whole ∙ ap (λ x. batches_at (length m.boards) k (boards_in_all x)) (sym e.0);
             turn = turn;
-            read = listed (read_news begun.read end (begun.place + begins_in begun.source.items.items));
+            read = news_items (read_news begun.read end (begun.place + begins_in begun.source.items.items));
             is_read = is_read;
             out = out;
             further = further;
             are_further = is_further;
-            news_are = told ∙ ap (λ x. x ++ (listed start ++ r)) d ∙ ap (λ x. done_notes k 0 before ++ (listed x ++ r)) e.1 ∙ ap (λ x. done_notes k 0 before ++ (x ++ r)) (sym none) ∙ ap (λ x. done_notes k 0 x ++ (begun_notes k 0 x ++ r)) (sym e.0);
+            news_are = told ∙ ap (λ x. x ++ (news_items start ++ r)) d ∙ ap (λ x. done_notes k 0 before ++ (news_items x ++ r)) e.1 ∙ ap (λ x. done_notes k 0 before ++ (x ++ r)) (sym none) ∙ ap (λ x. done_notes k 0 x ++ (begun_notes k 0 x ++ r)) (sym e.0);
           }
           | inr e ↦ (
               let s = e.0 in
@@ -227,12 +227,12 @@ turned m old first mid begun new k further batches done start note read end know
               record {
                 batches_are = p.batches_are before g.whole ∙ batches_more m k before s new ∙ ap (λ x. batches_at (length m.boards) k (boards_in_all x)) (sym e.1);
                 turn = turn;
-                read = listed (read_news begun.read end (begun.place + begins_in begun.source.items.items));
+                read = news_items (read_news begun.read end (begun.place + begins_in begun.source.items.items));
                 is_read = is_read;
                 out = out;
                 further = further;
                 are_further = is_further;
-                news_are = told ∙ ap (λ x. x ++ (listed start ++ r)) (d ∙ done_stay k 0 before s (λ x. omega (arith, x, st, late))) ∙ ap (λ x. done_notes k 0 (before ++ s ∷ []) ++ (listed x ++ r)) e.2.told
+                news_are = told ∙ ap (λ x. x ++ (news_items start ++ r)) (d ∙ done_stay k 0 before s (λ x. omega (arith, x, st, late))) ∙ ap (λ x. done_notes k 0 (before ++ s ∷ []) ++ (news_items x ++ r)) e.2.told
                     ∙ ap (λ n. done_notes k 0 (before ++ s ∷ []) ++ ((news.Start n s.section.kind s.start s.last s.moving ∷ []) ++ r)) (sym size) ∙ ap (λ x. done_notes k 0 (before ++ s ∷ []) ++ (x ++ r)) (sym last) ∙ ap (λ x. done_notes k 0 x ++ (begun_notes k 0 x ++ r)) (sym e.1);
               })
         ]

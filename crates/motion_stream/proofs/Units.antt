@@ -15,13 +15,13 @@ use Rattle.section_units.specs.Plans.{IsFrontOnBy, section_on}
 use Rattle.section_units.proofs.Fronting.{section_front, section_whole}
 use Rattle.motion_work.specs.Homes.{before_turn}
 use Rattle.motion_work.specs.Puts.{ArePut, IsPut, Put}
-use Rattle.motion_work.specs.Seen.{AreOut, AreSentBy, AreStarted, IsPlanned, Started, lines_of}
+use Rattle.motion_work.specs.Seen.{AreOut, AreSentBy, AreStarted, IsPlanned, Started, planning_lines}
 use Rattle.motion_work.specs.Told.{Told}
 use Rattle.motion_work.specs.Further.{told_on}
 use Rattle.motion_work.proofs.Feeding.{at_before}
 use Rattle.motion_work.proofs.Sending.{cut_front}
 use Rattle.motion_stream.specs.Courses.{IsCourseOf}
-use Rattle.motion_stream.specs.Motions.{Can, IsPlannerOf, Makes, Planner}
+use Rattle.motion_stream.specs.Motions.{CanTurnPlanner, IsPlannerOf, Makes, Planner}
 use Rattle.motion_stream.specs.Puts.{ArePutBy}
 use Rattle.motion_stream.specs.News.{tells_read}
 use Rattle.motion_stream.specs.Seen.{Seen}
@@ -32,10 +32,10 @@ use Rattle.motion_stream.proofs.Laying.{turn_kept}
 use Rattle.motion_stream.proofs.Planning.{are_planned}
 
 -- what a planned section releases on a board are the first units of its plan
-planned_front : (kind : SectionKind) (m : Machine) (clocks : List Clocks) (s : Started) (b : ℕ) → b < length m.boards → IsPlanned kind m clocks s → IsFrontOnBy (is_home kind) m (lines_of kind s.end clocks) s.section.moves s.start b (get_or s.boards b [])
+planned_front : (kind : SectionKind) (m : Machine) (clocks : List Clocks) (s : Started) (b : ℕ) → b < length m.boards → IsPlanned kind m clocks s → IsFrontOnBy (is_home kind) m (planning_lines kind s.end clocks) s.section.moves s.start b (get_or s.boards b [])
 planned_front Moves m clocks s b there h = section_whole false (clocks_at clocks b) (board_at m b).freq (board_at m b).slots (section_on m clocks s.section.moves s.start b (get_or s.boards b [])) (h.boards.each b there)
 planned_front (Home axis) m clocks s b there h =
-    let known = lines_of (Home axis) s.end clocks in
+    let known = planning_lines (Home axis) s.end clocks in
     let moves = s.section.moves in
     let rs = get_or h.planned b [] in
     let whole = section_whole true (clocks_at known b) (board_at m b).freq (board_at m b).slots (section_on m known moves s.start b rs) (h.are.each b there) in
@@ -53,7 +53,7 @@ planned_front (Home axis) m clocks s b there h =
 units_by : (m : Machine) (clocks : List Clocks) (turn ready : ℕ) (begun : List Started) → AreStarted m clocks ready begun → AreSentBy m clocks turn begun → HaveUnits m clocks turn begun
 units_by m clocks turn ready [] started sent = tt
 units_by m clocks turn ready (s ∷ begun) started sent =
-    let lines = lines_of s.section.kind s.end clocks in (
+    let lines = planning_lines s.section.kind s.end clocks in (
       λ b there.
           let x = sent.0 b there in
           let all = planned_front s.section.kind m clocks s b there started.0.planned in
@@ -89,7 +89,7 @@ turn_of m next whole told k ps p all is at count h = record {
 }
 
 -- a turn
-pub turn_told : (p q : Planner) (seen : Seen) (ps : List Put) (k : ℕ) (batches : List Batch) (note : Note) (whole : List ℕ) → IsPlannerOf p seen → ArePutBy p.machine seen ps → Can p k → Makes p k batches note q → MayBecome seen.ended seen.text whole
+pub turn_told : (p q : Planner) (seen : Seen) (ps : List Put) (k : ℕ) (batches : List Batch) (note : Note) (whole : List ℕ) → IsPlannerOf p seen → ArePutBy p.machine seen ps → CanTurnPlanner p k → Makes p k batches note q → MayBecome seen.ended seen.text whole
     → ∥ ((begun : List Started) × IsTurnOf q.machine whole (told_on note.news seen.told) k begun (record { batches = batches; note = note })) ∥₁
 turn_told p q seen ps k batches note whole of put can makes may =
     let one : Put = record { batches = batches; note = note } in

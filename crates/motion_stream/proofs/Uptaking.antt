@@ -35,7 +35,7 @@ use Rattle.section_feed.proofs.Taken.{steps-before}
 use Rattle.section_units.specs.Plans.{AreSentOn}
 use Rattle.motion_work.specs.declared.told.BoardLine.{BoardLine}
 use Rattle.motion_work.specs.Further.{AreFurther, WasHeard, WereHeard, noted_lines, told_on}
-use Rattle.motion_work.specs.Seen.{AreAllSent, AreBoardClocks, AreDone, AreStarted, IsPlanned, Started, lines_of, ready_after}
+use Rattle.motion_work.specs.Seen.{AreAllSent, AreBoardClocks, AreDone, AreStarted, IsPlanned, Started, planning_lines, ready_after}
 use Rattle.motion_work.specs.Told.{Told}
 use Rattle.motion_work.proofs.Staying.{homed_stays, lines_by_added}
 use Rattle.motion_work.specs.Known.{AreHeldBy}
@@ -43,7 +43,7 @@ use Rattle.motion_stream.specs.declared.course.BoardLines.{BoardLines}
 use Rattle.motion_stream.specs.declared.course.Course.{Course}
 use Rattle.motion_stream.specs.declared.course.Open.{Open}
 use Rattle.motion_stream.specs.declared.course.Open.TheVariants as opens
-use Rattle.motion_stream.specs.Courses.{AreAhead, AreLaid, IsConnected, GoesAs, IsCourseBy, IsCourseOf, IsEarly, IsGoing, IsGoingOn, IsSoundBy, IsTold, IsUptake}
+use Rattle.motion_stream.specs.Courses.{AreAhead, AreLaid, IsConnected, GoesAs, IsCourseBy, IsCourseOf, BeginsNoEarlier, IsGoing, IsGoingOn, IsSoundBy, KnowsConnecting, IsUptake}
 use Rattle.motion_stream.specs.Motions.{AreEarly}
 use Rattle.motion_stream.specs.Seen.{Seen}
 use Rattle.motion_stream.proofs.ByKind.{goes_beside, goes_lined}
@@ -110,7 +110,7 @@ begun_stay m clocks ready b turn line (s ∷ begun) inside lasting may ends all 
 )
 
 one_sent : (kind : SectionKind) (m : Machine) (clocks : List Clocks) (s : Started) (b turn k : ℕ) (line : Line) → b < length clocks → IsLasting (clocks_at clocks b) → MayTake (clocks_at clocks b) turn line → EndsBy kind m clocks turn s
-    → AreSentOn m (lines_of kind s.end clocks) s.section.moves s.start k (slice_index_or s.boards k []) → AreSentOn m (lines_of kind s.end (line_at clocks b turn line)) s.section.moves s.start k (slice_index_or s.boards k [])
+    → AreSentOn m (planning_lines kind s.end clocks) s.section.moves s.start k (slice_index_or s.boards k []) → AreSentOn m (planning_lines kind s.end (line_at clocks b turn line)) s.section.moves s.start k (slice_index_or s.boards k [])
 one_sent Moves m clocks s b turn k line inside lasting may low sent =
     let before = steps-before m clocks s.section.moves s.start b turn (kept-lasting (clocks_at clocks b) lasting) low.1 in
     all-sent-stays m clocks s.section.moves s.start b turn k line _ inside low.0 lasting may before sent
@@ -260,12 +260,12 @@ line_taken m old now lines seen heard_of k b turn line before h at is on early l
               all_held old.lines.each.items b turn (k + 261 + 16) line (omega (arith, long, lt)) (omega (arith, is)) h.uptake.held a (omega (arith, low, size))));
         }
 
-    told_by : IsTold m new (told_on more seen.told) seen.begun seen.going
+    told_by : KnowsConnecting m new (told_on more seen.told) seen.begun seen.going
     told_by =
-        subst (λ (x : Option Told). IsTold m new x seen.begun seen.going) (sym (told_later m old new seen k b turn line h at is on lt early may b (turn * turn_ns) refl refl))
+        subst (λ (x : Option Told). KnowsConnecting m new x seen.begun seen.going) (sym (told_later m old new seen k b turn line h at is on lt early may b (turn * turn_ns) refl refl))
         (connected m old new seen k b turn line h at is on lt early may refl each refl refl)
 
-    made : IsGoing m now new (told_on more seen.told) seen.begun seen.going → IsEarly now (k + 260) (k + 261) new → HasTold m seen heard_of k before (before ++ more) new
+    made : IsGoing m now new (told_on more seen.told) seen.begun seen.going → BeginsNoEarlier now (k + 260) (k + 261) new → HasTold m seen heard_of k before (before ++ more) new
     made goes soon = record {
       more = more;
       are = refl;
@@ -286,17 +286,17 @@ line_taken m old now lines seen heard_of k b turn line before h at is on early l
       };
     }
 
-    by : (o : Open) → old.current ≡ o → IsGoing m o old seen.told seen.begun seen.going → AddsTo b turn line o now → IsEarly o (k + 260) (k + 261) old → HasTold m seen heard_of k before (before ++ more) new
+    by : (o : Open) → old.current ≡ o → IsGoing m o old seen.told seen.begun seen.going → AddsTo b turn line o now → BeginsNoEarlier o (k + 260) (k + 261) old → HasTold m seen heard_of k before (before ++ more) new
     by opens.Nothing e i a soon =
         made
         (subst (λ (x : Open). IsGoing m x new (told_on more seen.told) seen.begun seen.going) (sym a) (record { none = i.none; goes = i.goes; ahead = i.ahead }))
-        (subst (λ (x : Open). IsEarly x (k + 260) (k + 261) new) (sym a) soon)
+        (subst (λ (x : Open). BeginsNoEarlier x (k + 260) (k + 261) new) (sym a) soon)
     by (opens.Goes s homes) e i a soon =
         let s' = a.0 in
         made
         (subst (λ (x : Open). IsGoing m x new (told_on more seen.told) seen.begun seen.going) (sym a.1)
         (going_on m old new seen k b turn line h at is on lt early may s s' homes (told_on more seen.told) (told_later m old new seen k b turn line h at is on lt early may b (turn * turn_ns) refl refl) i a.2 refl refl refl))
-        (subst (λ (x : Open). IsEarly x (k + 260) (k + 261) new) (sym a.1) (λ takes. soon (ap is_taking (sym a.2.queue) ∙ takes)))
+        (subst (λ (x : Open). BeginsNoEarlier x (k + 260) (k + 261) new) (sym a.1) (λ takes. soon (ap is_taking (sym a.2.queue) ∙ takes)))
 
 -- what may be asked of what goes on
 pub may_add_to : (m : Machine) (c : Course) (seen : Seen) (k b turn : ℕ) (line : Line) → IsCourseBy m c seen (k + 260) (k + 261) → c.next ≡ k → turn ≡ k + 277 → c.connected ≡ true → AreEarly m c → b < length m.boards → MayTake (clocks_at c.lines.each.items b) turn line → MayAddTo c.current b turn line
@@ -353,7 +353,7 @@ pub none_lost : (m : Machine) (c : Course) (seen : Seen) (turn free k : ℕ) (ns
 none_lost m c seen turn free k ns t h is all =
     subst (All (IsNotLost m t.clocks k ns)) h.uptake.waiting (subst (λ (cs : List Clocks). All (IsNotLost m cs k ns) c.lines.waiting.items) (by seen.told h.told is) all)
   where
-    by : (o : Option Told) → IsTold m c o seen.begun seen.going → o ≡ Some t → c.lines.each.items ≡ t.clocks
+    by : (o : Option Told) → KnowsConnecting m c o seen.begun seen.going → o ≡ Some t → c.lines.each.items ≡ t.clocks
     by None i e = absurd (none_some t e)
     by (Some u) i e = i.lines ∙ ap (λ (x : Told). x.clocks) (some_same u t e)
 

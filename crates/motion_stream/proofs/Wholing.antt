@@ -9,7 +9,7 @@ use Rattle.text_core.specs.Lines.{lines_of}
 use Rattle.gcode_program.specs.declared.items.Item.{Item}
 use Rattle.gcode_program.specs.declared.items.Item.TheVariants as items
 use Rattle.gcode_program.specs.Items.{ending, items_in, items_of, moves_in}
-use Rattle.gcode_program.specs.Held.{ArePlannable, IsNear}
+use Rattle.gcode_program.specs.Held.{ArePlannable, IsShortOrNear}
 use Rattle.gcode_program.specs.Programs.{program_sections}
 use Rattle.gcode_program.specs.Readers.{section_with}
 use Rattle.gcode_program.proofs.Lining.{told_first}
@@ -33,7 +33,7 @@ use Rattle.section_stream.specs.Looking.{IsFuture}
 use Rattle.step_feed.specs.Pacing.{Release}
 use Rattle.motion_work.specs.Homes.{last_step, moving_in, no_end}
 use Rattle.section_units.specs.Plans.{AreOnBoardsBy, AreSentToOn}
-use Rattle.motion_work.specs.Seen.{IsHomed, IsMoved, IsPlanned, Started, lines_of as kind_lines}
+use Rattle.motion_work.specs.Seen.{IsHomed, IsMoved, IsPlanned, Started, planning_lines as kind_lines}
 use Rattle.motion_work.specs.Known.{AreHeldBy, lines_by}
 use Rattle.motion_work.specs.Told.{Told}
 use Rattle.motion_work.proofs.Homing.{near_short}
@@ -43,7 +43,7 @@ use Rattle.motion_stream.specs.declared.course.Course.{Course}
 use Rattle.motion_stream.specs.declared.course.Open.{Open}
 use Rattle.motion_stream.specs.declared.course.Open.TheVariants as opens
 use Rattle.motion_stream.specs.declared.source.Source.{Source}
-use Rattle.motion_stream.specs.Courses.{GoesAs, IsCourseOf, IsGoing, IsGoingOn, IsTold}
+use Rattle.motion_stream.specs.Courses.{GoesAs, IsCourseOf, IsGoing, IsGoingOn, KnowsConnecting}
 use Rattle.motion_stream.specs.Motions.{IsPlannerOf, Planner}
 use Rattle.motion_stream.specs.Seen.{AreWhole, EndsBy, Going, Seen, items_read, moves_end, sections_in}
 use Rattle.motion_stream.proofs.ByKind.{can}
@@ -112,7 +112,7 @@ known_end m clocks start dwell moves whole past later valid split may =
     let all : ArePlannable (past ++ one ∷ later) = subst ArePlannable split (sections_plannable m whole valid) in
     let few : length moves ≤ 2_000_000 = at_place (λ (y : Section). length y.moves ≤ 2_000_000) past one later all.few in
     let good : All IsValidMove moves = at_place (λ (y : Section). All IsValidMove y.moves) past one later all.valid in
-    let near : All IsNear moves = at_place (λ (y : Section). All IsNear y.moves) past one later all.near in
+    let near : All IsShortOrNear moves = at_place (λ (y : Section). All IsShortOrNear y.moves) past one later all.near in
     let soon = section_known m clocks moves start valid may (near_short moves good near) few in
     omega (arith, soon)
 
@@ -217,7 +217,7 @@ by_going m (opens.Goes s homes) c seen (Some g) whole e i at small held may rest
 all_taken : (m : Machine) (c : Course) (seen : Seen) (t : Told) → seen.told ≡ Some t → IsCourseOf m c seen → map (lines_by (no_end + 276)) t.clocks ≡ t.clocks
 all_taken m c seen t told h = by seen.told told h.told
   where
-    by : (o : Option Told) → o ≡ Some t → IsTold m c o seen.begun seen.going → map (lines_by (no_end + 276)) t.clocks ≡ t.clocks
+    by : (o : Option Told) → o ≡ Some t → KnowsConnecting m c o seen.begun seen.going → map (lines_by (no_end + 276)) t.clocks ≡ t.clocks
     by None e i = absurd cc
     by (Some u) e i =
         let small = h.small in

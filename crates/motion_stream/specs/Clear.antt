@@ -16,7 +16,7 @@ use Rattle.motion_work.specs.Told.{Told}
 use Rattle.motion_stream.specs.declared.course.Course.{Course}
 use Rattle.motion_stream.specs.declared.course.Open.{Open}
 use Rattle.motion_stream.specs.declared.course.Open.TheVariants as opens
-use Rattle.motion_stream.specs.Motions.{is_none_left}
+use Rattle.motion_stream.specs.Motions.{is_nothing_left}
 use Rattle.motion_stream.specs.Seen.{AreWhole, Seen, sections_in}
 use Rattle.motion_stream.specs.Texts.{MayBecome}
 
@@ -39,7 +39,7 @@ abbrev pub idle_clear : Course → ℕ
 idle_clear c =
     if c.goes then c.ready - 260
     else (if c.connected
-    then (if (is_none_left c.source.items.items && is_some c.source.end) && c.read then never
+    then (if (is_nothing_left c.source.items.items && is_some c.source.end) && c.read then never
     else max (next_begin c.ready c.source.items.items) c.next)
     else c.next)
 

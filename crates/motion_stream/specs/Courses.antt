@@ -116,9 +116,9 @@ pub record IsConnected (m : Machine) (c : Course) (t : Told) (begun : List Start
   pub late : t.first ≤ ready_after t.first begun
 
 -- what a machine knows of connecting, and the sections that it begun
-abbrev pub IsTold : Machine → Course → Option Told → List Started → Option Going → Type 0
-IsTold m c None begun going = (c.connected ≡ false) × (begun ≡ []) × (going ≡ None)
-IsTold m c (Some t) begun going = IsConnected m c t begun going
+abbrev pub KnowsConnecting : Machine → Course → Option Told → List Started → Option Going → Type 0
+KnowsConnecting m c None begun going = (c.connected ≡ false) × (begun ≡ []) × (going ≡ None)
+KnowsConnecting m c (Some t) begun going = IsConnected m c t begun going
 
 -- The next section does not start before a turn: before one where it has begun in the text, and before
 -- another where it has not, and still may.
@@ -135,9 +135,10 @@ IsStopped (items.Begin kind dwell ∷ rest) = Unit {0}
 IsStopped (other ∷ rest) = ⊥
 
 -- So it is where no section goes on. One that goes on, and may have more moves, has taken all of its own that was read.
-abbrev pub IsEarly : Open → ℕ → ℕ → Course → Type 0
-IsEarly opens.Nothing turn free c = c.connected ≡ true → IsLater turn free c.ready c.source.end c.source.items.items
-IsEarly (opens.Goes s homes) turn free c = is_taking (queue_of s) ≡ true → IsStopped c.source.items.items
+abbrev pub BeginsNoEarlier : Open → ℕ → ℕ → Course → Type 0
+BeginsNoEarlier opens.Nothing turn free c = c.connected ≡ true →
+    IsLater turn free c.ready c.source.end c.source.items.items
+BeginsNoEarlier (opens.Goes s homes) turn free c = is_taking (queue_of s) ≡ true → IsStopped c.source.items.items
 
 -- The further lines that wait are those that words told since the last turn; none waits before connecting
 -- ended; and each that was taken up holds by 16 turns behind another.
@@ -151,13 +152,13 @@ pub record IsCourseBy (m : Machine) (c : Course) (seen : Seen) (turn free : ℕ)
   pub machine : IsValidMachine m
   pub source : IsSourceOf m c.source seen.text seen.ended (items_read seen.begun seen.going)
   pub read : c.read ≡ seen.read
-  pub told : IsTold m c seen.told seen.begun seen.going
+  pub told : KnowsConnecting m c seen.told seen.begun seen.going
   pub next : c.next ≡ seen.next
   pub small : c.next ≤ 2 ^ 42
   pub place : c.place ≡ count_of seen.begun seen.going
   pub few : c.place + 260 ≤ turn
   pub going : IsGoing m c.current c seen.told seen.begun seen.going
-  pub early : IsEarly c.current turn free c
+  pub early : BeginsNoEarlier c.current turn free c
   pub uptake : IsUptake c free seen.fresh
 
 -- a machine has seen this
@@ -165,7 +166,7 @@ abbrev pub IsCourseOf : Machine → Course → Seen → Type 0
 IsCourseOf m c seen = IsCourseBy m c seen (c.next + 260) (c.next + 260)
 
 -- there is what it has seen
-pub record IsSound (m : Machine) (c : Course) : Type 0 where
+pub record IsSoundCourse (m : Machine) (c : Course) : Type 0 where
   pub seen : Seen
   pub is : IsCourseOf m c seen
 

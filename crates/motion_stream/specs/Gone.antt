@@ -16,7 +16,7 @@ use Rattle.plan_types.specs.declared.plan.SectionKind.{SectionKind}
 use Rattle.plan_types.specs.declared.plan.SectionKind.TheVariants.{Home, Moves}
 use Rattle.plan_types.specs.Machines.{IsValidMachine}
 use Rattle.plan_types.specs.Sections.{clocks_at, is_home}
-use Rattle.section_feed.specs.AllBoards.{ArePast, AreReleased, last_of}
+use Rattle.section_feed.specs.AllBoards.{ArePast, AreReleased, latest_packed}
 use Rattle.section_feed.specs.Queues.{IsDrawn, drawn_to, is_taking}
 use Rattle.section_feed.specs.Sections.{boards_in, next_of, queue_of}
 use Rattle.step_feed.specs.Pacing.{Release, at_turn}
@@ -100,5 +100,5 @@ pub record HasEnded (s : SectionStream) (end : ℕ) : Type 0 where
   pub drawn : IsDrawn (queue_of s)
   pub released : AreReleased (boards_in s)
   pub past : ArePast end (boards_in s)
-  pub value : end ≡ max (drawn_to (queue_of s) / turn_ns) (last_of (boards_in s))
+  pub value : end ≡ max (drawn_to (queue_of s) / turn_ns) (latest_packed (boards_in s))
   pub small : end < no_end

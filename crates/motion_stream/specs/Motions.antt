@@ -20,7 +20,7 @@ use Rattle.motion_stream.specs.declared.course.Course.{Course}
 use Rattle.motion_stream.specs.declared.course.Open.{Open}
 use Rattle.motion_stream.specs.declared.course.Open.TheVariants as opens
 use Rattle.motion_stream.specs.Courses.{IsCourseOf}
-use Rattle.motion_stream.specs.Puts.{IsBehind, IsPutOf}
+use Rattle.motion_stream.specs.Puts.{IsSeenBehind, IsPutOf}
 use Rattle.motion_stream.specs.Seen.{Going, Seen}
 use Rattle.motion_stream.specs.Texts.{ended_after, text_after}
 
@@ -47,15 +47,15 @@ wants p k =
     else Some k
 
 -- nothing waits
-abbrev pub is_none_left : List Item → Bool
-is_none_left [] = true
-is_none_left (i ∷ is) = false
+abbrev pub is_nothing_left : List Item → Bool
+is_nothing_left [] = true
+is_nothing_left (i ∷ is) = false
 
 -- Of what is needed for turn k something is not read: of a section that goes on the moves that are settled
 -- end before turn k + 261; or the next section has not begun in the text, and may start by turn k + 260.
 abbrev pub lacks : Course → Open → ℕ → Bool
 lacks c (opens.Goes s homes) k = is_taking (queue_of s) && nat_lt (settled_to (queue_of s)) ((k + 261) * turn_ns)
-lacks c opens.Nothing k = c.connected && is_none_left c.source.items.items && nat_lt c.ready (k + 261)
+lacks c opens.Nothing k = c.connected && is_nothing_left c.source.items.items && nat_lt c.ready (k + 261)
 
 -- It needs more of the text before the batches of turn k: the first piece, and else as long as it is not
 -- known how the text is read and something is lacking.
@@ -72,7 +72,7 @@ AreEarly m c =
     c.connected ≡ true → (b : ℕ) → b < length m.boards → (clocks_at c.lines.each.items b).first.clock < 2 ^ 62
 
 -- turn k is its next one, and nothing in it passes a limit
-pub record Can (p : Planner) (k : ℕ) : Type 0 where
+pub record CanTurnPlanner (p : Planner) (k : ℕ) : Type 0 where
   pub next : p.course.next ≡ k
   pub small : k < 2 ^ 42
   pub early : AreEarly p.machine p.course
@@ -123,8 +123,8 @@ with_lines m seen w = record {
 
 -- A section that goes on as it is where it ends in a turn: it has the moves that were read and the units that
 -- were released.
-abbrev pub answered : Machine → ℕ → Going → Started
-answered m next g = record {
+abbrev pub started_until : Machine → ℕ → Going → Started
+started_until m next g = record {
   section = section_with g.kind g.moves g.dwell;
   start = g.start;
   end = next;
@@ -137,7 +137,7 @@ answered m next g = record {
 -- where it homes and has started. Else the answer is passed over.
 abbrev pub hears_answer : Machine → ℕ → Option Going → Option Started
 hears_answer m next None = None
-hears_answer m next (Some g) = if is_home g.kind && nat_le g.start next then Some (answered m next g) else None
+hears_answer m next (Some g) = if is_home g.kind && nat_le g.start next then Some (started_until m next g) else None
 
 -- the sections that are known whole, and the one that goes on, behind that
 abbrev pub begun_with : List Started → Option Started → List Started
@@ -200,18 +200,19 @@ Hears old w new =
     × ((seen : Seen) → IsPlannerOf old seen → IsPlannerOf new (with_word old.machine seen w))
 
 -- it takes a piece of the text
-abbrev pub Reads : Planner → List ℕ → Bool → Planner → Type 0
-Reads old bytes end new =
+abbrev pub TakesText : Planner → List ℕ → Bool → Planner → Type 0
+TakesText old bytes end new =
     (new.machine ≡ old.machine)
     × ((seen : Seen) → IsPlannerOf old seen →
     (going : Option Going) × IsMore seen.going going × IsPlannerOf new (read_on seen bytes end going))
 
 -- a turn from what was seen
-abbrev pub Turns : Machine → Course → ℕ → List Batch → Note → Course → Type 0
-Turns m old k batches note new =
+abbrev pub TurnsCourse : Machine → Course → ℕ → List Batch → Note → Course → Type 0
+TurnsCourse m old k batches note new =
     (seen : Seen) → IsCourseOf m old seen →
-    (next : Seen) × IsBehind m seen next k note.news × IsPutOf m seen next k batches note × IsCourseOf m new next
+    (next : Seen) × IsSeenBehind m seen next k note.news × IsPutOf m seen next k batches note × IsCourseOf m new next
 
 -- it makes turn k
 abbrev pub Makes : Planner → ℕ → List Batch → Note → Planner → Type 0
-Makes old k batches note new = (new.machine ≡ old.machine) × Turns old.machine old.course k batches note new.course
+Makes old k batches note new = (new.machine ≡ old.machine)
+    × TurnsCourse old.machine old.course k batches note new.course

@@ -31,7 +31,7 @@ pub record IsNew (m : Machine) (k : ℕ) (s : Started) : Type 0 where
 
 -- What comes to the sections that were begun, and to the one that goes on behind them, in turn k: some of
 -- moves come to be known whole; and one that goes on then did so before, or is begun in the turn.
-pub record GoesOn (k : ℕ) (begun : List Started) (going : Option Going) (after : List Started) (on : Option Going)
+pub record SectionsGoOn (k : ℕ) (begun : List Started) (going : Option Going) (after : List Started) (on : Option Going)
     : Type 0 where
   pub more : List Started
   pub are : after ≡ begun ++ more
@@ -59,7 +59,7 @@ pub record TellsReading (m : Machine) (old new : Seen) (k : ℕ) (news : List No
 -- have been begun, and more was released. Further clock lines that the news tell hold; words told them since
 -- the turn before. Of each board of which one was told since then that it may have, one is taken up. How the
 -- text was read is told in its turn.
-pub record IsBehind (m : Machine) (old new : Seen) (k : ℕ) (news : List NoteNews) : Type 0 where
+pub record IsSeenBehind (m : Machine) (old new : Seen) (k : ℕ) (news : List NoteNews) : Type 0 where
   pub text : new.text ≡ old.text
   pub ended : new.ended ≡ old.ended
   pub told : new.told ≡ told_on news old.told
@@ -67,7 +67,7 @@ pub record IsBehind (m : Machine) (old new : Seen) (k : ℕ) (news : List NoteNe
   pub heard : WereHeard old.fresh news
   pub taken : (t : Told) → old.told ≡ Some t → All (IsNotLost m t.clocks k news) old.fresh
   pub next : new.next ≡ old.next + 1
-  pub sections : GoesOn k old.begun old.going new.begun new.going
+  pub sections : SectionsGoOn k old.begun old.going new.begun new.going
   pub reading : TellsReading m old new k news
   pub grown : (all : List Started) → AreWhole m new.told new.next new.begun new.going all → AreGrown m old k all
 

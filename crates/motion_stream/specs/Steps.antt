@@ -8,14 +8,14 @@ use Rattle.msg_code.specs.declared.talk.NoteNews.TheVariants as news
 use Rattle.msg_code.specs.declared.unit.Batch.{Batch}
 use Rattle.plan_types.specs.declared.machine.Machine.{Machine}
 use Rattle.step_feed.specs.Units.{StepUnit}
-use Rattle.motion_work.specs.Begins.{listed}
+use Rattle.motion_work.specs.Begins.{news_items}
 use Rattle.motion_work.specs.Feeds.{batches_at}
 use Rattle.motion_work.specs.Seen.{Started}
 use Rattle.motion_work.specs.Turns.{done_notes}
 use Rattle.motion_stream.specs.declared.course.Course.{Course}
 use Rattle.motion_stream.specs.declared.course.Open.TheVariants as opens
 use Rattle.motion_stream.specs.Courses.{IsCourseBy, IsCourseOf}
-use Rattle.motion_stream.specs.Puts.{GoesOn, IsNew}
+use Rattle.motion_stream.specs.Puts.{SectionsGoOn, IsNew}
 use Rattle.motion_stream.specs.Rows.{batches_of}
 use Rattle.motion_stream.specs.Seen.{AreWhole, Seen}
 
@@ -40,13 +40,13 @@ pub record IsPassed (m : Machine) (old new : Seen) (k : ℕ) (batches : List Bat
   pub told : new.told ≡ old.told
   pub fresh : new.fresh ≡ old.fresh
   pub next : new.next ≡ old.next + 1
-  pub sections : GoesOn k old.begun old.going new.begun new.going
+  pub sections : SectionsGoOn k old.begun old.going new.begun new.going
   pub whole : (all : List Started) → AreWhole m new.told new.next new.begun new.going all →
       AreWhole m old.told old.next old.begun old.going all
   pub batches_are : (all : List Started) → AreWhole m new.told new.next new.begun new.going all →
       batches ≡ batches_at (length m.boards) k (map (λ s. s.boards) all)
   pub done_is : (all : List Started) → AreWhole m new.told new.next new.begun new.going all →
-      listed done ≡ done_notes k 0 all
+      news_items done ≡ done_notes k 0 all
 
 -- a machine lets turn k go by
 abbrev pub Advances : Machine → Course → ℕ → List Batch → Option NoteNews → Course → Type 0
@@ -55,7 +55,7 @@ Advances m old k batches done new =
     (next : Seen) × IsPassed m seen next k batches done × IsCourseBy m new next (k + 260) (k + 261)
 
 -- the next section has begun in the text, is of a kind, and starts in a turn, which is not behind another
-pub record IsDue (c : Course) (turn : ℕ) (kind : SectionKind) (start : ℕ) : Type 0 where
+pub record IsSectionDue (c : Course) (turn : ℕ) (kind : SectionKind) (start : ℕ) : Type 0 where
   pub nothing : c.current ≡ opens.Nothing
   pub connected : c.connected ≡ true
   pub dwell : ℕ
@@ -90,11 +90,11 @@ pub record IsBegun (m : Machine) (old new : Seen) (k : ℕ) (start : Option Note
   pub told : new.told ≡ old.told
   pub fresh : new.fresh ≡ old.fresh
   pub next : new.next ≡ old.next
-  pub sections : GoesOn k old.begun old.going new.begun new.going
+  pub sections : SectionsGoOn k old.begun old.going new.begun new.going
   pub grown : (all : List Started) → AreWhole m new.told new.next new.begun new.going all → AreBegun m old k start all
 
 -- a machine begins the next section, where that is due in turn k
-abbrev pub Begins : Machine → Course → ℕ → Option NoteNews → Course → Type 0
-Begins m old k start new =
+abbrev pub BeginsSection : Machine → Course → ℕ → Option NoteNews → Course → Type 0
+BeginsSection m old k start new =
     (seen : Seen) → IsCourseBy m old seen (k + 260) (k + 261) →
     (next : Seen) × IsBegun m seen next k start × IsCourseOf m new next

@@ -8,7 +8,7 @@ use Rattle.plan_types.specs.Lines.{Clocks}
 use Rattle.step_feed.specs.Pacing.{Release}
 use Rattle.section_units.specs.Plans.{AreSentOn, IsFrontOnBy}
 use Rattle.motion_work.specs.Puts.{IsPut, Put}
-use Rattle.motion_work.specs.Seen.{Started, lines_of, ready_after}
+use Rattle.motion_work.specs.Seen.{Started, planning_lines, ready_after}
 use Rattle.motion_work.specs.Told.{Told}
 use Rattle.motion_stream.specs.Seen.{sections_in}
 use Rattle.motion_stream.specs.Wholes.{IsToldOf}
@@ -22,9 +22,10 @@ pub record HasUnits (m : Machine) (clocks : List Clocks) (turn : ℕ) (s : Start
   pub later : List Release
   pub are : slice_index_or s.boards b [] ≡ sent ++ later
   pub behind : All (λ r. turn ≤ r.turn) later
-  pub planned : IsFrontOnBy (is_home s.section.kind) m (lines_of s.section.kind s.end clocks) s.section.moves s.start b
+  pub planned : IsFrontOnBy (is_home s.section.kind) m (planning_lines s.section.kind s.end clocks)
+      s.section.moves s.start b
       sent
-  pub longest : AreSentOn m (lines_of s.section.kind s.end clocks) s.section.moves s.start b sent
+  pub longest : AreSentOn m (planning_lines s.section.kind s.end clocks) s.section.moves s.start b sent
 
 -- so some sections have them, on all boards
 abbrev pub HaveUnits : Machine → List Clocks → ℕ → List Started → Type 0

@@ -7,7 +7,7 @@ use Rattle.plan_types.specs.declared.plan.SectionKind.TheVariants.{Home}
 use Rattle.section_units.specs.Plans.{AreSentToOn}
 use Rattle.motion_work.specs.Homes.{no_end}
 use Rattle.motion_work.specs.Puts.{ArePut, Put}
-use Rattle.motion_work.specs.Seen.{AreBoardClocks, AreSentBy, AreStarted, IsPlanned, Started, lines_of, ready_after}
+use Rattle.motion_work.specs.Seen.{AreBoardClocks, AreSentBy, AreStarted, IsPlanned, Started, planning_lines, ready_after}
 use Rattle.motion_work.specs.Told.{Told}
 use Rattle.motion_stream.specs.Seen.{Going, MayBe, Seen, sections_in}
 
@@ -26,7 +26,7 @@ pub record IsWholeLast (m : Machine) (seen : Seen) (all : List Started) : Type 0
   pub planned : IsPlanned s.section.kind m t.clocks s
   pub unanswered : HasNoAnswer s
   pub sent : (b : ℕ) → b < length m.boards →
-      AreSentToOn m (lines_of s.section.kind s.end t.clocks) s.section.moves s.start b seen.next
+      AreSentToOn m (planning_lines s.section.kind s.end t.clocks) s.section.moves s.start b seen.next
       (slice_index_or s.boards b [])
 
 -- whole sections that what was seen may become, which are the first ones of a whole text; where one goes on,

@@ -9,7 +9,7 @@ ghost use Rattle.motion_stream.specs.News.{IsPlain};
 ghost use Rattle.motion_stream.specs.Motions.{AreEarly};
 ghost use Rattle.motion_stream.specs.Gone.{HasOpened, MayOpen};
 ghost use Rattle.motion_stream.specs.Seen.{Seen};
-ghost use Rattle.motion_stream.specs.Steps.{Begins, IsDue, IsNotDue};
+ghost use Rattle.motion_stream.specs.Steps.{BeginsSection, IsSectionDue, IsNotDue};
 
 use crate::OutOfMemory;
 use crate::course::{BETWEEN, Course, Open};
@@ -33,7 +33,7 @@ pub struct Due {
 /// The next section, where it has begun in the text and starts by a turn.
 fn next_due(course: &Course, turn: u64) -> Option<Due>
     requires { turn < 2 ^ 63 }
-    ensures due { IfSome result (λ d. IsDue course.now turn d.kind d.start) }
+    ensures due { IfSome result (λ d. IsSectionDue course.now turn d.kind d.start) }
     ensures none { IfNone result (IsNotDue course.now turn) }
 {
     let Open::Nothing = course.current else {
@@ -162,8 +162,8 @@ fn begin_section(
     requires small { k < 2 ^ 42 }
     requires early { AreEarly machine.now course.old }
     requires sound { (seen : Seen) × IsCourseBy machine.now course.old seen (k + 260) (k + 261) }
-    requires due { IsDue course.old (k + 260) due.kind due.start }
-    ensures begun { IfOk result (λ news. Begins machine.now course.old k (Some news) course.new) }
+    requires due { IsSectionDue course.old (k + 260) due.kind due.start }
+    ensures begun { IfOk result (λ news. BeginsSection machine.now course.old k (Some news) course.new) }
     ensures plain { IfOk result (λ news. IsPlain (Some news)) }
 {
     course.source.items.pop_front();
@@ -200,7 +200,7 @@ pub fn begin_next(
     requires small { k < 2 ^ 42 }
     requires early { AreEarly machine.now course.old }
     requires sound { (seen : Seen) × IsCourseBy machine.now course.old seen (k + 260) (k + 261) }
-    ensures begun { IfOk result (λ start. Begins machine.now course.old k start course.new) }
+    ensures begun { IfOk result (λ start. BeginsSection machine.now course.old k start course.new) }
     ensures plain { IfOk result (λ start. IsPlain start) }
 {
     let Some(due) = next_due(course, k + BETWEEN) else {

@@ -11,7 +11,7 @@ ghost use Rattle.motion_work.specs.Puts.{Put};
 ghost use Rattle.motion_work.specs.Seen.{AreOut, Started};
 ghost use Rattle.motion_stream.specs.Clear.{IsClearTo, clear_of, tells_sections};
 ghost use Rattle.motion_stream.specs.Hunger.{IsSated, Lacks, wanted};
-ghost use Rattle.motion_stream.specs.Motions.{Can, Hears, IsMore, IsPlannerOf, Makes, Planner, Reads, hungry, read_on, wants, with_word};
+ghost use Rattle.motion_stream.specs.Motions.{CanTurnPlanner, Hears, IsMore, IsPlannerOf, Makes, Planner, TakesText, hungry, read_on, wants, with_word};
 ghost use Rattle.motion_stream.specs.News.{tells_read};
 ghost use Rattle.motion_stream.specs.Puts.{ArePutBy};
 ghost use Rattle.motion_stream.specs.Seen.{Going, Seen, nothing_seen};
@@ -25,14 +25,14 @@ ghost use Rattle.motion_stream.specs.Wholes.{AreOf, ArePlanned};
 pub fn turns_stay()
     ensures none { (m : Machine) → ArePutBy m nothing_seen [] }
     ensures text { (p q : Planner) (seen : Seen) (ps : List Put) (bytes : List ℕ) (end : Bool) → IsPlannerOf p seen →
-        ArePutBy p.machine seen ps → Reads p bytes end q →
+        ArePutBy p.machine seen ps → TakesText p bytes end q →
         (going : Option Going) × IsPlannerOf q (read_on seen bytes end going)
         × ArePutBy q.machine (read_on seen bytes end going) ps }
     ensures word { (p q : Planner) (seen : Seen) (ps : List Put) (w : WordMsg) → IsPlannerOf p seen →
         ArePutBy p.machine seen ps → Hears p w q →
         IsPlannerOf q (with_word p.machine seen w) × ArePutBy q.machine (with_word p.machine seen w) ps }
     ensures turn { (p q : Planner) (seen : Seen) (ps : List Put) (k : ℕ) (batches : List Batch) (note : Note) →
-        IsPlannerOf p seen → ArePutBy p.machine seen ps → Can p k → Makes p k batches note q →
+        IsPlannerOf p seen → ArePutBy p.machine seen ps → CanTurnPlanner p k → Makes p k batches note q →
         (next : Seen) × IsPlannerOf q next
         × ArePutBy q.machine next (ps ++ record { batches = batches; note = note } ∷ []) }
 {}
@@ -62,7 +62,8 @@ pub fn texts_are_planned()
 /// ticks, with triples that cover as many steps as one can.
 pub fn turns_put_units()
     ensures { (p q : Planner) (seen : Seen) (ps : List Put) (k : ℕ) (batches : List Batch) (note : Note)
-        (whole : List ℕ) → IsPlannerOf p seen → ArePutBy p.machine seen ps → Can p k → Makes p k batches note q →
+        (whole : List ℕ) → IsPlannerOf p seen → ArePutBy p.machine seen ps → CanTurnPlanner p k →
+        Makes p k batches note q →
         MayBecome seen.ended seen.text whole →
         ∥ ((begun : List Started)
         × IsTurnOf q.machine whole (told_on note.news seen.told) k begun
@@ -102,7 +103,7 @@ pub fn notes_keep_clear()
     ensures word { (p : Planner) (seen : Seen) (w : WordMsg) (n : ℕ) → IsPlannerOf p seen → IsClearTo p.machine seen n →
         IsClearTo p.machine (with_word p.machine seen w) n }
     ensures turn { (p q : Planner) (seen : Seen) (ps : List Put) (k n : ℕ) (batches : List Batch) (note : Note) →
-        IsPlannerOf p seen → ArePutBy p.machine seen ps → Can p k → Makes p k batches note q →
+        IsPlannerOf p seen → ArePutBy p.machine seen ps → CanTurnPlanner p k → Makes p k batches note q →
         IsClearTo p.machine seen n → k < n →
         (next : Seen) × IsPlannerOf q next × IsClearTo q.machine next n × (tells_sections note.news ≡ false) }
 {}

@@ -30,14 +30,14 @@ pub struct Motion<'a> {
 
 impl<'a> Model for Motion<'a> {
     ghost use Rattle.std.specs.Prelude.{◌≡◌, true};
-    ghost use Rattle.motion_stream.specs.Courses.{IsSound};
+    ghost use Rattle.motion_stream.specs.Courses.{IsSoundCourse};
     ghost use Rattle.motion_stream.specs.Motions.{Planner};
 
     ghost Value = { Planner };
 
     ghost view = { λ m. record { machine = m.machine.now; course = m.course } };
 
-    ghost invariant = { λ m. m.live ≡ true → IsSound m.machine.now m.course };
+    ghost invariant = { λ m. m.live ≡ true → IsSoundCourse m.machine.now m.course };
 }
 
 impl<'a> Motion<'a> {
@@ -45,8 +45,8 @@ impl<'a> Motion<'a> {
     ghost use Rattle.plan_types.specs.Machines.{IsValidMachine};
     ghost use Rattle.motion_work.specs.Feeds.{AreOfTurn};
     ghost use Rattle.motion_stream.specs.Clear.{clear_of};
-    ghost use Rattle.motion_stream.specs.Motions.{Can, Hears, IsPlannerOf, Makes, Reads, hungry, wants};
-    ghost use Rattle.motion_stream.specs.Courses.{IsSound};
+    ghost use Rattle.motion_stream.specs.Motions.{CanTurnPlanner, Hears, IsPlannerOf, Makes, TakesText, hungry, wants};
+    ghost use Rattle.motion_stream.specs.Courses.{IsSoundCourse};
     ghost use Rattle.motion_stream.specs.Seen.{nothing_seen};
 
     /// A machine before turn 0, to which nothing was told.
@@ -97,7 +97,7 @@ impl<'a> Motion<'a> {
 
     /// Whether turn k is the next one, and nothing in it passes a limit.
     pub fn can_turn(&self, k: u64) -> bool
-        ensures { result ≡ true → Can self.now k }
+        ensures { result ≡ true → CanTurnPlanner self.now k }
     {
         can_turn(&self.course, k)
     }
@@ -128,7 +128,7 @@ impl<'a> Motion<'a> {
     ///
     /// [`OutOfMemory`]; then the machine is used no more.
     pub fn text(&mut self, bytes: &[u8], end: bool) -> Result<(), OutOfMemory>
-        ensures text { OnOk result (Reads self.old bytes.now end self.new) }
+        ensures text { OnOk result (TakesText self.old bytes.now end self.new) }
         ensures machine { self.new.machine ≡ self.old.machine }
     {
         if !self.live {
@@ -149,7 +149,7 @@ impl<'a> Motion<'a> {
     ///
     /// [`OutOfMemory`].
     pub fn turn(&mut self, k: u64) -> Result<Made, OutOfMemory>
-        requires can { Can self.old k }
+        requires can { CanTurnPlanner self.old k }
         requires fed { hungry self.old k ≡ false }
         ensures made { IfOk result (λ m. Makes self.old k m.batches.items m.note self.new) }
         ensures note { IfOk result (λ m. m.note.turn ≡ k) }

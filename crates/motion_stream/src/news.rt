@@ -2,7 +2,7 @@
 
 ghost use Rattle.std.specs.Prelude.{◌≡◌, ◌⊎◌, None, ◌+◌, ◌<◌, ◌≤◌, ◌^◌, ◌++◌, [], ◌∷◌, IfOk, OnOk};
 ghost use Rattle.std.specs.VecDeque.{deque_len};
-ghost use Rattle.motion_work.specs.Begins.{done_news, listed};
+ghost use Rattle.motion_work.specs.Begins.{done_news, news_items};
 ghost use Rattle.motion_stream.specs.News.{HasPutAll, IsPlain, begins_in, read_after, read_news};
 
 use crate::OutOfMemory;
@@ -95,7 +95,7 @@ pub fn read_after(told: bool, end: Option<ReadEnd>) -> bool
 
 /// Adds news, if there are some.
 fn push_news(news: &mut Listed<NoteNews>, one: Option<NoteNews>) -> Result<(), OutOfMemory>
-    ensures { OnOk result (news.new ≡ news.old ++ listed one) }
+    ensures { OnOk result (news.new ≡ news.old ++ news_items one) }
 {
     if let Some(told) = one {
         news.push(told)?;
@@ -125,7 +125,7 @@ pub fn news_of(
     read: Option<NoteNews>,
     further: &[NoteNews],
 ) -> Result<Listed<NoteNews>, OutOfMemory>
-    ensures { IfOk result (λ news. news ≡ listed done ++ (listed start ++ (listed read ++ further.now))) }
+    ensures { IfOk result (λ news. news ≡ news_items done ++ (news_items start ++ (news_items read ++ further.now))) }
 {
     let mut news = Listed::new(alloc);
     push_news(&mut news, done)?;

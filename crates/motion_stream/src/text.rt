@@ -1,7 +1,7 @@
 //! What a motion machine takes: the text, piece by piece, and words.
 
 ghost use Rattle.std.specs.Prelude.{◌≡◌, ◌≤◌, ◌+◌, ◌^◌, ◌&&◌, ℕ, All, OnOk, Option, true};
-ghost use Rattle.motion_stream.specs.Courses.{IsCourseOf, IsSound};
+ghost use Rattle.motion_stream.specs.Courses.{IsCourseOf, IsSoundCourse};
 ghost use Rattle.gcode_program.specs.Items.{IsGood};
 ghost use Rattle.section_feed.specs.Queues.{count_in, is_taking};
 ghost use Rattle.section_feed.specs.Sections.{queue_of};
@@ -44,7 +44,7 @@ pub fn take_text(
     bytes: &[u8],
     end: bool,
 ) -> Result<(), OutOfMemory>
-    requires { IsSound machine.now course.old }
+    requires { IsSoundCourse machine.now course.old }
     ensures { OnOk result ((seen : Seen) → IsCourseOf machine.now course.old seen →
         (going : Option Going) × IsMore seen.going going
         × IsCourseOf machine.now course.new (read_on seen bytes.now end going)) }
@@ -68,7 +68,7 @@ fn take_lines(
     course: &mut Course,
     word: &WordMsg,
 ) -> Result<(), OutOfMemory>
-    requires { IsSound machine.now course.old }
+    requires { IsSoundCourse machine.now course.old }
     ensures { OnOk result ((seen : Seen) → IsCourseOf machine.now course.old seen →
         IsCourseOf machine.now course.new (with_lines machine.now seen word.now)) }
 {
@@ -128,7 +128,7 @@ fn heed_word(
     course: &mut Course,
     word: &WordMsg,
 ) -> Result<(), OutOfMemory>
-    requires { IsSound machine.now course.old }
+    requires { IsSoundCourse machine.now course.old }
     ensures { OnOk result ((seen : Seen) → IsCourseOf machine.now course.old seen →
         IsCourseOf machine.now course.new (with_heed machine.now seen word.now)) }
 {
@@ -144,7 +144,7 @@ pub fn take_word(
     course: &mut Course,
     word: &WordMsg,
 ) -> Result<(), OutOfMemory>
-    requires { IsSound machine.now course.old }
+    requires { IsSoundCourse machine.now course.old }
     ensures { OnOk result ((seen : Seen) → IsCourseOf machine.now course.old seen →
         IsCourseOf machine.now course.new (with_word machine.now seen word.now)) }
 {

@@ -2,8 +2,8 @@
 
 ghost use Rattle.std.specs.Prelude.{◌≡◌, ℕ, ◌+◌, ◌*◌, ◌<◌, ◌≤◌, ◌^◌, true, false, IfOk, OnOk, length};
 ghost use Rattle.motion_stream.specs.Clear.{clear_of};
-ghost use Rattle.motion_stream.specs.Courses.{IsSound};
-ghost use Rattle.motion_stream.specs.Motions.{AreEarly, Turns};
+ghost use Rattle.motion_stream.specs.Courses.{IsSoundCourse};
+ghost use Rattle.motion_stream.specs.Motions.{AreEarly, TurnsCourse};
 ghost use Rattle.motion_stream.specs.Steps.{IsFed};
 ghost use Rattle.motion_work.specs.Feeds.{AreOfTurn};
 
@@ -25,12 +25,12 @@ pub fn make_turn(
     k: u64,
     room: Vec<Batch>,
 ) -> Result<Made, OutOfMemory>
-    requires sound { IsSound machine.now course.old }
+    requires sound { IsSoundCourse machine.now course.old }
     requires next { course.old.next ≡ k }
     requires small { k < 2 ^ 42 }
     requires early { AreEarly machine.now course.old }
     requires fed { IsFed course.old k }
-    ensures made { IfOk result (λ m. Turns machine.now course.old k m.batches.items m.note course.new) }
+    ensures made { IfOk result (λ m. TurnsCourse machine.now course.old k m.batches.items m.note course.new) }
     ensures note { IfOk result (λ m. m.note.turn ≡ k) }
     ensures quiet { IfOk result (λ m. m.note.out ≡ false) }
     ensures clear { IfOk result (λ m. m.note.clear ≡ clear_of course.new) }

@@ -1,7 +1,7 @@
 //! Further clock lines of the boards, that are taken up as the planner goes on.
 
 ghost use Rattle.std.specs.Prelude.{◌≡◌, ℕ, ◌+◌, ◌<◌, ◌≤◌, ◌^◌, All, IfOk, OnOk, true};
-ghost use Rattle.motion_stream.specs.Courses.{IsSound, IsSoundBy};
+ghost use Rattle.motion_stream.specs.Courses.{IsSoundCourse, IsSoundBy};
 ghost use Rattle.motion_stream.specs.Motions.{AreEarly};
 ghost use Rattle.motion_stream.specs.Steps.{IsFed};
 ghost use Rattle.motion_stream.specs.Uptakes.{AddsTo, IsNotLost, MayAddTo, TakesEach, TakesMore, TakesOne, TakesUp};
@@ -109,7 +109,7 @@ pub fn take_up(
     course: &mut Course,
     k: u64,
 ) -> Result<Listed<NoteNews>, OutOfMemory>
-    requires sound { IsSound machine.now course.old }
+    requires sound { IsSoundCourse machine.now course.old }
     requires next { course.old.next ≡ k }
     requires small { k < 2 ^ 42 }
     requires early { AreEarly machine.now course.old }

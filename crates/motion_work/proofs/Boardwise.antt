@@ -10,7 +10,7 @@ use Rattle.plan_types.specs.Machines.{board_at}
 use Rattle.plan_types.specs.Sections.{clocks_at}
 use Rattle.section_units.specs.Sections.{BoardSection, IsSection}
 use Rattle.step_feed.specs.Pacing.{Release, batch_at}
-use Rattle.motion_work.specs.Boards.{AreApart, parts_on}
+use Rattle.motion_work.specs.Boards.{AreSectionsApart, parts_on}
 use Rattle.motion_work.specs.Feeds.{units_at}
 use Rattle.section_units.specs.Merged.{section_of}
 use Rattle.section_units.specs.Plans.{plans_on}
@@ -27,7 +27,7 @@ sections_are m clocks ready (s ∷ begun) b h moves lt =
     All-cons (IsSection (clocks_at clocks b) (board_at m b).freq (board_at m b).slots) (part_on m clocks s b) (parts_on m clocks begun b) (moved_is m clocks s b (subst (λ kind. IsPlanned kind m clocks s) moves.0 h.0.planned) lt)
     (sections_are m clocks (s.end + 260) begun b h.1 moves.1 lt)
 
-pub apart : (m : Machine) (clocks : List Clocks) (ready : ℕ) (begun : List Started) (b : ℕ) → AreStarted m clocks ready begun → AreApart ready (parts_on m clocks begun b)
+pub apart : (m : Machine) (clocks : List Clocks) (ready : ℕ) (begun : List Started) (b : ℕ) → AreStarted m clocks ready begun → AreSectionsApart ready (parts_on m clocks begun b)
 apart m clocks ready [] b h = tt
 apart m clocks ready (s ∷ begun) b h =
     let start = h.0.start in

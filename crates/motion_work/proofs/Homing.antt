@@ -4,7 +4,7 @@ use Rattle.std.proofs.Math.Logic.{∥∥₁_map}
 use Rattle.std.proofs.lemmas.Bool.Decides.{leb_tells}
 use Rattle.std.proofs.lemmas.List.Elements.{All-head, All-tail}
 use Rattle.std.specs.List.{range_with_len}
-use Rattle.gcode_program.specs.Held.{IsNear}
+use Rattle.gcode_program.specs.Held.{IsShortOrNear}
 use Rattle.plan_types.specs.declared.machine.Machine.{Machine}
 use Rattle.plan_types.specs.declared.plan.Move.{Move}
 use Rattle.plan_types.specs.Lines.{Clocks}
@@ -19,9 +19,9 @@ use Rattle.step_feed.specs.Pacing.{Release}
 use Rattle.motion_work.specs.Homes.{all_before, before_turn}
 
 -- near moves are short
-pub near_short : (moves : List Move) → All IsValidMove moves → All IsNear moves → All IsShortMove moves
+pub near_short : (moves : List Move) → All IsValidMove moves → All IsShortOrNear moves → All IsShortMove moves
 near_short moves valid near = λ k d lt. by_near (get_or moves k d) (valid k d lt) (near k d lt) where
-  by_near : (m : Move) → IsValidMove m → IsNear m → IsShortMove m
+  by_near : (m : Move) → IsValidMove m → IsShortOrNear m → IsShortMove m
   by_near m ok n = elim n [ inl reach ↦ short-move m ok reach | inr small ↦ record { valid = ok; short = omega (arith, small) } ]
 
 -- of releases before a turn, and others behind it, the first are those before it

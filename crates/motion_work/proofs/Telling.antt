@@ -18,7 +18,7 @@ use Rattle.msg_code.specs.declared.talk.WordNews.TheVariants as news
 use Rattle.plan_types.specs.Valid.{IsValidLine}
 use Rattle.section_feed.proofs.Lasts.{one-lasts}
 use Rattle.motion_work.specs.Seen.{AreBoardClocks, AreClocks}
-use Rattle.motion_work.specs.Told.{are_fit, first_told, is_fit, last_turn, told_by, told_in, told_of}
+use Rattle.motion_work.specs.Told.{are_fit, first_told, is_fit, word_limit, clocks_in_news, told_in, told_of}
 
 clash : false ≡ true → ⊥
 clash e = cc
@@ -115,7 +115,7 @@ lines_are m turn ready lines clocks valid small le fit is =
       before = λ b lt. let e = ap (λ (x : Clocks). x.first.at) (at b lt) in let h = (fits b lt).before in omega (arith, e, h, le);
     }
 
-told_by_are : (m : Machine) (turn ready : ℕ) (n : WordNews) (clocks : List Clocks) → IsValidMachine m → turn < 2 ^ 61 → turn ≤ ready → told_by m turn n ≡ Some clocks → AreClocks m clocks ready
+told_by_are : (m : Machine) (turn ready : ℕ) (n : WordNews) (clocks : List Clocks) → IsValidMachine m → turn < 2 ^ 61 → turn ≤ ready → clocks_in_news m turn n ≡ Some clocks → AreClocks m clocks ready
 told_by_are m turn ready (news.Lines lines) clocks valid small le e = by_fit (are_fit m.boards turn lines) refl e where
   by_fit : (f : Bool) → are_fit m.boards turn lines ≡ f → (if f then Some (map one_line lines) else None) ≡ Some clocks → AreClocks m clocks ready
   by_fit true fit is = lines_are m turn ready lines clocks valid small le fit (some_is (map one_line lines) clocks is)
@@ -124,17 +124,17 @@ told_by_are m turn ready other clocks valid small le e = absurd (no_clocks clock
 
 pub told_in_are : (m : Machine) (turn ready : ℕ) (ns : List WordNews) (clocks : List Clocks) → IsValidMachine m → turn < 2 ^ 61 → turn ≤ ready → told_in m turn ns ≡ Some clocks → AreClocks m clocks ready
 told_in_are m turn ready [] clocks valid small le e = absurd (no_clocks clocks e)
-told_in_are m turn ready (n ∷ ns) clocks valid small le e = by_first (told_by m turn n) refl e (λ h. told_in_are m turn ready ns clocks valid small le h) where
-  by_first : (o : Option (List Clocks)) → told_by m turn n ≡ o → first_told o (told_in m turn ns) ≡ Some clocks → (told_in m turn ns ≡ Some clocks → AreClocks m clocks ready) → AreClocks m clocks ready
+told_in_are m turn ready (n ∷ ns) clocks valid small le e = by_first (clocks_in_news m turn n) refl e (λ h. told_in_are m turn ready ns clocks valid small le h) where
+  by_first : (o : Option (List Clocks)) → clocks_in_news m turn n ≡ o → first_told o (told_in m turn ns) ≡ Some clocks → (told_in m turn ns ≡ Some clocks → AreClocks m clocks ready) → AreClocks m clocks ready
   by_first None is h later = later h
   by_first (Some x) is h later = told_by_are m turn ready n clocks valid small le (is ∙ ap Some (some_is x clocks h))
 
-pub told_of_are : (m : Machine) (w : WordMsg) (clocks : List Clocks) (ready : ℕ) → IsValidMachine m → w.turn ≤ ready → told_of m w ≡ Some clocks → (w.turn < last_turn) × AreClocks m clocks ready
-told_of_are m w clocks ready valid le e = elim (cases_lt w.turn last_turn) [
+pub told_of_are : (m : Machine) (w : WordMsg) (clocks : List Clocks) (ready : ℕ) → IsValidMachine m → w.turn ≤ ready → told_of m w ≡ Some clocks → (w.turn < word_limit) × AreClocks m clocks ready
+told_of_are m w clocks ready valid le e = elim (cases_lt w.turn word_limit) [
   | inl lt ↦
-      let h : told_in m w.turn w.news ≡ Some clocks = sym (ap (λ x. if x then told_in m w.turn w.news else None) (lt-ltb w.turn last_turn lt)) ∙ e in
+      let h : told_in m w.turn w.news ≡ Some clocks = sym (ap (λ x. if x then told_in m w.turn w.news else None) (lt-ltb w.turn word_limit lt)) ∙ e in
       (lt, told_in_are m w.turn ready w.news clocks valid (omega (arith, lt)) le h)
-  | inr ge ↦ absurd (no_clocks clocks (sym (ap (λ x. if x then told_in m w.turn w.news else None) (le-ltb w.turn last_turn ge)) ∙ e))
+  | inr ge ↦ absurd (no_clocks clocks (sym (ap (λ x. if x then told_in m w.turn w.news else None) (le-ltb w.turn word_limit ge)) ∙ e))
 ]
 
 -- boards that have one line each have lines by which sections may go on

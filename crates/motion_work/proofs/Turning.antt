@@ -11,7 +11,7 @@ use Rattle.plan_types.specs.Lines.{Clocks}
 use Rattle.plan_types.specs.Parts.{parts}
 use Rattle.plan_types.specs.Sections.{duration, end_time, section_end}
 use Rattle.plan_types.specs.Speeds.{greatest_speeds}
-use Rattle.motion_work.specs.Begins.{done_news, listed}
+use Rattle.motion_work.specs.Begins.{done_news, news_items}
 use Rattle.motion_work.specs.Seen.{AreBoardClocks, AreDone, AreStarted, IsOpen, IsPlanned, IsStarted, Started, ready_after}
 use Rattle.motion_work.specs.Turns.{done_notes}
 
@@ -90,7 +90,7 @@ other_done k i (p ∷ past) s done ne =
     let lt = done.0 in
     elim (eqb_tells p.end k) [ inl q ↦ absurd (let is = q.1 in omega (arith, lt, is)) | inr q ↦ rw q.0 (other_done k (i + 1) past s done.1 ne) ]
 
-pub done_are : (goes : Bool) (k ready place : ℕ) (begun : List Started) → IsOpen goes k begun → ((past : List Started) (s : Started) → begun ≡ past ++ s ∷ [] → ready ≡ s.end + 260) → place ≡ length begun → listed (done_news goes ready place k) ≡ done_notes k 0 begun
+pub done_are : (goes : Bool) (k ready place : ℕ) (begun : List Started) → IsOpen goes k begun → ((past : List Started) (s : Started) → begun ≡ past ++ s ∷ [] → ready ≡ s.end + 260) → place ≡ length begun → news_items (done_news goes ready place k) ≡ done_notes k 0 begun
 done_are false k ready place begun done last is = sym (none_done k 0 begun done)
 done_are true k ready place begun open_is last place_is =
     let past = open_is.0 in

@@ -4,9 +4,9 @@ use Rattle.msg_code.specs.declared.talk.NoteNews.{NoteNews}
 use Rattle.msg_code.specs.declared.talk.NoteNews.TheVariants as news
 
 -- news that there may be, as a list
-abbrev pub listed : Option NoteNews → List NoteNews
-listed None = []
-listed (Some n) = n ∷ []
+abbrev pub news_items : Option NoteNews → List NoteNews
+news_items None = []
+news_items (Some n) = n ∷ []
 
 -- the last of so many sections ends in a turn, behind which the next one may start 260 turns later
 abbrev pub done_news : Bool → ℕ → ℕ → ℕ → Option NoteNews

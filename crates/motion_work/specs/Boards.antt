@@ -11,6 +11,6 @@ parts_on m clocks begun b = map (λ s. part_on m clocks s b) begun
 
 -- sections one behind the other: the first starts in a turn or later, each later one 260 turns or more behind
 -- the end of the one before
-abbrev pub AreApart : ℕ → List BoardSection → Type 0
-AreApart ready [] = Unit {0}
-AreApart ready (s ∷ ss) = (ready ≤ s.start) × (s.start ≤ s.end) × AreApart (s.end + 260) ss
+abbrev pub AreSectionsApart : ℕ → List BoardSection → Type 0
+AreSectionsApart ready [] = Unit {0}
+AreSectionsApart ready (s ∷ ss) = (ready ≤ s.start) × (s.start ≤ s.end) × AreSectionsApart (s.end + 260) ss

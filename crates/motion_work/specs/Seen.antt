@@ -130,16 +130,16 @@ AreMoves (s ∷ begun) = (s.section.kind ≡ Moves) × AreMoves begun
 
 -- The clock lines by which a section is planned that ends in a turn: where it homes those that hold by 276
 -- turns behind it.
-abbrev pub lines_of : SectionKind → ℕ → List Clocks → List Clocks
-lines_of Moves end clocks = clocks
-lines_of (Home axis) end clocks = map (lines_by (end + 276)) clocks
+abbrev pub planning_lines : SectionKind → ℕ → List Clocks → List Clocks
+planning_lines Moves end clocks = clocks
+planning_lines (Home axis) end clocks = map (lines_by (end + 276)) clocks
 
 -- the units of a section on each board are such as that is sent: in order, with triples that cover as many
 -- steps as one can
 abbrev pub IsSentOf : Machine → List Clocks → Started → Type 0
 IsSentOf m clocks s =
     (b : ℕ) → b < length m.boards →
-    AreSentOn m (lines_of s.section.kind s.end clocks) s.section.moves s.start b (slice_index_or s.boards b [])
+    AreSentOn m (planning_lines s.section.kind s.end clocks) s.section.moves s.start b (slice_index_or s.boards b [])
 
 -- so they are in all of some sections
 abbrev pub AreAllSent : Machine → List Clocks → List Started → Type 0
@@ -151,5 +151,6 @@ abbrev pub AreSentBy : Machine → List Clocks → ℕ → List Started → Type
 AreSentBy m clocks next [] = Unit {0}
 AreSentBy m clocks next (s ∷ begun) =
     ((b : ℕ) → b < length m.boards →
-    AreSentToOn m (lines_of s.section.kind s.end clocks) s.section.moves s.start b next (slice_index_or s.boards b []))
+    AreSentToOn m (planning_lines s.section.kind s.end clocks) s.section.moves s.start b next
+    (slice_index_or s.boards b []))
     × AreSentBy m clocks next begun

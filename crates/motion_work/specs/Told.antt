@@ -24,9 +24,9 @@ are_fit (b ∷ boards) turn [] = false
 are_fit (b ∷ boards) turn (l ∷ lines) = is_fit b turn l && are_fit boards turn lines
 
 -- the clock lines that a piece of news tells
-abbrev pub told_by : Machine → ℕ → WordNews → Option (List Clocks)
-told_by m turn (news.Lines lines) = if are_fit m.boards turn lines then Some (map one_line lines) else None
-told_by m turn other = None
+abbrev pub clocks_in_news : Machine → ℕ → WordNews → Option (List Clocks)
+clocks_in_news m turn (news.Lines lines) = if are_fit m.boards turn lines then Some (map one_line lines) else None
+clocks_in_news m turn other = None
 
 -- the first of two that is told
 abbrev pub first_told : Option (List Clocks) → Option (List Clocks) → Option (List Clocks)
@@ -36,7 +36,7 @@ first_told None later = later
 -- the first ones that some news tell
 abbrev pub told_in : Machine → ℕ → List WordNews → Option (List Clocks)
 told_in m turn [] = None
-told_in m turn (n ∷ ns) = first_told (told_by m turn n) (told_in m turn ns)
+told_in m turn (n ∷ ns) = first_told (clocks_in_news m turn n) (told_in m turn ns)
 
 -- a piece of news is that a homing group answered, its switch closed
 abbrev pub is_homed : WordNews → Bool
@@ -49,12 +49,12 @@ tells_homed [] = false
 tells_homed (n ∷ ns) = is_homed n || tells_homed ns
 
 -- no word of a run has this turn or a later one
-abbrev pub last_turn : ℕ
-last_turn = 2 ^ 61
+abbrev pub word_limit : ℕ
+word_limit = 2 ^ 61
 
 -- the clock lines that a word tells
 abbrev pub told_of : Machine → WordMsg → Option (List Clocks)
-told_of m w = if nat_lt w.turn last_turn then told_in m w.turn w.news else None
+told_of m w = if nat_lt w.turn word_limit then told_in m w.turn w.news else None
 
 -- Connecting ended: the clock lines of the boards, and the first turn in which a section may start.
 pub record Told : Type 0 where

@@ -8,7 +8,7 @@ ghost use Rattle.plan_types.specs.Machines.{board_at};
 ghost use Rattle.plan_types.specs.Sections.{clocks_at};
 ghost use Rattle.section_units.specs.Sections.{IsSection};
 ghost use Rattle.step_feed.specs.Pacing.{batch_at};
-ghost use Rattle.motion_work.specs.Boards.{AreApart, parts_on};
+ghost use Rattle.motion_work.specs.Boards.{AreSectionsApart, parts_on};
 ghost use Rattle.motion_work.specs.Feeds.{units_at};
 ghost use Rattle.motion_work.specs.Seen.{AreMoves, AreStarted, IsHomed, Started};
 ghost use Rattle.plan_types.specs.declared.plan.Line.{Line};
@@ -28,7 +28,7 @@ pub fn boards_have_sections()
         AreStarted m clocks ready begun → AreMoves begun → b < length m.boards →
         All (IsSection (clocks_at clocks b) (board_at m b).freq (board_at m b).slots) (parts_on m clocks begun b) }
     ensures apart { (m : Machine) (clocks : List Clocks) (ready : ℕ) (begun : List Started) (b : ℕ) →
-        AreStarted m clocks ready begun → AreApart ready (parts_on m clocks begun b) }
+        AreStarted m clocks ready begun → AreSectionsApart ready (parts_on m clocks begun b) }
     ensures units { (m : Machine) (clocks : List Clocks) (begun : List Started) (b k : ℕ) →
         units_at b k (map (λ s. s.boards) begun) ≡ flat_map (λ s. batch_at k s.releases) (parts_on m clocks begun b) }
 {}

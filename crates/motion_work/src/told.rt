@@ -5,7 +5,7 @@ ghost use Rattle.plan_types.specs.Sections.{first_start};
 ghost use Rattle.plan_types.specs.Lines.{one_line};
 ghost use Rattle.plan_types.specs.Machines.{IsValidBoard, IsValidMachine};
 ghost use Rattle.plan_types.specs.Valid.{IsValidLine};
-ghost use Rattle.motion_work.specs.Told.{are_fit, is_fit, lines_in, told_by, told_in, told_of};
+ghost use Rattle.motion_work.specs.Told.{are_fit, is_fit, lines_in, clocks_in_news, told_in, told_of};
 ghost use Rattle.std.specs.Prelude.{All, true};
 
 use crate::OutOfMemory;
@@ -77,8 +77,8 @@ fn told_by(
 ) -> Result<Option<Vec<Lines>>, OutOfMemory>
     requires machine { IsValidMachine machine.now }
     requires small { turn < 2 ^ 61 }
-    ensures { IfOk result (λ told. MatchOption told (told_by machine.now turn news.now ≡ None)
-        (λ lines. told_by machine.now turn news.now ≡ Some lines.items)) }
+    ensures { IfOk result (λ told. MatchOption told (clocks_in_news machine.now turn news.now ≡ None)
+        (λ lines. clocks_in_news machine.now turn news.now ≡ Some lines.items)) }
 {
     match news {
         WordNews::Lines(lines) => {

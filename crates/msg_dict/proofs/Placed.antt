@@ -10,7 +10,7 @@ use Rattle.std.proofs.lemmas.Slice.Eq.{bytes_eq-Decides}
 use Rattle.serde_json.specs.Data.{Data, Members, no_members, member, put}
 use Rattle.serde_json.specs.Find.{get_member, as_number, as_u64}
 use Rattle.serde_json.proofs.Views.{get_member-put, get_member-put_other}
-use Rattle.msg_dict.specs.Dictionary.{Named, Enumerated, number_of}
+use Rattle.msg_dict.specs.Dictionary.{Named, Enumerated, number_named}
 use Rattle.msg_dict.specs.Reading.{below_32, with_choice, with_constant, choices_of}
 use Rattle.msg_dict.specs.Own.{whole, with_pin, with_pins}
 use Rattle.msg_dict.proofs.Lookups.{within}
@@ -61,13 +61,13 @@ turned a b false e = by (bytes_eq b a) refl
     by true f = let g = (bytes_eq-Decides a b).1 (sym ((bytes_eq-Decides b a).0 f)) in cc
     by false f = f
 
-pub number_there : (name : List ℕ) (ms : Members) → AreSmall ms → number_of name (small_numbers ms) ≡ number_in (get_member name ms)
+pub number_there : (name : List ℕ) (ms : Members) → AreSmall ms → number_named name (small_numbers ms) ≡ number_in (get_member name ms)
 number_there name no_members a = refl
 number_there name (member l d ms) a =
     let small : small_of d ≡ Some a.0.0 = rw (a.0.1) (small_whole a.0.0 a.0.2) in
     by (bytes_eq l name) refl small (number_there name ms a.1)
   where
-    by : (t : Bool) → bytes_eq l name ≡ t → small_of d ≡ Some a.0.0 → number_of name (small_numbers ms) ≡ number_in (get_member name ms) → number_of name (small_numbers (member l d ms)) ≡ number_in (get_member name (member l d ms))
+    by : (t : Bool) → bytes_eq l name ≡ t → small_of d ≡ Some a.0.0 → number_named name (small_numbers ms) ≡ number_in (get_member name ms) → number_named name (small_numbers (member l d ms)) ≡ number_in (get_member name (member l d ms))
     by true t small rest =
         let here = is_eq-slice_cmp name l ∙ turned l name true t in
         rw (small, t) (sym small ∙ ap number_in (sym (found_if (slice_cmp nat_cmp name l) (get_member name ms) (Some d) ∙ ap (λ b. cond b (Some d) (get_member name ms)) here)))
@@ -152,10 +152,10 @@ placed_small name n (p ∷ ps) h = by (bytes_eq p name) refl (placed_small name 
 
 -- the number of a pin in a list of pins that differ
 pub pin_there : (name : List ℕ) (ps : List (List ℕ)) → length ps ≤ 2 ^ 32 → AllPairs (λ p q. p ≢ q) ps → is_utf8 name ≡ true
-    → number_of name (small_numbers (with_pins 0 ps no_members)) ≡ place_of name 0 ps
+    → number_named name (small_numbers (with_pins 0 ps no_members)) ≡ place_of name 0 ps
 pin_there name ps h all u =
     number_there name (with_pins 0 ps no_members) (pins_small 0 ps no_members (omega (arith, h)) tt) ∙ ap number_in (pins_at name 0 ps no_members u all) ∙ placed_small name 0 ps (omega (arith, h))
 
-pub no_pin_there : (name : List ℕ) (ps : List (List ℕ)) → length ps ≤ 2 ^ 32 → is_utf8 name ≡ false → number_of name (small_numbers (with_pins 0 ps no_members)) ≡ None
+pub no_pin_there : (name : List ℕ) (ps : List (List ℕ)) → length ps ≤ 2 ^ 32 → is_utf8 name ≡ false → number_named name (small_numbers (with_pins 0 ps no_members)) ≡ None
 no_pin_there name ps h u =
     number_there name (with_pins 0 ps no_members) (pins_small 0 ps no_members (omega (arith, h)) tt) ∙ ap number_in (not_text name 0 ps no_members u)

@@ -4,10 +4,10 @@ use Rattle.std.proofs.lemmas.Bool.{ltb-true}
 use Rattle.msg_dict.specs.declared.row.Row.{Row}
 use Rattle.msg_dict.specs.declared.row.Row.TheVariants as row
 use Rattle.msg_dict.specs.Table.{format_text, own_id, row_named}
-use Rattle.msg_dict.specs.Dictionary.{number_of}
+use Rattle.msg_dict.specs.Dictionary.{number_named}
 use Rattle.msg_dict.specs.Own.{own_formats}
 
-each : (r : Row) → (row_named (format_text r) ≡ Some r) × (number_of (format_text r) own_formats ≡ Some (own_id r)) × (nat_lt (own_id r) 96 ≡ true)
+each : (r : Row) → (row_named (format_text r) ≡ Some r) × (number_named (format_text r) own_formats ≡ Some (own_id r)) × (nat_lt (own_id r) 96 ≡ true)
 unfolding row_named own_formats
 each row.IdentifyResponse = (refl, refl, refl)
 each row.Identify = (refl, refl, refl)
@@ -36,7 +36,7 @@ each row.IsShutdown = (refl, refl, refl)
 pub named_back : (r : Row) → row_named (format_text r) ≡ Some r
 named_back r = (each r).0
 
-pub own_number : (r : Row) → number_of (format_text r) own_formats ≡ Some (own_id r)
+pub own_number : (r : Row) → number_named (format_text r) own_formats ≡ Some (own_id r)
 own_number r = (each r).1
 
 pub own_small : (r : Row) → own_id r < 96

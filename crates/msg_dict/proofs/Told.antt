@@ -10,10 +10,10 @@ use Rattle.msg_dict.specs.declared.row.Row.{Row}
 use Rattle.msg_dict.specs.declared.row.Row.TheVariants as row
 use Rattle.msg_dict.specs.Table.{format_text, own_format, own_id, all_rows, command_rows, answer_rows, row_named, row_numbered}
 use Rattle.msg_dict.specs.Format.{is_format}
-use Rattle.msg_dict.specs.Dictionary.{Named, Enumerated, Dictionary, number_of, name_of, enumerated}
+use Rattle.msg_dict.specs.Dictionary.{Named, Enumerated, Dictionary, number_named, name_of, enumerated}
 use Rattle.msg_dict.specs.declared.DictFault.{DictFault}
 use Rattle.msg_dict.specs.declared.DictFault.TheVariants.{Memory, NotJson, Shape, BadFormat, SameId}
-use Rattle.msg_dict.specs.Reading.{formats_of, choices_of, dictionary_of, IsJson, Reads, Fails, FailsData}
+use Rattle.msg_dict.specs.Reading.{formats_of, choices_of, dictionary_of, IsJson, IsDictionaryText, Fails, FailsData}
 use Rattle.msg_dict.specs.Own.{with_rows, with_pins, reasons, own_dictionary, reason_numbers, pin_number, IsOwn}
 use Rattle.msg_dict.proofs.Lookups.{within, or_in, same_numbers, same_names, numbers_of_rows, names_of_rows, enumerated_within, enumerated_apart}
 use Rattle.msg_dict.proofs.Shallow.{shallow}
@@ -48,7 +48,7 @@ told_read b = refl
 
 -- ---- the rows
 
-pub told_formats : (format : List ℕ) → number_of format own_formats ≡ option_map own_id (row_named format)
+pub told_formats : (format : List ℕ) → number_named format own_formats ≡ option_map own_id (row_named format)
 unfolding row_named
 told_formats format = same_numbers own_formats (map own_format all_rows) refl refl format ∙ numbers_of_rows all_rows format
 
@@ -71,11 +71,11 @@ in_none : (o : Option ℕ) → or_in o None ≡ o
 in_none None = refl
 in_none (Some n) = refl
 
-pub told_reasons : (b : BoardDef) (name : List ℕ) → enumerated (codes "static_string_id") name (own_numbers b) ≡ number_of name reason_numbers
+pub told_reasons : (b : BoardDef) (name : List ℕ) → enumerated (codes "static_string_id") name (own_numbers b) ≡ number_named name reason_numbers
 told_reasons b name =
     ap (enumerated (codes "static_string_id") name) (numbers_are b)
     ∙ enumerated_apart (codes "pin") (codes "static_string_id") name (pins_of b) (map (within (codes "static_string_id")) reasons_read ++ []) (λ e. cc)
-    ∙ enumerated_within (codes "static_string_id") name reasons_read [] ∙ in_none (number_of name reasons_read) ∙ same_numbers reasons_read reason_numbers refl refl name
+    ∙ enumerated_within (codes "static_string_id") name reasons_read [] ∙ in_none (number_named name reasons_read) ∙ same_numbers reasons_read reason_numbers refl refl name
 
 pub told_other : (b : BoardDef) (e name : List ℕ) → e ≢ codes "pin" → e ≢ codes "static_string_id" → enumerated e name (own_numbers b) ≡ None
 told_other b e name p s =
@@ -83,7 +83,7 @@ told_other b e name p s =
     ∙ enumerated_apart (codes "pin") e name (pins_of b) (map (within (codes "static_string_id")) reasons_read ++ []) (λ h. p (sym h))
     ∙ enumerated_apart (codes "static_string_id") e name reasons_read [] (λ h. s (sym h))
 
-pin_is : (b : BoardDef) (name : List ℕ) (t : Bool) → IsValidBoard b → is_utf8 name ≡ t → number_of name (pins_of b) ≡ pin_number name b.pins
+pin_is : (b : BoardDef) (name : List ℕ) (t : Bool) → IsValidBoard b → is_utf8 name ≡ t → number_named name (pins_of b) ≡ pin_number name b.pins
 pin_is b name true v u =
     rw u (pin_there name b.pins (le_trans v.pins_few (omega arith)) v.pins_differ u ∙ sym (position_from-zero (λ pin. bytes_eq pin name) b.pins))
 pin_is b name false v u = rw u (no_pin_there name b.pins (le_trans v.pins_few (omega arith)) u)
@@ -91,7 +91,7 @@ pin_is b name false v u = rw u (no_pin_there name b.pins (le_trans v.pins_few (o
 pub told_pins : (b : BoardDef) → IsValidBoard b → (name : List ℕ) → enumerated (codes "pin") name (own_numbers b) ≡ pin_number name b.pins
 told_pins b v name =
     ap (enumerated (codes "pin") name) (numbers_are b) ∙ enumerated_within (codes "pin") name (pins_of b) (map (within (codes "static_string_id")) reasons_read ++ [])
-    ∙ ap (or_in (number_of name (pins_of b))) (enumerated_apart (codes "static_string_id") (codes "pin") name reasons_read [] (λ e. cc)) ∙ in_none (number_of name (pins_of b))
+    ∙ ap (or_in (number_named name (pins_of b))) (enumerated_apart (codes "static_string_id") (codes "pin") name reasons_read [] (λ e. cc)) ∙ in_none (number_named name (pins_of b))
     ∙ pin_is b name (is_utf8 name) v refl
 
 pub told_own : (b : BoardDef) → IsOwn b (told b)
@@ -109,7 +109,7 @@ told_own b = record {
 pub own_value : (b : BoardDef) (text : List ℕ) (v : Data) → v ≡ own_dictionary b → IsUtf8 text → (depth v ≤ 127 → read text ≡ Some v) → IsJson text (own_dictionary b)
 own_value b text v same u reads = let found = rw same at reads in (u, found (shallow b))
 
-pub own_read : (b : BoardDef) (text : List ℕ) → IsJson text (own_dictionary b) → (d : Dictionary) → Reads text d → IsOwn b d
+pub own_read : (b : BoardDef) (text : List ℕ) → IsJson text (own_dictionary b) → (d : Dictionary) → IsDictionaryText text d → IsOwn b d
 own_read b text r d h =
     let one = r.1 in
     let other = h.1.1 in

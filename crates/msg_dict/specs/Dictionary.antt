@@ -21,9 +21,9 @@ pub record Dictionary : Type 0 where
   pub numbers : List Enumerated
 
 -- the number of a name
-abbrev pub number_of : List ℕ → List Named → Option ℕ
-number_of name [] = None
-number_of name (n ∷ ns) = if bytes_eq n.name name then Some n.number else number_of name ns
+abbrev pub number_named : List ℕ → List Named → Option ℕ
+number_named name [] = None
+number_named name (n ∷ ns) = if bytes_eq n.name name then Some n.number else number_named name ns
 
 -- the number of a name of an enumeration
 abbrev pub enumerated : List ℕ → List ℕ → List Enumerated → Option ℕ

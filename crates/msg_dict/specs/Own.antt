@@ -5,7 +5,7 @@ use Rattle.serde_json.specs.Data.{Data, number, unsigned, object, Members, no_me
 use Rattle.plan_types.specs.declared.machine.BoardDef.{BoardDef}
 use Rattle.plan_types.specs.Machines.{IsValidBoard}
 use Rattle.msg_dict.specs.declared.row.Row.{Row}
-use Rattle.msg_dict.specs.Dictionary.{Named, Dictionary, number_of, enumerated, name_of}
+use Rattle.msg_dict.specs.Dictionary.{Named, Dictionary, number_named, enumerated, name_of}
 use Rattle.msg_dict.specs.Table.{format_text, own_id, named, own_format, row_named, row_numbered, command_rows, answer_rows, all_rows}
 
 -- a whole number as JSON
@@ -82,12 +82,12 @@ pin_number name pins = if is_utf8 name then position (λ pin. bytes_eq pin name)
 
 -- a dictionary is what a board tells of itself: what is found in it, for each thing that can be looked up
 pub record IsOwn (b : BoardDef) (d : Dictionary) : Type 0 where
-  pub formats : (format : List ℕ) → number_of format d.formats ≡ option_map own_id (row_named format)
+  pub formats : (format : List ℕ) → number_named format d.formats ≡ option_map own_id (row_named format)
   pub names : (id : ℕ) → name_of id d.formats ≡ option_map format_text (row_numbered id)
   pub constants : (name : List ℕ) →
-      number_of name d.constants ≡ number_of name (record { name = codes "CLOCK_FREQ"; number = b.freq } ∷ [])
+      number_named name d.constants ≡ number_named name (record { name = codes "CLOCK_FREQ"; number = b.freq } ∷ [])
   pub pins : IsValidBoard b → (name : List ℕ) → enumerated (codes "pin") name d.numbers ≡ pin_number name b.pins
-  pub reasons : (name : List ℕ) → enumerated (codes "static_string_id") name d.numbers ≡ number_of name reason_numbers
+  pub reasons : (name : List ℕ) → enumerated (codes "static_string_id") name d.numbers ≡ number_named name reason_numbers
   pub no_other : (enumeration name : List ℕ) → enumeration ≢ codes "pin" → enumeration ≢ codes "static_string_id" →
       enumerated enumeration name d.numbers ≡ None
 

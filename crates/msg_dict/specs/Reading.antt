@@ -107,8 +107,8 @@ abbrev pub IsJson : List ℕ → Data → Type 0
 IsJson bytes d = IsUtf8 bytes × (read bytes ≡ Some d)
 
 -- the bytes are a dictionary
-abbrev pub Reads : List ℕ → Dictionary → Type 0
-Reads bytes dictionary = (d : Data) × IsJson bytes d × (dictionary_of d ≡ Ok dictionary)
+abbrev pub IsDictionaryText : List ℕ → Dictionary → Type 0
+IsDictionaryText bytes dictionary = (d : Data) × IsJson bytes d × (dictionary_of d ≡ Ok dictionary)
 
 -- the bytes are JSON, and this is why the value is no dictionary
 abbrev pub FailsData : List ℕ → DictFault → Type 0

@@ -2,7 +2,7 @@
 #![tactic(auto)]
 
 ghost use Rattle.std.specs.Prelude.{◌≡◌, ℕ, ◌<◌, ◌^◌, List, Some, None, Ok, true, map, option_map};
-ghost use Rattle.msg_dict.specs.Dictionary.{Dictionary, Named, Enumerated, number_of, enumerated, name_of, numbers_differ};
+ghost use Rattle.msg_dict.specs.Dictionary.{Dictionary, Named, Enumerated, number_named, enumerated, name_of, numbers_differ};
 ghost use Rattle.msg_dict.specs.Kept.{format_of, constant_of, choice_of};
 ghost use Rattle.msg_dict.specs.Table.{row_of_format};
 ghost use Rattle.plan_types.specs.declared.machine.BoardDef.{BoardDef};
@@ -95,7 +95,7 @@ impl Model for Dict {
 impl Dict {
     /// The identifier of a format; `None` exactly where the dictionary has not the format.
     pub fn id(&self, format: &[u8]) -> Option<u32>
-        ensures { result ≡ number_of format.now self.now.formats }
+        ensures { result ≡ number_named format.now self.now.formats }
     {
         id_among(self.formats.as_slice(), format)
     }
@@ -124,7 +124,7 @@ impl Dict {
 
     /// A constant of the configuration; `None` exactly where the dictionary has not the name.
     pub fn constant(&self, name: &[u8]) -> Option<u64>
-        ensures { result ≡ number_of name.now self.now.constants }
+        ensures { result ≡ number_named name.now self.now.constants }
     {
         constant_among(self.constants.as_slice(), name)
     }
@@ -143,7 +143,7 @@ pub fn own_is_read()
 {}
 
 fn id_among(formats: &[Format], format: &[u8]) -> Option<u32>
-    ensures { result ≡ number_of format.now (map format_of formats.now) }
+    ensures { result ≡ number_named format.now (map format_of formats.now) }
 {
     match formats {
         [] => None,
@@ -188,7 +188,7 @@ fn row_known(formats: &[Format], id: u32) -> Option<Option<Row>>
 }
 
 fn constant_among(constants: &[Constant], name: &[u8]) -> Option<u64>
-    ensures { result ≡ number_of name.now (map constant_of constants.now) }
+    ensures { result ≡ number_named name.now (map constant_of constants.now) }
 {
     match constants {
         [] => None,

@@ -9,7 +9,7 @@ ghost use Rattle.msg_dict.specs.declared.DictFault.{DictFault};
 ghost use Rattle.msg_dict.specs.declared.DictFault.TheVariants as fault;
 ghost use Rattle.msg_dict.specs.Dictionary.{Dictionary};
 ghost use Rattle.msg_dict.specs.Kept.{format_of};
-ghost use Rattle.msg_dict.specs.Reading.{IsJson, Reads, Fails};
+ghost use Rattle.msg_dict.specs.Reading.{IsJson, IsDictionaryText, Fails};
 ghost use Rattle.msg_dict.specs.Own.{whole, with_rows, with_pin, with_pins, reasons, enumerations, own_dictionary, own_formats_alone, IsOwn};
 ghost use Rattle.msg_dict.specs.Table.{own_format, command_rows, answer_rows};
 
@@ -26,7 +26,7 @@ pub fn dict_text(alloc: Global, b: &BoardDef) -> Result<Vec<u8>, AllocError>
     ensures text { IfOk result (λ text. text.items ≡ compact_text (own_dictionary b.now)) }
     ensures value { IfOk result (λ text. IsJson text.items (own_dictionary b.now)) }
     // What is read from it is the board's own dictionary, and its reading fails for want of memory alone.
-    ensures reads_back { IfOk result (λ text. (d : Dictionary) → Reads text.items d → IsOwn b.now d) }
+    ensures reads_back { IfOk result (λ text. (d : Dictionary) → IsDictionaryText text.items d → IsOwn b.now d) }
     ensures no_fault { IfOk result (λ text. (e : DictFault) → Fails text.items e → e ≡ fault.Memory) }
 {
     let text = own_dictionary(alloc, b)?.to_vec(alloc)?;

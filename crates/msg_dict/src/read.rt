@@ -7,7 +7,7 @@ ghost use Rattle.serde_json.specs.View.{view, members_view};
 ghost use Rattle.msg_dict.specs.Dictionary.{Named, Enumerated, numbers_differ};
 ghost use Rattle.msg_dict.specs.Kept.{format_of, constant_of, choice_of};
 ghost use Rattle.msg_dict.specs.Format.{is_format};
-ghost use Rattle.msg_dict.specs.Reading.{id_of, formats_of, constants_of, choices_of, enumerations_of, object_at, of_objects, of_formats, checked, dictionary_of, below_32, AddsFormats, Reads, Fails};
+ghost use Rattle.msg_dict.specs.Reading.{id_of, formats_of, constants_of, choices_of, enumerations_of, object_at, of_objects, of_formats, checked, dictionary_of, below_32, AddsFormats, IsDictionaryText, Fails};
 
 use crate::words::is_format;
 use crate::{Choice, Constant, Dict, DictFault, Format};
@@ -17,7 +17,7 @@ use std::collections::BTreeSet;
 
 /// Reads a data dictionary. Of several faults `NotJson` comes first, then `Shape`, `BadFormat` and `SameId`.
 pub fn read_dict(alloc: Global, bytes: &[u8]) -> Result<Dict, DictFault>
-    ensures ok { IfOk result (λ d. Reads bytes.now d) }
+    ensures ok { IfOk result (λ d. IsDictionaryText bytes.now d) }
     ensures err { IfErr result (λ e. Fails bytes.now e) }
 {
     let value = match Value::from_slice(alloc, bytes) {

@@ -14,10 +14,10 @@ use Rattle.step_feed.specs.Units.{StepUnit}
 use Rattle.section_stream.specs.declared.stepper.StepperStream.{StepperStream}
 use Rattle.section_stream.specs.Pieces.{AreInTurns, Piece}
 use Rattle.section_stream.proofs.Cutting.{past-more, piece-late, turns-more}
-use Rattle.section_stream.specs.Steppers.{IsCaughtUp, IsDueFrom, IsPlannedTo, IsStepperOf, KnowsTo, StepperKind, clocks_of, kind_of, known_of, planned_turn}
+use Rattle.section_stream.specs.Steppers.{IsCaughtUp, IsDueFrom, IsPlannedTo, IsStepperOf, KnowsTo, StepperKind, stepper_clocks, kind_of, known_of, planned_turn}
 use Rattle.section_units.specs.Sections.{of_stepper}
 use Rattle.section_feed.specs.Boards.{AreUpTo, HasGiven, IsLasting, IsUpTo, most_ns}
-use Rattle.section_feed.specs.Changes.{GoOn, GoesOn}
+use Rattle.section_feed.specs.Changes.{GoOn, StepperGoesOn}
 use Rattle.section_feed.proofs.Lasts.{board-small, kept-lasting, last-soon, lines-small, tick-small}
 use Rattle.section_feed.proofs.Orders.{at-added, of-append, of-other, of-own}
 
@@ -26,10 +26,10 @@ true≢false e = cc
 
 -- a stepper that may be given a move
 pub record MayPush (clocks : Clocks) (begin end : ℕ) (s : StepperStream) : Type 0 where
-  pub begun : (clocks_of s).first.at ≤ begin
-  pub order : known_of s ≤ tick (clocks_of s).first begin
-  pub room : tick (clocks_of s).first end < tick_limit
-  pub on_board : lines_board (clocks_of s) (tick (clocks_of s).first end) < tick_limit
+  pub begun : (stepper_clocks s).first.at ≤ begin
+  pub order : known_of s ≤ tick (stepper_clocks s).first begin
+  pub room : tick (stepper_clocks s).first end < tick_limit
+  pub on_board : lines_board (stepper_clocks s) (tick (stepper_clocks s).first end) < tick_limit
 
 pub may-push : (clocks : Clocks) (begin end turn place : ℕ) (s : StepperStream) → IsLasting clocks → IsUpTo clocks true begin turn place s → clocks.first.at ≤ begin → end < 2 ^ 44 * turn_ns → MayPush clocks begin end s
 may-push clocks begin end turn place s is up begun small =
@@ -42,12 +42,12 @@ may-push clocks begin end turn place s is up begun small =
     }
 
 -- the turns of pieces stay where the clock lines do
-turns-same : (old new : StepperStream) (pieces : List Piece) → clocks_of new ≡ clocks_of old → AreInTurns (clocks_of old) 0 pieces → AreInTurns (clocks_of new) 0 pieces
+turns-same : (old new : StepperStream) (pieces : List Piece) → stepper_clocks new ≡ stepper_clocks old → AreInTurns (stepper_clocks old) 0 pieces → AreInTurns (stepper_clocks new) 0 pieces
 turns-same old new pieces e h = subst (λ (k : Clocks). AreInTurns k 0 pieces) (sym e) h
 
-pub pushed-on : (clocks : Clocks) (begin end turn place : ℕ) (more : List TimedPart) (old new : StepperStream) → IsUpTo clocks true begin turn place old → known_of new ≤ tick (clocks_of old).first end → (tick (clocks_of old).first begin ≤ known_of old → tick (clocks_of old).first end ≤ known_of new) → (IsCaughtUp turn old → IsCaughtUp turn new) → clocks_of new ≡ clocks_of old → planned_turn new ≡ planned_turn old → kind_of new ≡ kind_of old → ((low : ℕ) → IsDueFrom low old → IsDueFrom low new)
+pub pushed-on : (clocks : Clocks) (begin end turn place : ℕ) (more : List TimedPart) (old new : StepperStream) → IsUpTo clocks true begin turn place old → known_of new ≤ tick (stepper_clocks old).first end → (tick (stepper_clocks old).first begin ≤ known_of old → tick (stepper_clocks old).first end ≤ known_of new) → (IsCaughtUp turn old → IsCaughtUp turn new) → stepper_clocks new ≡ stepper_clocks old → planned_turn new ≡ planned_turn old → kind_of new ≡ kind_of old → ((low : ℕ) → IsDueFrom low old → IsDueFrom low new)
     → ((base : ℕ) (parts : List TimedPart) (out : List Planned) (pieces : List Piece) (given : List StepUnit) → IsStepperOf old base parts out pieces given → IsStepperOf new base (parts ++ more) out pieces given)
-    → GoesOn clocks true end turn more [] place old new
+    → StepperGoesOn clocks true end turn more [] place old new
 pushed-on clocks begin end turn place more old new up known reaches caught lines same kind due pushed =
     let p = up.packed in
     record {
@@ -104,10 +104,10 @@ knows-to : (clocks : Clocks) (goes : Bool) (time before turn place : ℕ) (s : S
 knows-to clocks true time before turn place s is up begun small room = subst (λ (k : Clocks). tick k.first (turn * turn_ns) + cancel_reach k.first.freq ≤ known_of s) (sym up.clocks_are) (knows-line clocks time turn (known_of s) is begun (room refl) (up.reaches refl))
 knows-to clocks false time before turn place s is up begun small room = subst (λ (k : Clocks). tick k.first (turn * turn_ns) + cancel_reach k.first.freq ≤ known_of s) (sym up.clocks_are) (knows-ended clocks turn (known_of s) is begun small (up.over refl))
 
-pub planned-on : (clocks : Clocks) (goes : Bool) (time before turn place : ℕ) (end : ℕ) (old new : StepperStream) → IsUpTo clocks goes time before place old → (KnowsTo turn old → IsCaughtUp turn new) → IsLasting clocks → clocks.first.at ≤ turn * turn_ns → turn < 2 ^ 44 → (goes ≡ true → (turn + 1) * turn_ns ≤ time) → known_of new ≡ known_of old → clocks_of new ≡ clocks_of old → planned_turn new ≡ turn → kind_of new ≡ kind_of old → before ≤ turn
+pub planned-on : (clocks : Clocks) (goes : Bool) (time before turn place : ℕ) (end : ℕ) (old new : StepperStream) → IsUpTo clocks goes time before place old → (KnowsTo turn old → IsCaughtUp turn new) → IsLasting clocks → clocks.first.at ≤ turn * turn_ns → turn < 2 ^ 44 → (goes ≡ true → (turn + 1) * turn_ns ≤ time) → known_of new ≡ known_of old → stepper_clocks new ≡ stepper_clocks old → planned_turn new ≡ turn → kind_of new ≡ kind_of old → before ≤ turn
     → ((low : ℕ) → KnowsTo turn old → AreKept clocks → IsDueFrom low old → IsDueFrom low new)
     → ((base : ℕ) (parts : List TimedPart) (out : List Planned) (pieces : List Piece) (given : List StepUnit) → IsStepperOf old base parts out pieces given → IsPlannedTo new turn end base parts out pieces given)
-    → GoesOn clocks goes time turn [] [] place old new
+    → StepperGoesOn clocks goes time turn [] [] place old new
 planned-on clocks goes time before turn place end old new up caught lasting begun small room known lines same kind order due planned = record {
   up = record {
     clocks_are = lines ∙ up.clocks_are;
@@ -128,21 +128,21 @@ planned-on clocks goes time before turn place end old new up caught lasting begu
       let is = r.piece_to.turn_is in
       let last = past-more 0 h.pieces r.piece in
       let late = piece-late old new base before parts h.out (h.out ++ r.more) h.pieces r.piece given given h.stepper r.stepper lines kind kept up.caught_up in
-      let early : All (λ (s : Planned). s.tick < lines_tick (clocks_of old) (r.piece.turn * turn_ns)) r.piece.steps =
-      subst (λ (c : Clocks). All (λ (s : Planned). s.tick < lines_tick c (r.piece.turn * turn_ns)) r.piece.steps) lines (subst (λ n. All (λ (s : Planned). s.tick < lines_tick (clocks_of new) (n * turn_ns)) r.piece.steps) (sym is) r.piece_to.before) in
+      let early : All (λ (s : Planned). s.tick < lines_tick (stepper_clocks old) (r.piece.turn * turn_ns)) r.piece.steps =
+      subst (λ (c : Clocks). All (λ (s : Planned). s.tick < lines_tick c (r.piece.turn * turn_ns)) r.piece.steps) lines (subst (λ n. All (λ (s : Planned). s.tick < lines_tick (stepper_clocks new) (n * turn_ns)) r.piece.steps) (sym is) r.piece_to.before) in
       record {
         out = h.out ++ r.more;
         pieces = h.pieces ++ r.piece ∷ [];
         stepper = rw (append-nil given, append-nil parts) r.stepper;
-        in_turns = turns-same old new (h.pieces ++ r.piece ∷ []) lines (turns-more (clocks_of old) 0 before h.pieces r.piece h.in_turns (omega (arith, at, past)) (omega (arith, order, is)) late early);
+        in_turns = turns-same old new (h.pieces ++ r.piece ∷ []) lines (turns-more (stepper_clocks old) 0 before h.pieces r.piece h.in_turns (omega (arith, at, past)) (omega (arith, order, is)) late early);
         past = omega (arith, last, is, same);
       });
 }
 
 -- nothing more was given
-pub kept-on : (clocks : Clocks) (goes goes' : Bool) (time turn place : ℕ) (old new : StepperStream) → IsUpTo clocks goes time turn place old → (goes' ≡ true → known_of new ≤ tick clocks.first time) → (goes' ≡ true → tick clocks.first time ≤ known_of new) → (goes' ≡ false → known_of new ≡ tick clocks.first most_ns) → (IsCaughtUp turn old → IsCaughtUp turn new) → clocks_of new ≡ clocks_of old → planned_turn new ≡ planned_turn old → kind_of new ≡ kind_of old → ((low : ℕ) → IsDueFrom low old → IsDueFrom low new)
+pub kept-on : (clocks : Clocks) (goes goes' : Bool) (time turn place : ℕ) (old new : StepperStream) → IsUpTo clocks goes time turn place old → (goes' ≡ true → known_of new ≤ tick clocks.first time) → (goes' ≡ true → tick clocks.first time ≤ known_of new) → (goes' ≡ false → known_of new ≡ tick clocks.first most_ns) → (IsCaughtUp turn old → IsCaughtUp turn new) → stepper_clocks new ≡ stepper_clocks old → planned_turn new ≡ planned_turn old → kind_of new ≡ kind_of old → ((low : ℕ) → IsDueFrom low old → IsDueFrom low new)
     → ((base : ℕ) (parts : List TimedPart) (out : List Planned) (pieces : List Piece) (given : List StepUnit) → IsStepperOf old base parts out pieces given → IsStepperOf new base parts out pieces given)
-    → GoesOn clocks goes' time turn [] [] place old new
+    → StepperGoesOn clocks goes' time turn [] [] place old new
 kept-on clocks goes goes' time turn place old new up known reaches over caught lines same kind due kept =
     let p = up.packed in
     record {
@@ -161,9 +161,9 @@ kept-on clocks goes goes' time turn place old new up known reaches over caught l
     }
 
 -- a unit was given
-pub gave-on : (clocks : Clocks) (goes : Bool) (time turn place : ℕ) (u : StepUnit) (old new : StepperStream) → IsUpTo clocks goes time turn place old → known_of new ≡ known_of old → (IsCaughtUp turn old → IsCaughtUp turn new) → clocks_of new ≡ clocks_of old → planned_turn new ≡ planned_turn old → kind_of new ≡ kind_of old → ((low : ℕ) → IsDueFrom low old → IsDueFrom low new) → u.stepper ≡ (kind_of old).oid
+pub gave-on : (clocks : Clocks) (goes : Bool) (time turn place : ℕ) (u : StepUnit) (old new : StepperStream) → IsUpTo clocks goes time turn place old → known_of new ≡ known_of old → (IsCaughtUp turn old → IsCaughtUp turn new) → stepper_clocks new ≡ stepper_clocks old → planned_turn new ≡ planned_turn old → kind_of new ≡ kind_of old → ((low : ℕ) → IsDueFrom low old → IsDueFrom low new) → u.stepper ≡ (kind_of old).oid
     → ((base : ℕ) (parts : List TimedPart) (out : List Planned) (pieces : List Piece) (given : List StepUnit) → IsStepperOf old base parts out pieces given → IsStepperOf new base parts out pieces (given ++ u ∷ []))
-    → GoesOn clocks goes time turn [] (u ∷ []) place old new
+    → StepperGoesOn clocks goes time turn [] (u ∷ []) place old new
 gave-on clocks goes time turn place u old new up known caught lines same kind due own gave =
     let p = up.packed in
     let mine = of-own place u [] (own ∙ up.number) in
@@ -183,7 +183,7 @@ gave-on clocks goes time turn place u old new up known caught lines same kind du
     }
 
 -- a stepper that gave nothing, as another gave a unit
-pub still-on : (clocks : Clocks) (goes : Bool) (time turn place : ℕ) (u : StepUnit) (s : StepperStream) → IsUpTo clocks goes time turn place s → (u.stepper ≡ place → ⊥) → GoesOn clocks goes time turn [] (u ∷ []) place s s
+pub still-on : (clocks : Clocks) (goes : Bool) (time turn place : ℕ) (u : StepUnit) (s : StepperStream) → IsUpTo clocks goes time turn place s → (u.stepper ≡ place → ⊥) → StepperGoesOn clocks goes time turn [] (u ∷ []) place s s
 still-on clocks goes time turn place u s up other =
     let none = of-other place u [] other in
     record {
@@ -194,7 +194,7 @@ still-on clocks goes time turn place u s up other =
     }
 
 -- one stepper after another
-pub goes-on-twice : (clocks : Clocks) (goes : Bool) (time turn place : ℕ) (one two : List StepUnit) (a b c : StepperStream) → GoesOn clocks goes time turn [] one place a b → GoesOn clocks goes time turn [] two place b c → GoesOn clocks goes time turn [] (one ++ two) place a c
+pub goes-on-twice : (clocks : Clocks) (goes : Bool) (time turn place : ℕ) (one two : List StepUnit) (a b c : StepperStream) → StepperGoesOn clocks goes time turn [] one place a b → StepperGoesOn clocks goes time turn [] two place b c → StepperGoesOn clocks goes time turn [] (one ++ two) place a c
 goes-on-twice clocks goes time turn place one two a b c p q = record {
   up = q.up;
   kind = q.kind ∙ p.kind;
@@ -230,7 +230,7 @@ up-after clocks goes time turn more units old new on = let l = on.same in record
 pub up-added : (clocks : Clocks) (goes : Bool) (time turn : ℕ) (old new : List StepperStream) (s : StepperStream) → AreUpTo clocks goes time turn old → IsUpTo clocks goes time turn (length old) s → new ≡ old ++ s ∷ [] → AreUpTo clocks goes time turn new
 up-added clocks goes time turn old new s up here is = rw is (record { each = λ k d h. at-added (λ n t. IsUpTo clocks goes time turn n t) old s up.each here k d h })
 
-pub new-up : (clocks : Clocks) (goes : Bool) (time turn place : ℕ) (s : StepperStream) → goes ≡ true → time ≡ turn * turn_ns → clocks_of s ≡ clocks → planned_turn s ≡ turn → known_of s ≡ tick clocks.first (turn * turn_ns) → IsCaughtUp turn s → (kind_of s).oid ≡ place → IsUpTo clocks goes time turn place s
+pub new-up : (clocks : Clocks) (goes : Bool) (time turn place : ℕ) (s : StepperStream) → goes ≡ true → time ≡ turn * turn_ns → stepper_clocks s ≡ clocks → planned_turn s ≡ turn → known_of s ≡ tick clocks.first (turn * turn_ns) → IsCaughtUp turn s → (kind_of s).oid ≡ place → IsUpTo clocks goes time turn place s
 new-up clocks goes time turn place s going begins lines same end caught number =
     let e : known_of s ≡ tick clocks.first time = end ∙ ap (λ t. tick clocks.first t) (sym begins) in
     record { clocks_are = lines; known = λ g. omega arith; reaches = λ g. omega arith; over = λ g. absurd (true≢false (sym going ∙ g)); caught_up = caught; packed = omega arith; number = number }

@@ -10,12 +10,12 @@ use Rattle.plan_types.specs.Plan.{AreSpaced}
 use Rattle.plan_types.specs.Sections.{TimedPart}
 use Rattle.step_feed.specs.declared.stream.FeedStream.{FeedStream}
 use Rattle.step_feed.specs.Pacing.{Release, units_of}
-use Rattle.step_feed.specs.Streams.{first_turn, slots_of}
+use Rattle.step_feed.specs.Streams.{stream_start, slots_of}
 use Rattle.section_units.specs.Packed.{ArePackedBy}
 use Rattle.section_stream.specs.declared.stepper.StepperStream.{StepperStream}
-use Rattle.section_stream.specs.Plans.{lines_of}
-use Rattle.section_stream.specs.Steppers.{StepperKind, clocks_of, kind_of, packed_step}
-use Rattle.section_feed.specs.Ordering.{AreInOrder}
+use Rattle.section_stream.specs.Plans.{stream_lines}
+use Rattle.section_stream.specs.Steppers.{StepperKind, stepper_clocks, kind_of, packed_step}
+use Rattle.section_feed.specs.Ordering.{AreInOrderFrom}
 use Rattle.section_feed.specs.Boards.{AreUpTo}
 use Rattle.section_feed.specs.Feeding.{AreFeeding}
 use Rattle.section_feed.specs.Wholes.{AreDone, ArePast, IsBefore, IsOver, IsReleased, IsSetTo, sent_plan}
@@ -28,13 +28,13 @@ use Rattle.plan_types.specs.declared.plan.Planned.{Planned}
 use Rattle.plan_types.specs.Clock.{turn_ns}
 
 done-released : (homing : Bool) (clocks : Clocks) (goes : Bool) (time turn : ℕ) (steppers : List StepperStream) (feed : FeedStream) (order freq : ℕ) (kinds : ℕ → StepperKind) (base : ℕ) (parts : List TimedPart) (released : List Release) → AreUpTo clocks goes time turn steppers → AreDone steppers → feed.waiting.items ≡ [] → ((k : ℕ) → k < length steppers → IsSetTo homing freq base (kinds k))
-    → AreFeeding steppers feed clocks order kinds base parts released → IsReleased homing clocks freq (slots_of feed) (first_turn feed) base kinds (length steppers) parts released
+    → AreFeeding steppers feed clocks order kinds base parts released → IsReleased homing clocks freq (slots_of feed) (stream_start feed) base kinds (length steppers) parts released
 done-released homing clocks goes time turn [] feed order freq kinds base parts released up done empty set f =
     let units : f.units ≡ units_of released = f.fed.pushed_is ∙ ap (λ us. units_of released ++ us) empty ∙ append-nil (units_of released) in
     record {
       packed = λ oid h. absurd (omega arith);
       others = λ oid h. ap (of_stepper oid) (sym units) ∙ f.given.others oid h;
-      in_order = subst (AreInOrder 0) units f.in_order;
+      in_order = subst (AreInOrderFrom 0) units f.in_order;
       paced = f.fed.paced;
     }
 done-released homing clocks goes time turn (s ∷ ss) feed order freq kinds base parts released up done empty set f =
@@ -53,12 +53,12 @@ done-released homing clocks goes time turn (s ∷ ss) feed order freq kinds base
           let c = subst (λ (k : StepperKind). ArePackedBy homing clocks freq oid base (sent_plan k clocks base parts) (of_stepper oid f.units)) kind b in
           subst (λ us. ArePackedBy homing clocks freq oid base (sent_plan (kinds oid) clocks base parts) (of_stepper oid us)) units c);
       others = λ oid h. ap (of_stepper oid) (sym units) ∙ f.given.others oid h;
-      in_order = subst (AreInOrder 0) units f.in_order;
+      in_order = subst (AreInOrderFrom 0) units f.in_order;
       paced = f.fed.paced;
     }
 
 pub board-done : (homing : Bool) (clocks : Clocks) (goes : Bool) (time turn : ℕ) (steppers : List StepperStream) (feed : FeedStream) (order freq : ℕ) (kinds : ℕ → StepperKind) (base : ℕ) (parts : List TimedPart) (released : List Release) → ∥ AreUpTo clocks goes time turn steppers ∥₁ → AreDone steppers → feed.waiting.items ≡ [] → ((k : ℕ) → k < length steppers → IsSetTo homing freq base (kinds k))
-    → ∥ AreFeeding steppers feed clocks order kinds base parts released ∥₁ → ∥ IsReleased homing clocks freq (slots_of feed) (first_turn feed) base kinds (length steppers) parts released ∥₁
+    → ∥ AreFeeding steppers feed clocks order kinds base parts released ∥₁ → ∥ IsReleased homing clocks freq (slots_of feed) (stream_start feed) base kinds (length steppers) parts released ∥₁
 board-done homing clocks goes time turn steppers feed order freq kinds base parts released up done empty set was =
     ∥∥₁_elim up ∥∥₁_prop (λ u. ∥∥₁_map was (done-released homing clocks goes time turn steppers feed order freq kinds base parts released u done empty set))
 
@@ -96,10 +96,10 @@ board-packed clocks goes time turn steppers feed order end kinds base parts rele
     let given = f.given.each oid d h in
     let whole = past.whole oid d h base parts given.out given.pieces (of_stepper oid f.units) given.stepper in
     let packed = given.stepper.packed in
-    let steps : steps_in given.pieces ≡ sent_plan (kind_of one) (clocks_of one) base parts = whole.1 ∙ ap (as_sent (kind_of one).inverted) whole.0 in
+    let steps : steps_in given.pieces ≡ sent_plan (kind_of one) (stepper_clocks one) base parts = whole.1 ∙ ap (as_sent (kind_of one).inverted) whole.0 in
     let same : steps_in given.pieces ≡ sent_plan (kinds oid) clocks base parts = steps ∙ ap (λ (k : Clocks). sent_plan (kind_of one) k base parts) here.clocks_are ∙ ap (λ (k : StepperKind). sent_plan k clocks base parts) kind in
     let spaced : AreSpaced base (steps_in given.pieces) = subst (AreSpaced base) (sym whole.1) packed.spaced in
-    let last : IsLastOf (packed_step one) base (steps_in given.pieces) = last-told (lines_of one.steps) one.pack.oid one.pack.max_error one.pack.last one.pack.up one.pack.reset one.pack.held.items one.pack.units.items base _ given.pieces (of_stepper oid f.units) packed in
+    let last : IsLastOf (packed_step one) base (steps_in given.pieces) = last-told (stream_lines one.steps) one.pack.oid one.pack.max_error one.pack.last one.pack.up one.pack.reset one.pack.held.items one.pack.units.items base _ given.pieces (of_stepper oid f.units) packed in
     record {
       within = λ j later. subst (All (λ (q : Planned). q.tick < lines_tick clocks (j * turn_ns))) same (past-within clocks end j base (packed_step one) (steps_in given.pieces) later (past.before oid d h) last spaced);
       last_is = subst (IsLastOf (packed_step one) base) same last;

@@ -27,9 +27,9 @@ use Rattle.section_stream.specs.Steppers.{packed_step}
 use Rattle.section_stream.proofs.Stretches.{last-sent}
 use Rattle.section_feed.specs.declared.board.BoardStream.{BoardStream}
 use Rattle.section_feed.specs.declared.section.SectionStream.{SectionStream}
-use Rattle.section_feed.specs.AllBoards.{ArePast, last_of}
-use Rattle.section_feed.specs.Feeding.{count_of, lines_of}
-use Rattle.section_feed.specs.Fronts.{parts_of}
+use Rattle.section_feed.specs.AllBoards.{ArePast, latest_packed}
+use Rattle.section_feed.specs.Feeding.{count_of, lines_of_board}
+use Rattle.section_feed.specs.Fronts.{front_parts}
 use Rattle.section_feed.specs.Kinds.{board_kinds, steppers_on}
 use Rattle.section_feed.specs.On.{IsSectionOn}
 use Rattle.section_feed.specs.Queues.{IsDrawn, drawn_to, is_taking, settled_to}
@@ -143,7 +143,7 @@ last-of m clocks moves turn b k s homing packed same own is =
     let plan = stepper_plan m clocks moves turn s in
     last-where here (stepper_at m s).inverted base packed plan (subst (IsLastOf packed base) (plan-is m clocks moves turn b k s homing same own) is) ∙ ap (λ n. last_turn (clocks_at clocks n) plan) (sym own)
 
-pub section-parts : (m : Machine) (clocks : List Clocks) (turn : ℕ) (homing : Bool) (s : SectionStream) (moves all : List Move) (released : ℕ → List Release) → IsSectionOn m clocks turn homing s moves released → parts_of s m.scv all ≡ section_parts m all turn
+pub section-parts : (m : Machine) (clocks : List Clocks) (turn : ℕ) (homing : Bool) (s : SectionStream) (moves all : List Move) (released : ℕ → List Release) → IsSectionOn m clocks turn homing s moves released → front_parts s m.scv all ≡ section_parts m all turn
 section-parts m clocks turn homing s moves all released on =
     ap (λ c. timed_moves c all (greatest_speeds all m.scv) s.queue.moves.begin) on.cruise ∙ ap (λ t. timed_moves m.cruise all (greatest_speeds all m.scv) t) on.begin
 
@@ -163,7 +163,7 @@ board-last m clocks turn homing s moves released e b k d t on drawn past h own =
     let kinds = board_kinds m own_clocks b turn homing in
     let set = set-of m clocks turn homing s moves released b d on h in
     let count : k < count_of one = (let c = ap (λ (x : BoardSet). x.count) set in omega arith) in
-    let lines : lines_of one ≡ own_clocks = ap (λ (x : BoardSet). x.clocks) set in
+    let lines : lines_of_board one ≡ own_clocks = ap (λ (x : BoardSet). x.clocks) set in
     let parts : on.section.parts ≡ section_parts m moves turn = drawn-parts s m.scv moves _ _ released on.section drawn ∙ section-parts m clocks turn homing s moves moves released on in
     let packed = packed_step (get_or (steppers_in one) k t) in
     subst (λ ps. IsLastOf packed base (sent_plan (kinds k) own_clocks base ps)) parts
@@ -171,7 +171,7 @@ board-last m clocks turn homing s moves released e b k d t on drawn past h own =
     ((past.each b d h).packed kinds base on.section.parts (released b) (on.section.boards.each b d h) k t count))
 
 -- the turn of each stepper's last step is told
-pub end-above : (m : Machine) (clocks : List Clocks) (turn : ℕ) (homing : Bool) (s : SectionStream) (moves : List Move) (released : ℕ → List Release) (e n : ℕ) → IsSectionOn m clocks turn homing s moves released → IsDrawn (queue_of s) → ArePast e (boards_in s) → n < length m.steppers → stepper_end m clocks moves turn n ≤ last_of (boards_in s)
+pub end-above : (m : Machine) (clocks : List Clocks) (turn : ℕ) (homing : Bool) (s : SectionStream) (moves : List Move) (released : ℕ → List Release) (e n : ℕ) → IsSectionOn m clocks turn homing s moves released → IsDrawn (queue_of s) → ArePast e (boards_in s) → n < length m.steppers → stepper_end m clocks moves turn n ≤ latest_packed (boards_in s)
 end-above m clocks turn homing s moves released e n on drawn past h =
     let b = (stepper_at m n).board in
     let there : b < length m.boards = (on.machine.steppers n h).board in
@@ -182,21 +182,21 @@ end-above m clocks turn homing s moves released e n on drawn past h =
     let one = get_or (boards_in s) b d in
     let set = set-of m clocks turn homing s moves released b d on inside in
     let count = ap (λ (x : BoardSet). x.count) set in
-    let lines : lines_of one ≡ clocks_at clocks b = ap (λ (x : BoardSet). x.clocks) set in
-    latest-from (λ t. turn_where (lines_of one) (packed_step t)) (steppers_in one) place.place (stepper_end m clocks moves turn n) (let i = place.inside in omega arith) (λ t. (
+    let lines : lines_of_board one ≡ clocks_at clocks b = ap (λ (x : BoardSet). x.clocks) set in
+    latest-from (λ t. turn_where (lines_of_board one) (packed_step t)) (steppers_in one) place.place (stepper_end m clocks moves turn n) (let i = place.inside in omega arith) (λ t. (
     let r = last-of m clocks moves turn b place.place n homing (packed_step (get_or (steppers_in one) place.place t)) place.same refl (board-last m clocks turn homing s moves released e b place.place d t on drawn past inside place.inside) in
     subst (λ (c : Clocks). stepper_end m clocks moves turn n ≤ turn_where c (packed_step (get_or (steppers_in one) place.place t))) (sym lines) (omega arith)))))
 
 -- and no later one
-end-below : (m : Machine) (clocks : List Clocks) (turn : ℕ) (homing : Bool) (s : SectionStream) (moves : List Move) (released : ℕ → List Release) (e n : ℕ) → IsSectionOn m clocks turn homing s moves released → IsDrawn (queue_of s) → ArePast e (boards_in s) → turn ≤ n → ((i : ℕ) → i < length m.steppers → stepper_end m clocks moves turn i ≤ n) → last_of (boards_in s) ≤ n
+end-below : (m : Machine) (clocks : List Clocks) (turn : ℕ) (homing : Bool) (s : SectionStream) (moves : List Move) (released : ℕ → List Release) (e n : ℕ) → IsSectionOn m clocks turn homing s moves released → IsDrawn (queue_of s) → ArePast e (boards_in s) → turn ≤ n → ((i : ℕ) → i < length m.steppers → stepper_end m clocks moves turn i ≤ n) → latest_packed (boards_in s) ≤ n
 end-below m clocks turn homing s moves released e n on drawn past late all =
     let l = on.boards in
     latest-within last_in (boards_in s) n (λ b d inside. (
     let one = get_or (boards_in s) b d in
     let set = set-of m clocks turn homing s moves released b d on inside in
     let count = ap (λ (x : BoardSet). x.count) set in
-    let lines : lines_of one ≡ clocks_at clocks b = ap (λ (x : BoardSet). x.clocks) set in
-    latest-within (λ t. turn_where (lines_of one) (packed_step t)) (steppers_in one) n (λ k t h. (
+    let lines : lines_of_board one ≡ clocks_at clocks b = ap (λ (x : BoardSet). x.clocks) set in
+    latest-within (λ t. turn_where (lines_of_board one) (packed_step t)) (steppers_in one) n (λ k t h. (
     let own : k < length (steppers_on b m.steppers) = omega arith in
     let number = has-number b m.steppers (section_plans m clocks moves turn) k (length-map-range_with_len (stepper_plan m clocks moves turn) 0 (length m.steppers)) own in
     let r = last-of m clocks moves turn b k number.number homing (packed_step (get_or (steppers_in one) k t)) number.same number.board (board-last m clocks turn homing s moves released e b k d t on drawn past inside own) in
@@ -234,7 +234,7 @@ moves-later m clocks turn homing s moves all released on future =
 pub section-later : (m : Machine) (clocks : List Clocks) (turn : ℕ) (homing : Bool) (s : SectionStream) (moves all : List Move) (released : ℕ → List Release) → IsSectionOn m clocks turn homing s moves released → IsFuture (is_taking (queue_of s)) moves all → settled_to (queue_of s) / turn_ns ≤ section_end m clocks all turn
 section-later m clocks turn homing s moves all released on future = let l = moves-later m clocks turn homing s moves all released on future in omega (arith, l)
 
-pub section-ends : (m : Machine) (clocks : List Clocks) (turn : ℕ) (homing : Bool) (s : SectionStream) (moves : List Move) (released : ℕ → List Release) (e : ℕ) → IsSectionOn m clocks turn homing s moves released → IsDrawn (queue_of s) → ArePast e (boards_in s) → e ≡ max (drawn_to (queue_of s) / turn_ns) (last_of (boards_in s)) → e ≡ section_end m clocks moves turn
+pub section-ends : (m : Machine) (clocks : List Clocks) (turn : ℕ) (homing : Bool) (s : SectionStream) (moves : List Move) (released : ℕ → List Release) (e : ℕ) → IsSectionOn m clocks turn homing s moves released → IsDrawn (queue_of s) → ArePast e (boards_in s) → e ≡ max (drawn_to (queue_of s) / turn_ns) (latest_packed (boards_in s)) → e ≡ section_end m clocks moves turn
 section-ends m clocks turn homing s moves released e on drawn past is =
     let f = stepper_end m clocks moves turn in
     let steppers = length m.steppers in
@@ -246,6 +246,6 @@ section-ends m clocks turn homing s moves released e on drawn past is =
     let all = for_each_stepper m f in
     let same : map (λ (x : ℕ). x) all ≡ all = map-same all in
     let up : (i : ℕ) → i < steppers → f i ≤ latest all = end-most m clocks moves turn in
-    let down : latest all ≤ max (end / turn_ns) (last_of (boards_in s)) = (let l = latest-within (λ (x : ℕ). x) all (max (end / turn_ns) (last_of (boards_in s))) (λ i d h. (let q = each i d (omega arith) in let a = end-above m clocks turn homing s moves released e i on drawn past (omega arith) in omega arith)) in rw same at l) in
+    let down : latest all ≤ max (end / turn_ns) (latest_packed (boards_in s)) = (let l = latest-within (λ (x : ℕ). x) all (max (end / turn_ns) (latest_packed (boards_in s))) (λ i d h. (let q = each i d (omega arith) in let a = end-above m clocks turn homing s moves released e i on drawn past (omega arith) in omega arith)) in rw same at l) in
     let below = end-below m clocks turn homing s moves released e (max (end / turn_ns) (latest all)) on drawn past (omega arith) (λ i h. (let u = up i h in omega arith)) in
-    is ∙ ap (λ t. max (t / turn_ns) (last_of (boards_in s))) time ∙ omega arith
+    is ∙ ap (λ t. max (t / turn_ns) (latest_packed (boards_in s))) time ∙ omega arith

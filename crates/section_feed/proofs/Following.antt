@@ -27,8 +27,8 @@ use Rattle.section_stream.specs.Looking.{IsFuture}
 use Rattle.section_stream.proofs.Fronts.{future-here}
 use Rattle.section_stream.proofs.Stretches.{spaced-sent}
 use Rattle.section_feed.specs.declared.section.SectionStream.{SectionStream}
-use Rattle.section_feed.specs.AllBoards.{ArePast, AreReleased, last_of}
-use Rattle.section_feed.specs.Fronts.{IsBoardFront, parts_of}
+use Rattle.section_feed.specs.AllBoards.{ArePast, AreReleased, latest_packed}
+use Rattle.section_feed.specs.Fronts.{IsBoardFront, front_parts}
 use Rattle.section_feed.specs.Kinds.{board_kinds, steppers_on}
 use Rattle.section_feed.specs.On.{IsSectionOn}
 use Rattle.section_feed.specs.Queues.{IsDrawn, drawn_to, is_taking}
@@ -165,7 +165,7 @@ board-follows m clocks turn homing s moves all released b on future h =
     let kinds = λ (n : ℕ). kinds-on homing m clocks turn n in
     let base = λ (n : ℕ). base-on clocks turn n in
     let r = section-front homing s m.scv moves all kinds base released b (board_at m b).freq no-set on.section future (omega arith) (λ k lt. set-to m clocks turn homing s moves released b k on h) in
-    let at = subst (λ (st : BoardSet). ∥ IsBoardFront homing st.clocks (board_at m b).freq st.slots st.first (base b) (kinds b) st.count (parts_of s m.scv all) (released b) ∥₁) (set-here m clocks turn homing s moves released b on h) r in
+    let at = subst (λ (st : BoardSet). ∥ IsBoardFront homing st.clocks (board_at m b).freq st.slots st.first (base b) (kinds b) st.count (front_parts s m.scv all) (released b) ∥₁) (set-here m clocks turn homing s moves released b on h) r in
     subst (λ ps. ∥ IsBoardFront homing (clocks_at clocks b) (board_at m b).freq (board_at m b).slots (turn - 250) (base b) (kinds b) (length (steppers_on b m.steppers)) ps (released b) ∥₁) (section-parts m clocks turn homing s moves all released on) at
 
 pub section-sent : (m : Machine) (clocks : List Clocks) (turn : ℕ) (homing : Bool) (s : SectionStream) (moves all : List Move) (released : ℕ → List Release) (b : ℕ) → IsSectionOn m clocks turn homing s moves released → IsFuture (is_taking (queue_of s)) moves all → b < length m.boards → ∥ AreSentOn m clocks all turn b (released b) ∥₁
@@ -174,7 +174,7 @@ section-sent m clocks turn homing s moves all released b on future h = ∥∥₁
 pub section-follows : (m : Machine) (clocks : List Clocks) (turn : ℕ) (homing : Bool) (s : SectionStream) (moves all : List Move) (released : ℕ → List Release) (b : ℕ) → IsSectionOn m clocks turn homing s moves released → IsFuture (is_taking (queue_of s)) moves all → b < length m.boards → ∥ IsFrontOnBy homing m clocks all turn b (released b) ∥₁
 section-follows m clocks turn homing s moves all released b on future h = ∥∥₁_map (board-follows m clocks turn homing s moves all released b on future h) (front-on homing m clocks all turn b (released b) on.lead)
 
-pub section-on : (m : Machine) (clocks : List Clocks) (turn : ℕ) (homing : Bool) (s : SectionStream) (moves : List Move) (released : ℕ → List Release) (e b : ℕ) → IsSectionOn m clocks turn homing s moves released → IsDrawn (queue_of s) → AreReleased (boards_in s) → ArePast e (boards_in s) → e ≡ max (drawn_to (queue_of s) / turn_ns) (last_of (boards_in s)) → b < length m.boards → ∥ IsOnBoardBy homing m clocks moves turn b (released b) ∥₁
+pub section-on : (m : Machine) (clocks : List Clocks) (turn : ℕ) (homing : Bool) (s : SectionStream) (moves : List Move) (released : ℕ → List Release) (e b : ℕ) → IsSectionOn m clocks turn homing s moves released → IsDrawn (queue_of s) → AreReleased (boards_in s) → ArePast e (boards_in s) → e ≡ max (drawn_to (queue_of s) / turn_ns) (latest_packed (boards_in s)) → b < length m.boards → ∥ IsOnBoardBy homing m clocks moves turn b (released b) ∥₁
 section-on m clocks turn homing s moves released e b on drawn all past is h =
     let own = clocks_at clocks b in
     let l = on.boards in
@@ -193,13 +193,13 @@ section-on m clocks turn homing s moves released e b on drawn all past is h =
           let lt = p.1 in
           let inside : oid < count = omega (arith, lt) in
           let r = section-past s m.scv moves kinds base released b e oid (section_end m clocks moves turn + 1) no-set on.section drawn past (omega arith) (subst (λ (st : BoardSet). oid < st.count) (sym set) inside) (omega arith) in
-          let at = subst (λ (st : BoardSet). All (λ (q : Planned). q.tick < lines_tick st.clocks ((section_end m clocks moves turn + 1) * turn_ns)) (sent_plan (kinds b oid) st.clocks (base b) (parts_of s m.scv moves))) set r in
+          let at = subst (λ (st : BoardSet). All (λ (q : Planned). q.tick < lines_tick st.clocks ((section_end m clocks moves turn + 1) * turn_ns)) (sent_plan (kinds b oid) st.clocks (base b) (front_parts s m.scv moves))) set r in
           let here = subst (λ ps. Within oid (sent_plan (kinds b oid) own (base b) ps)) parts at in
           subst (Within oid) (sym (one-plan m clocks moves turn b oid inside)) here)
     ] in
     let front = section-follows m clocks turn homing s moves moves released b on (future-here (is_taking (queue_of s)) moves) h in
     let r = section-released homing s m.scv moves kinds base released b (board_at m b).freq no-set on.section drawn all (omega arith) (λ k lt. set-to m clocks turn homing s moves released b k on h) in
-    let at = subst (λ (st : BoardSet). ∥ IsReleased homing st.clocks (board_at m b).freq st.slots st.first (base b) (kinds b) st.count (parts_of s m.scv moves) (released b) ∥₁) set r in
+    let at = subst (λ (st : BoardSet). ∥ IsReleased homing st.clocks (board_at m b).freq st.slots st.first (base b) (kinds b) st.count (front_parts s m.scv moves) (released b) ∥₁) set r in
     let here = subst (λ ps. ∥ IsReleased homing own (board_at m b).freq (board_at m b).slots (turn - 250) (base b) (kinds b) count ps (released b) ∥₁) parts at in
     ∥∥₁_elim front ∥∥₁_prop (λ f. ∥∥₁_map here (λ w. section_ended homing own (board_at m b).freq (board_at m b).slots (section_on m clocks moves turn b (released b)) f within (λ oid. elim (leb_tells count oid) as (λ _. length (steps_said oid false (of_stepper oid units)) ≡ length (plan_at plans oid)) [
       | inl p ↦ (

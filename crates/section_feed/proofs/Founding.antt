@@ -11,7 +11,7 @@ use Rattle.plan_types.specs.Lines.{Clocks, lines_tick}
 use Rattle.plan_types.specs.Machines.{board_at, no_stepper}
 use Rattle.section_stream.specs.Steppers.{StepperKind, kind_from}
 use Rattle.section_feed.specs.declared.board.BoardStream.{BoardStream}
-use Rattle.section_feed.specs.Feeding.{IsBoardOf, base_of, count_of, first_of, lines_of, packed_of, slots_in, time_of, turn_of}
+use Rattle.section_feed.specs.Feeding.{IsBoardOf, base_of, count_of, first_of, lines_of_board, packed_of, slots_in, fed_time, turn_of}
 use Rattle.section_feed.specs.Sets.{goes_of, set_from, set_of}
 use Rattle.section_feed.proofs.Setting.{set_with, set-same}
 use Rattle.section_feed.specs.Kinds.{board_kinds, steppers_on}
@@ -39,8 +39,8 @@ pub record AreFound (m : Machine) (clocks : Clocks) (number turn : ℕ) (homing 
   pub relation : IsBoardOf board (board_kinds m clocks number turn homing) (lines_tick clocks (turn * turn_ns)) [] []
   pub count : count_of board ≡ count_by (λ t. eqb t.board number) (take place m.steppers)
   pub base : base_of board ≡ lines_tick clocks (turn * turn_ns)
-  pub lines_are : lines_of board ≡ clocks
-  pub time : time_of board ≡ turn * turn_ns
+  pub lines_are : lines_of_board board ≡ clocks
+  pub time : fed_time board ≡ turn * turn_ns
   pub next : turn_of board + 250 ≡ turn
   pub first : first_of board + 250 ≡ turn
   pub slots : slots_in board ≡ (board_at m number).slots
@@ -63,10 +63,10 @@ found-other m clocks number turn homing place board d f inside other = record {
 
 -- what a board is after one more stepper was added
 pub record IsAdded (m : Machine) (clocks : Clocks) (turn : ℕ) (homing : Bool) (def : StepperDef) (old new : BoardStream) : Type 0 where
-  pub empty : (kinds : ℕ → StepperKind) → IsBoardOf old kinds (base_of old) [] [] → kinds (count_of old) ≡ kind_from m.corexy def (lines_of old).first (cond homing None (Some (base_of old))) → IsBoardOf new kinds (base_of old) [] []
+  pub empty : (kinds : ℕ → StepperKind) → IsBoardOf old kinds (base_of old) [] [] → kinds (count_of old) ≡ kind_from m.corexy def (lines_of_board old).first (cond homing None (Some (base_of old))) → IsBoardOf new kinds (base_of old) [] []
   pub base : base_of new ≡ base_of old
-  pub lines_are : lines_of new ≡ lines_of old
-  pub time : time_of new ≡ time_of old
+  pub lines_are : lines_of_board new ≡ lines_of_board old
+  pub time : fed_time new ≡ fed_time old
   pub next : turn_of new ≡ turn_of old
   pub count : count_of new ≡ count_of old + 1
   pub first : first_of new ≡ first_of old
@@ -82,7 +82,7 @@ found-more m clocks number turn homing place old new def f inside is own added =
     let base = lines_tick clocks (turn * turn_ns) in
     let stepper : get_or (steppers_on number m.steppers) (count_of old) no_stepper ≡ def = ap (λ n. get_or (steppers_on number m.steppers) n no_stepper) f.count ∙ at ∙ sym is in
     let one : kinds (count_of old) ≡ kind_from m.corexy def clocks.first (cond homing None (Some base)) = ap (λ s. kind_from m.corexy s clocks.first (cond homing None (Some base))) stepper in
-    let two : kind_from m.corexy def clocks.first (cond homing None (Some base)) ≡ kind_from m.corexy def (lines_of old).first (cond homing None (Some (base_of old))) = ap (λ (k : Clocks). kind_from m.corexy def k.first (cond homing None (Some base))) (sym f.lines_are) ∙ ap (λ b. kind_from m.corexy def (lines_of old).first (cond homing None (Some b))) (sym f.base) in
+    let two : kind_from m.corexy def clocks.first (cond homing None (Some base)) ≡ kind_from m.corexy def (lines_of_board old).first (cond homing None (Some (base_of old))) = ap (λ (k : Clocks). kind_from m.corexy def k.first (cond homing None (Some base))) (sym f.lines_are) ∙ ap (λ b. kind_from m.corexy def (lines_of_board old).first (cond homing None (Some b))) (sym f.base) in
     let was : IsBoardOf old kinds (base_of old) [] [] = subst (λ b. IsBoardOf old kinds b [] []) (sym f.base) f.relation in
     let next = added.next in
     let more = added.count in

@@ -16,7 +16,7 @@ use Rattle.clock_line.proofs.Holding.{tick-mono}
 use Rattle.step_feed.specs.declared.stream.FeedStream.{FeedStream}
 use Rattle.step_feed.specs.Units.{StepUnit}
 use Rattle.step_feed.specs.Pacing.{Release, units_of}
-use Rattle.step_feed.specs.Streams.{first_turn, slots_of}
+use Rattle.step_feed.specs.Streams.{stream_start, slots_of}
 use Rattle.section_units.specs.Fronts.{AreFirstOfBy}
 use Rattle.section_units.specs.Sections.{steps_said, of_stepper}
 use Rattle.plan_types.specs.Packing.{open_windows}
@@ -28,7 +28,7 @@ use Rattle.section_stream.specs.declared.ready.Ready.{Ready}
 use Rattle.section_stream.specs.declared.stepper.StepperStream.{StepperStream}
 use Rattle.section_stream.specs.Looking.{IsFuture}
 use Rattle.section_stream.specs.Moving.{given_count}
-use Rattle.section_stream.specs.Steppers.{StepperKind, clocks_of, kind_of, known_of}
+use Rattle.section_stream.specs.Steppers.{StepperKind, stepper_clocks, kind_of, known_of}
 use Rattle.section_stream.proofs.Fronts.{future-here}
 use Rattle.section_stream.proofs.Cutting.{given-longest}
 use Rattle.section_stream.proofs.Keeping.{units-kept}
@@ -39,9 +39,9 @@ use Rattle.section_feed.specs.declared.queue.MoveQueue.{MoveQueue}
 use Rattle.section_feed.specs.declared.section.SectionStream.{SectionStream}
 use Rattle.section_feed.specs.AllBoards.{ArePast, AreReleased}
 use Rattle.section_feed.specs.Boards.{AreUpTo, IsUpTo}
-use Rattle.section_feed.specs.Feeding.{AreFeeding, IsBoardOf, count_of, first_of, lines_of, slots_in, time_of}
-use Rattle.section_feed.specs.Fronts.{IsBoardFront, parts_of}
-use Rattle.section_feed.specs.Ordering.{AreInOrder, order_of}
+use Rattle.section_feed.specs.Feeding.{AreFeeding, IsBoardOf, count_of, first_of, lines_of_board, slots_in, fed_time}
+use Rattle.section_feed.specs.Fronts.{IsBoardFront, front_parts}
+use Rattle.section_feed.specs.Ordering.{AreInOrderFrom, order_of}
 use Rattle.section_feed.specs.Rests.{AreRested}
 use Rattle.section_feed.specs.Queues.{IsDrawn, IsQueueOf, begin_in, cruise_in, drawn_to, is_taking, waiting_end, waiting_parts}
 use Rattle.section_feed.specs.Sections.{IsSectionOf, boards_in, boards_of, queue_of, sets_of}
@@ -59,18 +59,18 @@ none-front (x ∷ xs) ys e = absurd (clash e)
     clash : x ∷ (xs ++ ys) ≡ [] → ⊥
     clash p = cc
 
-order-front : (before : ℕ) (xs ys : List StepUnit) → AreInOrder before (xs ++ ys) → AreInOrder before xs
+order-front : (before : ℕ) (xs ys : List StepUnit) → AreInOrderFrom before (xs ++ ys) → AreInOrderFrom before xs
 order-front before [] ys h = tt
 order-front before (x ∷ xs) ys h = (h.0, order-front (order_of x) xs ys h.1)
 
 -- parts that begin at a time or later
-after-known : (clocks : Clocks) (goes : Bool) (time turn place : ℕ) (s : StepperStream) (more : List TimedPart) → IsUpTo clocks goes time turn place s → (goes ≡ false → more ≡ []) → All (λ t. time ≤ t.begin) more → All (λ t. known_of s ≤ tick (clocks_of s).first t.begin) more
+after-known : (clocks : Clocks) (goes : Bool) (time turn place : ℕ) (s : StepperStream) (more : List TimedPart) → IsUpTo clocks goes time turn place s → (goes ≡ false → more ≡ []) → All (λ t. time ≤ t.begin) more → All (λ t. known_of s ≤ tick (stepper_clocks s).first t.begin) more
 after-known clocks true time turn place s more up none after = λ k d l. (
     let h = after k d l in
     let known : known_of s ≤ tick clocks.first time = up.known refl in
     let m = tick-mono clocks.first time (get_or more k d).begin h in
     subst (λ (c : Clocks). known_of s ≤ tick c.first (get_or more k d).begin) (sym up.clocks_are) (omega arith))
-after-known clocks false time turn place s more up none after = rw (none refl) (All-nil (λ (t : TimedPart). known_of s ≤ tick (clocks_of s).first t.begin))
+after-known clocks false time turn place s more up none after = rw (none refl) (All-nil (λ (t : TimedPart). known_of s ≤ tick (stepper_clocks s).first t.begin))
 
 -- all units that a stepper has given are the first ones of its plan
 pub one-pushed : (homing : Bool) (clocks : Clocks) (goes : Bool) (time turn : ℕ) (steppers : List StepperStream) (feed : FeedStream) (order freq : ℕ) (kinds : ℕ → StepperKind) (base : ℕ) (parts more : List TimedPart) (released : List Release) (d : StepperStream) (oid : ℕ) → oid < length steppers → AreUpTo clocks goes time turn steppers → (goes ≡ false → more ≡ []) → All (λ t. time ≤ t.begin) more
@@ -140,11 +140,11 @@ one-front homing clocks goes time turn steppers feed order freq kinds base parts
     first_front homing clocks freq oid base (sent_plan (kinds oid) clocks base all) (of_stepper oid (units_of released)) (of_stepper oid feed.waiting.items) (subst (λ us. AreFirstOfBy homing clocks freq oid base (sent_plan (kinds oid) clocks base all) us) split c)
 
 fed-front : (homing : Bool) (clocks : Clocks) (goes : Bool) (time turn : ℕ) (steppers : List StepperStream) (feed : FeedStream) (order freq : ℕ) (kinds : ℕ → StepperKind) (base : ℕ) (parts more : List TimedPart) (released : List Release) → AreUpTo clocks goes time turn steppers → (goes ≡ false → more ≡ []) → All (λ t. time ≤ t.begin) more
-    → ((k : ℕ) → k < length steppers → IsSetTo homing freq base (kinds k)) → AreKept clocks → AreFeeding steppers feed clocks order kinds base parts released → IsBoardFront homing clocks freq (slots_of feed) (first_turn feed) base kinds (length steppers) (parts ++ more) released
+    → ((k : ℕ) → k < length steppers → IsSetTo homing freq base (kinds k)) → AreKept clocks → AreFeeding steppers feed clocks order kinds base parts released → IsBoardFront homing clocks freq (slots_of feed) (stream_start feed) base kinds (length steppers) (parts ++ more) released
 fed-front homing clocks goes time turn steppers feed order freq kinds base parts more released up none after set kept f = record {
   units = λ oid h. each steppers oid h refl;
   others = λ oid h. none-front (of_stepper oid (units_of released)) (of_stepper oid feed.waiting.items) (sym (ap (of_stepper oid) f.fed.pushed_is ∙ of-append oid (units_of released) feed.waiting.items) ∙ f.given.others oid h);
-  in_order = order-front 0 (units_of released) feed.waiting.items (subst (AreInOrder 0) f.fed.pushed_is f.in_order);
+  in_order = order-front 0 (units_of released) feed.waiting.items (subst (AreInOrderFrom 0) f.fed.pushed_is f.in_order);
   longest = λ oid h. long steppers oid h refl;
   paced = f.fed.paced;
 }
@@ -157,8 +157,8 @@ fed-front homing clocks goes time turn steppers feed order freq kinds base parts
     long [] oid h is = absurd (omega arith)
     long (s ∷ ss) oid h is = one-longest homing clocks goes time turn steppers feed order freq kinds base parts more released s oid (subst (λ (xs : List StepperStream). oid < length xs) is h) up none after set kept f
 
-pub board-front : (homing : Bool) (b : BoardStream) (freq : ℕ) (kinds : ℕ → StepperKind) (base : ℕ) (parts more : List TimedPart) (released : List Release) → (goes_of b ≡ false → more ≡ []) → All (λ t. time_of b ≤ t.begin) more
-    → ((k : ℕ) → k < count_of b → IsSetTo homing freq base (kinds k)) → IsBoardOf b kinds base parts released → ∥ IsBoardFront homing (lines_of b) freq (slots_in b) (first_of b) base kinds (count_of b) (parts ++ more) released ∥₁
+pub board-front : (homing : Bool) (b : BoardStream) (freq : ℕ) (kinds : ℕ → StepperKind) (base : ℕ) (parts more : List TimedPart) (released : List Release) → (goes_of b ≡ false → more ≡ []) → All (λ t. fed_time b ≤ t.begin) more
+    → ((k : ℕ) → k < count_of b → IsSetTo homing freq base (kinds k)) → IsBoardOf b kinds base parts released → ∥ IsBoardFront homing (lines_of_board b) freq (slots_in b) (first_of b) base kinds (count_of b) (parts ++ more) released ∥₁
 board-front homing b freq kinds base parts more released none after set was =
     ∥∥₁_elim b.up_to ∥∥₁_prop (λ up. ∥∥₁_map was (fed-front homing b.lines b.goes b.time b.turn b.steppers.items b.feed b.order freq kinds base parts more released up none after set (kept-lasting b.lines b.lasting)))
 
@@ -206,10 +206,10 @@ queue-left q scv moves all parts h future =
 
 pub section-front : (homing : Bool) (s : SectionStream) (scv : ℕ) (moves all : List Move) (kinds : ℕ → ℕ → StepperKind) (base : ℕ → ℕ) (released : ℕ → List Release) (b freq : ℕ) (d : BoardSet) → IsSectionOf s scv moves kinds base released → IsFuture (is_taking (queue_of s)) moves all → b < boards_of s
     → ((k : ℕ) → k < (get_or (sets_of s) b d).count → IsSetTo homing freq (base b) (kinds b k))
-    → ∥ IsBoardFront homing (get_or (sets_of s) b d).clocks freq (get_or (sets_of s) b d).slots (get_or (sets_of s) b d).first (base b) (kinds b) (get_or (sets_of s) b d).count (parts_of s scv all) (released b) ∥₁
+    → ∥ IsBoardFront homing (get_or (sets_of s) b d).clocks freq (get_or (sets_of s) b d).slots (get_or (sets_of s) b d).first (base b) (kinds b) (get_or (sets_of s) b d).count (front_parts s scv all) (released b) ∥₁
 section-front homing s scv moves all kinds base released b freq d h future inside set = go s.boards.items refl
   where
-    go : (boards : List BoardStream) → boards ≡ s.boards.items → ∥ IsBoardFront homing (get_or (sets_of s) b d).clocks freq (get_or (sets_of s) b d).slots (get_or (sets_of s) b d).first (base b) (kinds b) (get_or (sets_of s) b d).count (parts_of s scv all) (released b) ∥₁
+    go : (boards : List BoardStream) → boards ≡ s.boards.items → ∥ IsBoardFront homing (get_or (sets_of s) b d).clocks freq (get_or (sets_of s) b d).slots (get_or (sets_of s) b d).first (base b) (kinds b) (get_or (sets_of s) b d).count (front_parts s scv all) (released b) ∥₁
     go [] is = absurd (let l = ap (λ (bs : List BoardStream). length bs) is in omega arith)
     go (x ∷ xs) is =
         let one = get_or s.boards.items b x in
@@ -219,11 +219,11 @@ section-front homing s scv moves all kinds base released b freq d h future insid
         let time = h.boards.times b x inside in
         let r = board-front homing one freq (kinds b) (base b) h.parts left.0 (released b) (λ over. own.none (s.ended.each b x inside over)) (subst (λ (t : ℕ). All (λ p. t ≤ p.begin) left.0) (sym time) own.after)
         (λ k l. set k (subst (λ (st : BoardSet). k < st.count) (sym at) l)) (h.boards.each b x inside) in
-        let here = subst (λ ps. ∥ IsBoardFront homing (lines_of one) freq (slots_in one) (first_of one) (base b) (kinds b) (count_of one) ps (released b) ∥₁) (sym own.whole) r in
-        subst (λ (st : BoardSet). ∥ IsBoardFront homing st.clocks freq st.slots st.first (base b) (kinds b) st.count (parts_of s scv all) (released b) ∥₁) (sym at) here
+        let here = subst (λ ps. ∥ IsBoardFront homing (lines_of_board one) freq (slots_in one) (first_of one) (base b) (kinds b) (count_of one) ps (released b) ∥₁) (sym own.whole) r in
+        subst (λ (st : BoardSet). ∥ IsBoardFront homing st.clocks freq st.slots st.first (base b) (kinds b) st.count (front_parts s scv all) (released b) ∥₁) (sym at) here
 
 -- all moves were drawn
-pub drawn-parts : (s : SectionStream) (scv : ℕ) (moves : List Move) (kinds : ℕ → ℕ → StepperKind) (base : ℕ → ℕ) (released : ℕ → List Release) (h : IsSectionOf s scv moves kinds base released) → IsDrawn (queue_of s) → h.parts ≡ parts_of s scv moves
+pub drawn-parts : (s : SectionStream) (scv : ℕ) (moves : List Move) (kinds : ℕ → ℕ → StepperKind) (base : ℕ → ℕ) (released : ℕ → List Release) (h : IsSectionOf s scv moves kinds base released) → IsDrawn (queue_of s) → h.parts ≡ front_parts s scv moves
 drawn-parts s scv moves kinds base released h drawn =
     let left = queue-left s.queue scv moves moves h.parts h.queue (future-here (is_taking s.queue) moves) in
     sym (left.1.whole ∙ ap (λ ps. h.parts ++ ps) (left.1.none drawn) ∙ append-nil h.parts)
@@ -244,27 +244,27 @@ drawn-time s scv moves kinds base released h drawn =
 
 pub section-released : (homing : Bool) (s : SectionStream) (scv : ℕ) (moves : List Move) (kinds : ℕ → ℕ → StepperKind) (base : ℕ → ℕ) (released : ℕ → List Release) (b freq : ℕ) (d : BoardSet) → IsSectionOf s scv moves kinds base released → IsDrawn (queue_of s) → AreReleased (boards_in s) → b < boards_of s
     → ((k : ℕ) → k < (get_or (sets_of s) b d).count → IsSetTo homing freq (base b) (kinds b k))
-    → ∥ IsReleased homing (get_or (sets_of s) b d).clocks freq (get_or (sets_of s) b d).slots (get_or (sets_of s) b d).first (base b) (kinds b) (get_or (sets_of s) b d).count (parts_of s scv moves) (released b) ∥₁
+    → ∥ IsReleased homing (get_or (sets_of s) b d).clocks freq (get_or (sets_of s) b d).slots (get_or (sets_of s) b d).first (base b) (kinds b) (get_or (sets_of s) b d).count (front_parts s scv moves) (released b) ∥₁
 section-released homing s scv moves kinds base released b freq d h drawn all inside set = go s.boards.items refl
   where
-    go : (boards : List BoardStream) → boards ≡ s.boards.items → ∥ IsReleased homing (get_or (sets_of s) b d).clocks freq (get_or (sets_of s) b d).slots (get_or (sets_of s) b d).first (base b) (kinds b) (get_or (sets_of s) b d).count (parts_of s scv moves) (released b) ∥₁
+    go : (boards : List BoardStream) → boards ≡ s.boards.items → ∥ IsReleased homing (get_or (sets_of s) b d).clocks freq (get_or (sets_of s) b d).slots (get_or (sets_of s) b d).first (base b) (kinds b) (get_or (sets_of s) b d).count (front_parts s scv moves) (released b) ∥₁
     go [] is = absurd (let l = ap (λ (bs : List BoardStream). length bs) is in omega arith)
     go (x ∷ xs) is =
         let one = get_or s.boards.items b x in
         let at : get_or (sets_of s) b d ≡ set_of one = at-mapped s.boards.items b d x inside in
         let r = all.each b x inside homing freq (kinds b) (base b) h.parts (released b) (λ k l. set k (subst (λ (st : BoardSet). k < st.count) (sym at) l)) (h.boards.each b x inside) in
-        let here = subst (λ ps. ∥ IsReleased homing (lines_of one) freq (slots_in one) (first_of one) (base b) (kinds b) (count_of one) ps (released b) ∥₁) (drawn-parts s scv moves kinds base released h drawn) r in
-        subst (λ (st : BoardSet). ∥ IsReleased homing st.clocks freq st.slots st.first (base b) (kinds b) st.count (parts_of s scv moves) (released b) ∥₁) (sym at) here
+        let here = subst (λ ps. ∥ IsReleased homing (lines_of_board one) freq (slots_in one) (first_of one) (base b) (kinds b) (count_of one) ps (released b) ∥₁) (drawn-parts s scv moves kinds base released h drawn) r in
+        subst (λ (st : BoardSet). ∥ IsReleased homing st.clocks freq st.slots st.first (base b) (kinds b) st.count (front_parts s scv moves) (released b) ∥₁) (sym at) here
 
 pub section-past : (s : SectionStream) (scv : ℕ) (moves : List Move) (kinds : ℕ → ℕ → StepperKind) (base : ℕ → ℕ) (released : ℕ → List Release) (b turn oid later : ℕ) (d : BoardSet) → IsSectionOf s scv moves kinds base released → IsDrawn (queue_of s) → ArePast turn (boards_in s) → b < boards_of s
-    → oid < (get_or (sets_of s) b d).count → turn < later → All (λ q. q.tick < lines_tick (get_or (sets_of s) b d).clocks (later * turn_ns)) (sent_plan (kinds b oid) (get_or (sets_of s) b d).clocks (base b) (parts_of s scv moves))
+    → oid < (get_or (sets_of s) b d).count → turn < later → All (λ q. q.tick < lines_tick (get_or (sets_of s) b d).clocks (later * turn_ns)) (sent_plan (kinds b oid) (get_or (sets_of s) b d).clocks (base b) (front_parts s scv moves))
 section-past s scv moves kinds base released b turn oid later d h drawn past inside own after = go s.boards.items refl
   where
-    go : (boards : List BoardStream) → boards ≡ s.boards.items → All (λ q. q.tick < lines_tick (get_or (sets_of s) b d).clocks (later * turn_ns)) (sent_plan (kinds b oid) (get_or (sets_of s) b d).clocks (base b) (parts_of s scv moves))
+    go : (boards : List BoardStream) → boards ≡ s.boards.items → All (λ q. q.tick < lines_tick (get_or (sets_of s) b d).clocks (later * turn_ns)) (sent_plan (kinds b oid) (get_or (sets_of s) b d).clocks (base b) (front_parts s scv moves))
     go [] is = absurd (let l = ap (λ (bs : List BoardStream). length bs) is in omega arith)
     go (x ∷ xs) is =
         let one = get_or s.boards.items b x in
         let at : get_or (sets_of s) b d ≡ set_of one = at-mapped s.boards.items b d x inside in
         let r = (past.each b x inside).within (kinds b) (base b) h.parts (released b) (h.boards.each b x inside) oid (subst (λ (st : BoardSet). oid < st.count) at own) later after in
-        let here = subst (λ ps. All (λ (q : Planned). q.tick < lines_tick (lines_of one) (later * turn_ns)) (sent_plan (kinds b oid) (lines_of one) (base b) ps)) (drawn-parts s scv moves kinds base released h drawn) r in
-        subst (λ (st : BoardSet). All (λ (q : Planned). q.tick < lines_tick st.clocks (later * turn_ns)) (sent_plan (kinds b oid) st.clocks (base b) (parts_of s scv moves))) (sym at) here
+        let here = subst (λ ps. All (λ (q : Planned). q.tick < lines_tick (lines_of_board one) (later * turn_ns)) (sent_plan (kinds b oid) (lines_of_board one) (base b) ps)) (drawn-parts s scv moves kinds base released h drawn) r in
+        subst (λ (st : BoardSet). All (λ (q : Planned). q.tick < lines_tick st.clocks (later * turn_ns)) (sent_plan (kinds b oid) st.clocks (base b) (front_parts s scv moves))) (sym at) here

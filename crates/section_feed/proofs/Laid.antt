@@ -16,11 +16,11 @@ use Rattle.step_feed.specs.Pacing.{Release}
 use Rattle.step_feed.specs.declared.stream.FeedStream.{FeedStream}
 use Rattle.section_stream.specs.declared.stepper.StepperStream.{StepperStream}
 use Rattle.section_stream.specs.Pieces.{IsLastOf, steps_in}
-use Rattle.section_stream.specs.Plans.{lines_of}
+use Rattle.section_stream.specs.Plans.{stream_lines}
 use Rattle.section_stream.specs.Steppers.{StepperKind, packed_step}
 use Rattle.section_stream.proofs.Packed.{last-told}
 use Rattle.section_feed.specs.declared.section.SectionStream.{SectionStream}
-use Rattle.section_feed.specs.AllBoards.{ArePast, last_of}
+use Rattle.section_feed.specs.AllBoards.{ArePast, latest_packed}
 use Rattle.section_feed.specs.Boards.{AreUpTo}
 use Rattle.section_feed.specs.Feeding.{AreFeeding}
 use Rattle.section_feed.specs.Going.{most_ahead}
@@ -56,11 +56,11 @@ stepper-laid clocks goes time turn steppers feed order kinds base parts released
     let here = up.each k d h in
     let given = f.given.each k d h in
     let s = given.stepper in
-    let last : IsLastOf (packed_step one) base (steps_in given.pieces) = last-told (lines_of one.steps) one.pack.oid one.pack.max_error one.pack.last one.pack.up one.pack.reset one.pack.held.items one.pack.units.items base _ given.pieces (of_stepper k f.units) s.packed in
+    let last : IsLastOf (packed_step one) base (steps_in given.pieces) = last-told (stream_lines one.steps) one.pack.oid one.pack.max_error one.pack.last one.pack.up one.pack.reset one.pack.held.items one.pack.units.items base _ given.pieces (of_stepper k f.units) s.packed in
     let by : All (λ q. q.tick < lines_tick clocks (one.turn * turn_ns)) (steps_in given.pieces) = subst (λ (c : Clocks). All (λ (q : Planned). q.tick < lines_tick c (one.turn * turn_ns)) (steps_in given.pieces)) here.clocks_are s.early in
     last-laid clocks turn base (packed_step one) (steps_in given.pieces) some last (subst (λ n. All (λ (q : Planned). q.tick < lines_tick clocks (n * turn_ns)) (steps_in given.pieces)) here.packed by)
 
-boards-laid : (m : Machine) (clocks : List Clocks) (turn : ℕ) (homing : Bool) (s : SectionStream) (moves : List Move) (released : ℕ → List Release) → IsSectionOn m clocks turn homing s moves released → last_of (boards_in s) ≤ next_of s + 259
+boards-laid : (m : Machine) (clocks : List Clocks) (turn : ℕ) (homing : Bool) (s : SectionStream) (moves : List Move) (released : ℕ → List Release) → IsSectionOn m clocks turn homing s moves released → latest_packed (boards_in s) ≤ next_of s + 259
 boards-laid m clocks turn homing s moves released on =
     latest-within last_in (boards_in s) (next_of s + 259) (λ b d inside. (
     let one = get_or (boards_in s) b d in

@@ -17,12 +17,12 @@ use Rattle.section_units.specs.Units.{as_sent}
 use Rattle.section_stream.specs.declared.stepper.StepperStream.{StepperStream}
 use Rattle.section_stream.specs.Fronts.{HasStepsLeft}
 use Rattle.section_stream.specs.Looking.{IsFuture}
-use Rattle.section_stream.specs.Steppers.{StepperKind, clocks_of, kind_of, packed_to}
+use Rattle.section_stream.specs.Steppers.{StepperKind, stepper_clocks, kind_of, packed_to}
 use Rattle.section_stream.proofs.Later.{left-late, packed-late}
 use Rattle.section_feed.specs.declared.board.BoardStream.{BoardStream}
 use Rattle.section_feed.specs.declared.section.SectionStream.{SectionStream}
 use Rattle.section_feed.specs.Boards.{AreUpTo, IsLasting}
-use Rattle.section_feed.specs.Feeding.{AreFeeding, lines_of}
+use Rattle.section_feed.specs.Feeding.{AreFeeding, lines_of_board}
 use Rattle.section_feed.specs.Going.{IsPackedTo}
 use Rattle.section_feed.specs.Kinds.{board_kinds, steppers_on}
 use Rattle.section_feed.specs.Left.{AreLeft, IsOutside}
@@ -71,12 +71,12 @@ stepper-late clocks goes time turn k start place s steppers feed order kinds par
     let u = up.each place s inside in
     let given = f.given.each place s inside in
     let kind = f.kinds_are.each place s inside in
-    let same : sent_plan (kind_of one) (clocks_of one) base parts ≡ sent_plan (kinds place) clocks base parts = ap (λ (c : Clocks). sent_plan (kind_of one) c base parts) u.clocks_are ∙ ap (λ (q : StepperKind). sent_plan q clocks base parts) kind in
+    let same : sent_plan (kind_of one) (stepper_clocks one) base parts ≡ sent_plan (kinds place) clocks base parts = ap (λ (c : Clocks). sent_plan (kind_of one) c base parts) u.clocks_are ∙ ap (λ (q : StepperKind). sent_plan q clocks base parts) kind in
     let kept = kept-lasting clocks lasting in
     let kept_here = subst Rattle.clock_line.specs.Kept.AreKept (sym u.clocks_are) kept in
     let Here : Clocks → List Planned → Type 0 = λ c steps. k ≤ last_turn c steps in
-    let plan = sent_plan (kind_of one) (clocks_of one) base parts in
-    let done : k ≤ last_turn (clocks_of one) plan → k ≤ last_turn clocks (sent_plan (kinds place) clocks base parts) = λ h. subst (Here clocks) same (subst (λ (c : Clocks). Here c plan) u.clocks_are h) in
+    let plan = sent_plan (kind_of one) (stepper_clocks one) base parts in
+    let done : k ≤ last_turn (stepper_clocks one) plan → k ≤ last_turn clocks (sent_plan (kinds place) clocks base parts) = λ h. subst (Here clocks) same (subst (λ (c : Clocks). Here c plan) u.clocks_are h) in
     elim left as (λ _. k ≤ last_turn clocks (sent_plan (kinds place) clocks base parts)) [
       | inl steps ↦ done (let l = left-late one base turn parts given.out given.pieces _ given.stepper kept_here u.caught_up steps in omega (arith, l, to))
       | inr (inl low) ↦ (
@@ -86,7 +86,7 @@ stepper-late clocks goes time turn k start place s steppers feed order kinds par
       | inr (inr high) ↦ (
           let small_base = lines-small clocks (start * turn_ns) lasting (omega arith) in
           let small_cut = lines-small clocks (k * turn_ns) lasting (omega arith) in
-          let cut : lines_tick (clocks_of one) (k * turn_ns) ≤ packed_to one = subst (λ (c : Clocks). lines_tick c (k * turn_ns) ≤ packed_to one) (sym u.clocks_are) (omega (arith, small_cut, high)) in
+          let cut : lines_tick (stepper_clocks one) (k * turn_ns) ≤ packed_to one = subst (λ (c : Clocks). lines_tick c (k * turn_ns) ≤ packed_to one) (sym u.clocks_are) (omega (arith, small_cut, high)) in
           done (packed-late one base k parts given.out given.pieces _ given.stepper kept_here (omega (arith, small_base, high)) cut))
     ]
 
@@ -106,7 +106,7 @@ plan-most m clocks moves turn b place k homing inside h =
     omega (arith, here, sent, end, most)
 
 -- a step is left to a stepper of a board that was given all moves
-board-late : (m : Machine) (clocks : List Clocks) (turn : ℕ) (homing : Bool) (s : SectionStream) (moves : List Move) (released : ℕ → List Release) (k b : ℕ) (d : BoardStream) → IsSectionOn m clocks turn homing s moves released → IsDrawn (queue_of s) → All (IsPackedTo k) (boards_in s) → k < 2 ^ 44 → b < boards_of s → AreLeft (lines_of (get_or (boards_in s) b d)) (steppers_in (get_or (boards_in s) b d)) → k ≤ section_end m clocks moves turn
+board-late : (m : Machine) (clocks : List Clocks) (turn : ℕ) (homing : Bool) (s : SectionStream) (moves : List Move) (released : ℕ → List Release) (k b : ℕ) (d : BoardStream) → IsSectionOn m clocks turn homing s moves released → IsDrawn (queue_of s) → All (IsPackedTo k) (boards_in s) → k < 2 ^ 44 → b < boards_of s → AreLeft (lines_of_board (get_or (boards_in s) b d)) (steppers_in (get_or (boards_in s) b d)) → k ≤ section_end m clocks moves turn
 board-late m clocks turn homing s moves released k b d on drawn packed small inside left =
     let one = get_or (boards_in s) b d in
     let own = clocks_at clocks b in
@@ -117,7 +117,7 @@ board-late m clocks turn homing s moves released k b d on drawn packed small ins
     let start = may.turn_small in
     let set = set-of m clocks turn homing s moves released b d on inside in
     let count = ap (λ (x : BoardSet). x.count) set in
-    let lines : lines_of one ≡ own = ap (λ (x : BoardSet). x.clocks) set in
+    let lines : lines_of_board one ≡ own = ap (λ (x : BoardSet). x.clocks) set in
     let there = left.inside in
     let to = (packed b d inside).packed in
     let parts : on.section.parts ≡ section_parts m moves turn = drawn-parts s m.scv moves _ _ released on.section drawn ∙ section-parts m clocks turn homing s moves moves released on in
@@ -134,7 +134,7 @@ board-late m clocks turn homing s moves released k b d on drawn packed small ins
         let may = on.may_start b (omega arith) in
         let start = may.turn_small in
         let set = set-of m clocks turn homing s moves released b d on inside in
-        let lines : lines_of one ≡ own = ap (λ (x : BoardSet). x.clocks) set in
+        let lines : lines_of_board one ≡ own = ap (λ (x : BoardSet). x.clocks) set in
         let to = (packed b d inside).packed in
         ∥∥₁_elim one.up_to (hlevel props) (λ up. ∥∥₁_elim (on.section.boards.each b d inside) (hlevel props) (λ f.
         stepper-late own one.goes one.time one.turn k turn left.place t one.steppers.items one.feed one.order (board_kinds m own b turn homing) on.section.parts (released b) may.lasting (omega arith) small to

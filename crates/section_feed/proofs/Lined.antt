@@ -18,7 +18,7 @@ use Rattle.section_feed.specs.declared.board.BoardStream.{BoardStream}
 use Rattle.section_feed.specs.declared.queue.MoveQueue.{MoveQueue}
 use Rattle.section_feed.specs.declared.section.SectionStream.{SectionStream}
 use Rattle.section_feed.specs.Boards.{MayStart, MayTake}
-use Rattle.section_feed.specs.Feeding.{IsBoardOf, count_of, first_of, lines_of, slots_in, time_of, turn_of}
+use Rattle.section_feed.specs.Feeding.{IsBoardOf, count_of, first_of, lines_of_board, slots_in, fed_time, turn_of}
 use Rattle.section_feed.specs.Kinds.{board_kinds, steppers_on}
 use Rattle.section_feed.specs.Lined.{HasLine, line_at, with_line}
 use Rattle.section_feed.specs.On.{IsSectionOn}
@@ -43,8 +43,8 @@ set-each P xs place x all here k d h =
 -- a board took up a line
 pub record IsBoardLined (turn : ℕ) (line : Line) (old new : BoardStream) : Type 0 where
   pub on : (kinds : ℕ → StepperKind) (base : ℕ) (parts : List TimedPart) (released : List Release) → IsBoardOf old kinds base parts released → IsBoardOf new kinds base parts released
-  pub lines : lines_of new ≡ added (lines_of old) (turn * turn_ns) line
-  pub time : time_of new ≡ time_of old
+  pub lines : lines_of_board new ≡ added (lines_of_board old) (turn * turn_ns) line
+  pub time : fed_time new ≡ fed_time old
   pub next : turn_of new ≡ turn_of old
   pub first : first_of new ≡ first_of old
   pub slots : slots_in new ≡ slots_in old
@@ -57,7 +57,7 @@ set-lined turn line old new h =
     ap (λ (k : Clocks). set_with k (first_of new) (slots_in new) (count_of new)) h.lines ∙ ap (λ n. set_with k' n (slots_in new) (count_of new)) h.first ∙ ap (λ n. set_with k' (first_of old) n (count_of new)) h.slots ∙ ap (λ n. set_with k' (first_of old) (slots_in old) n) h.count
   where
     k' : Clocks
-    k' = added (lines_of old) (turn * turn_ns) line
+    k' = added (lines_of_board old) (turn * turn_ns) line
 
     set_with : Clocks → ℕ → ℕ → ℕ → BoardSet
     set_with clocks first slots count = record { clocks = clocks; first = first; slots = slots; count = count }
@@ -65,10 +65,10 @@ set-lined turn line old new h =
 pub boards-lined : (xs : List BoardStream) (place turn : ℕ) (line : Line) (old new : BoardStream) (time : ℕ) (kinds : ℕ → ℕ → StepperKind) (base : ℕ → ℕ) (parts : List TimedPart) (released : ℕ → List Release) → place < length xs → old ≡ get_or xs place old → IsBoardLined turn line old new → AreBoards xs time kinds base parts released → AreBoards (set xs place new) time kinds base parts released
 boards-lined xs place turn line old new time kinds base parts released inside is h are =
     let was : IsBoardOf old (kinds place) (base place) parts (released place) = subst (λ (b : BoardStream). IsBoardOf b (kinds place) (base place) parts (released place)) (sym is) (are.each place old inside) in
-    let at : time_of old ≡ time = ap time_of is ∙ are.times place old inside in
+    let at : fed_time old ≡ time = ap fed_time is ∙ are.times place old inside in
     record {
       each = set-each (λ b x. IsBoardOf x (kinds b) (base b) parts (released b)) xs place new are.each (h.on (kinds place) (base place) parts (released place) was);
-      times = set-each (λ b x. time_of x ≡ time) xs place new are.times (h.time ∙ at);
+      times = set-each (λ b x. fed_time x ≡ time) xs place new are.times (h.time ∙ at);
     }
 
 pub rested-lined : (xs : List BoardStream) (place turn low : ℕ) (line : Line) (old new : BoardStream) → place < length xs → old ≡ get_or xs place old → low < turn → IsBoardLined turn line old new → AreAllRested low xs → AreAllRested low (set xs place new)

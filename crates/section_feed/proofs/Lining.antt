@@ -20,7 +20,7 @@ use Rattle.step_feed.proofs.Wholes.{fed-kept}
 use Rattle.section_stream.specs.declared.stepper.StepperStream.{StepperStream}
 use Rattle.section_stream.specs.Pieces.{AreInTurns, Piece}
 use Rattle.section_stream.proofs.Cutting.{turns-lined}
-use Rattle.section_stream.specs.Steppers.{IsCaughtUp, IsDueFrom, IsStepperOf, StartFrom, StepperKind, clocks_of, kind_of, known_of, parts_end, planned_turn, units_of}
+use Rattle.section_stream.specs.Steppers.{IsCaughtUp, IsDueFrom, IsStepperOf, StartFrom, StepperKind, stepper_clocks, kind_of, known_of, parts_end, planned_turn, units_of}
 use Rattle.section_stream.proofs.Adding.{added-before, kept-added}
 use Rattle.section_stream.proofs.Dues.{stepper-caught, stepper-ends}
 use Rattle.section_feed.specs.Boards.{AreUpTo, IsLasting, IsUpTo, MayTake, most_ns}
@@ -58,8 +58,8 @@ known-most clocks false time turn place s up small = let over = up.over refl in 
 
 -- what a stepper may be told of it
 pub record MayLine (s : StepperStream) (from : ℕ) (line : Line) : Type 0 where
-  pub hold : MayHold (clocks_of s) from line
-  pub on_board : lines_board (added (clocks_of s) from line) (parts_end s) < tick_limit
+  pub hold : MayHold (stepper_clocks s) from line
+  pub on_board : lines_board (added (stepper_clocks s) from line) (parts_end s) < tick_limit
   pub order : planned_turn s * turn_ns ≤ from
 
 pub may-line : (clocks : Clocks) (goes : Bool) (time packed turn place : ℕ) (line : Line) (s : StepperStream) → IsLasting clocks → MayTake clocks turn line → packed < turn → time < most_ns → IsUpTo clocks goes time packed place s → MayLine s (turn * turn_ns) line
@@ -79,7 +79,7 @@ may-line clocks goes time packed turn place line s lasting may behind small up =
     }
 
 -- a stepper took it up
-pub lined-on : (clocks : Clocks) (goes : Bool) (time packed turn place from : ℕ) (line : Line) (old new : StepperStream) → from ≡ turn * turn_ns → packed < turn → IsUpTo clocks goes time packed place old → clocks_of new ≡ added (clocks_of old) from line → known_of new ≡ known_of old → planned_turn new ≡ planned_turn old → kind_of new ≡ kind_of old → units_of new ≡ units_of old
+pub lined-on : (clocks : Clocks) (goes : Bool) (time packed turn place from : ℕ) (line : Line) (old new : StepperStream) → from ≡ turn * turn_ns → packed < turn → IsUpTo clocks goes time packed place old → stepper_clocks new ≡ added (stepper_clocks old) from line → known_of new ≡ known_of old → planned_turn new ≡ planned_turn old → kind_of new ≡ kind_of old → units_of new ≡ units_of old
     → ((t : ℕ) → t * turn_ns < from → IsCaughtUp t old → IsCaughtUp t new)
     → ((low : ℕ) → planned_turn old * turn_ns < from → low * turn_ns < from → IsDueFrom low old → IsDueFrom low new)
     → ((base : ℕ) (parts : List TimedPart) (out : List Planned) (pieces : List Piece) (given : List StepUnit) → IsStepperOf old base parts out pieces given → IsStepperOf new base parts out pieces given)
@@ -98,7 +98,7 @@ lined-on clocks goes time packed turn place from line old new is behind up lines
       };
       kind = kind;
       due = λ low before. due low (omega arith) (omega arith);
-      on = λ base parts given h. record { out = h.out; pieces = h.pieces; stepper = on base parts h.out h.pieces given h.stepper; in_turns = subst (λ (k : Clocks). AreInTurns k 0 h.pieces) (sym lines) (turns-lined (clocks_of old) 0 (planned_turn old) from line h.pieces h.in_turns h.past (omega arith)); past = (let l = h.past in omega (arith, l, same)) };
+      on = λ base parts given h. record { out = h.out; pieces = h.pieces; stepper = on base parts h.out h.pieces given h.stepper; in_turns = subst (λ (k : Clocks). AreInTurns k 0 h.pieces) (sym lines) (turns-lined (stepper_clocks old) 0 (planned_turn old) from line h.pieces h.in_turns h.past (omega arith)); past = (let l = h.past in omega (arith, l, same)) };
       rested = λ low before r. record { turn = low; late = omega arith; caught = caught low (omega arith) (stepper-caught old low r.turn r.late r.caught); start = subst (StartFrom low) (sym units) r.start };
     }
 

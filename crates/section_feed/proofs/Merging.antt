@@ -16,12 +16,12 @@ use Rattle.clock_line.proofs.Turns.{tick_over-mono, turn-after, turn-below, turn
 use Rattle.step_feed.specs.Units.{StepUnit}
 use Rattle.section_stream.specs.declared.stepper.StepperStream.{StepperStream}
 use Rattle.section_stream.specs.Rows.{AreInRow}
-use Rattle.section_stream.specs.Steppers.{IsDueFrom, StartFrom, clocks_of, kind_of, packed_to, units_of}
+use Rattle.section_stream.specs.Steppers.{IsDueFrom, StartFrom, stepper_clocks, kind_of, packed_to, units_of}
 use Rattle.section_stream.proofs.Dues.{stepper-byte, stepper-own, stepper-row}
 use Rattle.section_feed.specs.Boards.{AreUpTo, IsLasting, IsUpTo}
 use Rattle.section_feed.specs.Changes.{GoOn}
-use Rattle.section_feed.specs.Dues.{AreBehind, AreDueFrom, ComesLater, HasFirst, IsTaken, StartsBehind, order_at}
-use Rattle.section_feed.specs.Ordering.{AreInOrder, last_order, order_of}
+use Rattle.section_feed.specs.Dues.{AllStartBehind, AreDueFrom, ComesLater, HasFirst, IsTaken, StartsBehind, order_at}
+use Rattle.section_feed.specs.Ordering.{AreInOrderFrom, last_order, order_of}
 use Rattle.section_feed.specs.Rests.{AreAfter, AreAfterTo}
 use Rattle.section_feed.proofs.Lasts.{kept-lasting}
 use Rattle.section_feed.proofs.Orders.{at-added, last-order-append, order-append}
@@ -38,7 +38,7 @@ record IsHead (clocks : Clocks) (place : ℕ) (u : StepUnit) : Type 0 where
 
 head-is : (clocks : Clocks) (goes : Bool) (time turn place : ℕ) (s : StepperStream) (u : StepUnit) (us : List StepUnit) → IsUpTo clocks goes time turn place s → units_of s ≡ u ∷ us → IsHead clocks place u
 head-is clocks goes time turn place s u us up is = ∥∥₁_elim (stepper-row s) (hlevel props) (λ r. (
-    let row : AreInRow clocks 0 (packed_to s) (u ∷ us) = subst (λ (k : Clocks). AreInRow k 0 (packed_to s) (u ∷ us)) up.clocks_are (subst (λ (xs : List StepUnit). AreInRow (clocks_of s) 0 (packed_to s) xs) is r) in
+    let row : AreInRow clocks 0 (packed_to s) (u ∷ us) = subst (λ (k : Clocks). AreInRow k 0 (packed_to s) (u ∷ us)) up.clocks_are (subst (λ (xs : List StepUnit). AreInRow (stepper_clocks s) 0 (packed_to s) xs) is r) in
     let own : u.stepper ≡ (kind_of s).oid = (subst (All (λ (v : StepUnit). v.stepper ≡ (kind_of s).oid)) is (stepper-own s)) 0 u (omega arith) in
     let byte = stepper-byte s in
     let number = up.number in
@@ -48,7 +48,7 @@ head-is clocks goes time turn place s u us up is = ∥∥₁_elim (stepper-row s
 head-next : (clocks : Clocks) (goes : Bool) (time turn place : ℕ) (s : StepperStream) (u : StepUnit) (us : List StepUnit) → IsUpTo clocks goes time turn place s → units_of s ≡ u ∷ us → StartsBehind (order_of u) us
 head-next clocks goes time turn place s u [] up is = tt
 head-next clocks goes time turn place s u (v ∷ us) up is = ∥∥₁_elim (stepper-row s) (hlevel props) (λ r. (
-    let row : AreInRow (clocks_of s) 0 (packed_to s) (u ∷ v ∷ us) = subst (λ (xs : List StepUnit). AreInRow (clocks_of s) 0 (packed_to s) xs) is r in
+    let row : AreInRow (stepper_clocks s) 0 (packed_to s) (u ∷ v ∷ us) = subst (λ (xs : List StepUnit). AreInRow (stepper_clocks s) 0 (packed_to s) xs) is r in
     let h = head-is clocks goes time turn place s u (v ∷ us) up is in
     let ends = row.0.ends in
     let after = row.1.0.after in
@@ -89,7 +89,7 @@ same-head u v us vs e = cc
 
 -- where the unit that comes first is taken out, the others stand behind it
 module _ (clocks : Clocks) (goes : Bool) (time turn due place : ℕ) (steppers : List StepperStream) (old new : StepperStream) (u : StepUnit) where
-  popped-behind : IsLasting clocks → ∥ AreUpTo clocks goes time turn steppers ∥₁ → HasFirst due (length steppers) steppers place → old ≡ get_or steppers place old → units_of old ≡ u ∷ units_of new → AreBehind (order_of u) (set steppers place new)
+  popped-behind : IsLasting clocks → ∥ AreUpTo clocks goes time turn steppers ∥₁ → HasFirst due (length steppers) steppers place → old ≡ get_or steppers place old → units_of old ≡ u ∷ units_of new → AllStartBehind (order_of u) (set steppers place new)
   popped-behind lasting up f is waits = record {
     each = λ k d l. ∥∥₁_elim up (behind-prop _ _) (λ a. (
         let inside = f.inside in
@@ -109,7 +109,7 @@ module _ (clocks : Clocks) (goes : Bool) (time turn due place : ℕ) (steppers :
   }
 
   -- it stood behind whatever the others did
-  popped-after : (order : ℕ) → place < length steppers → old ≡ get_or steppers place old → units_of old ≡ u ∷ units_of new → AreBehind order steppers → order < order_of u
+  popped-after : (order : ℕ) → place < length steppers → old ≡ get_or steppers place old → units_of old ≡ u ∷ units_of new → AllStartBehind order steppers → order < order_of u
   popped-after order inside is waits behind = subst (StartsBehind order) (ap units_of (sym is) ∙ waits) (behind.each place old inside)
 
   popped-taken : (low : ℕ) → ∥ AreUpTo clocks goes time turn steppers ∥₁ → HasFirst due (length steppers) steppers place → old ≡ get_or steppers place old → units_of old ≡ u ∷ units_of new → ∥ AreDueFrom low steppers ∥₁ → IsTaken clocks low due u
@@ -131,7 +131,7 @@ module _ (clocks : Clocks) (goes : Bool) (time turn due place : ℕ) (steppers :
       })))
 
 pub some-order : (clocks : Clocks) (goes : Bool) (time turn due place : ℕ) (r : Option StepUnit) (steppers : List StepperStream) (old new : StepperStream) → IsLasting clocks → ∥ AreUpTo clocks goes time turn steppers ∥₁ → HasFirst due (length steppers) steppers place → old ≡ get_or steppers place old → IfSome r (λ u. units_of old ≡ u ∷ units_of new)
-    → IfSome r (λ u. (order : ℕ) → AreBehind order steppers → (order < order_of u) × AreBehind (order_of u) (set steppers place new))
+    → IfSome r (λ u. (order : ℕ) → AllStartBehind order steppers → (order < order_of u) × AllStartBehind (order_of u) (set steppers place new))
 some-order clocks goes time turn due place None steppers old new lasting up f is waits = tt
 some-order clocks goes time turn due place (Some u) steppers old new lasting up f is waits = λ order behind. (popped-after clocks goes time turn due place steppers old new u order f.inside is waits behind, popped-behind clocks goes time turn due place steppers old new u lasting up f is waits)
 
@@ -141,10 +141,10 @@ some-taken clocks goes time turn due place None steppers old new up f is waits =
 some-taken clocks goes time turn due place (Some u) steppers old new up f is waits = λ low dues. popped-taken clocks goes time turn due place steppers old new u low up f is waits dues
 
 -- one more unit behind others, in their order
-pub order-more : (order : ℕ) (units : List StepUnit) (u : StepUnit) (steppers : List StepperStream) → AreInOrder order units → last_order order units < order_of u → AreBehind (order_of u) steppers → AreInOrder order (units ++ u ∷ []) × AreBehind (last_order order (units ++ u ∷ [])) steppers
+pub order-more : (order : ℕ) (units : List StepUnit) (u : StepUnit) (steppers : List StepperStream) → AreInOrderFrom order units → last_order order units < order_of u → AllStartBehind (order_of u) steppers → AreInOrderFrom order (units ++ u ∷ []) × AllStartBehind (last_order order (units ++ u ∷ [])) steppers
 order-more order units u steppers in_order after behind = (
   order-append order units (u ∷ []) in_order (after, tt),
-  subst (λ (o : ℕ). AreBehind o steppers) (sym (last-order-append order units (u ∷ []))) behind,
+  subst (λ (o : ℕ). AllStartBehind o steppers) (sym (last-order-append order units (u ∷ []))) behind,
 )
 
 -- what is due stays due
@@ -177,7 +177,7 @@ due-after clocks goes time turn due low steppers up after late is = ∥∥₁_ma
 pub due-added : (low : ℕ) (old new : List StepperStream) (s : StepperStream) → ∥ AreDueFrom low old ∥₁ → IsDueFrom low s → new ≡ old ++ s ∷ [] → ∥ AreDueFrom low new ∥₁
 due-added low old new s dues here is = ∥∥₁_map dues (λ d. rw is (record { each = λ k e h. at-added (λ n t. IsDueFrom low t) old s d.each here k e h }))
 
-pub due-new : (clocks : Clocks) (low turn : ℕ) (s : StepperStream) → low ≤ turn → clocks_of s ≡ clocks → packed_to s ≡ lines_tick clocks (turn * turn_ns) → units_of s ≡ [] → IsDueFrom low s
+pub due-new : (clocks : Clocks) (low turn : ℕ) (s : StepperStream) → low ≤ turn → stepper_clocks s ≡ clocks → packed_to s ≡ lines_tick clocks (turn * turn_ns) → units_of s ≡ [] → IsDueFrom low s
 due-new clocks low turn s order lines packed none = record {
   waits = subst (StartFrom low) (sym none) tt;
   later = inr (rw lines (let up = tick_over-mono clocks.first 0 clocks.held (low * turn_ns) (turn * turn_ns) (omega arith) in omega arith));
@@ -206,7 +206,7 @@ starts-behind clocks low order k (v ∷ ws) some handed heads start =
     ]
 
 -- units that are due in a turn or later stand behind those of earlier turns
-pub due-behind : (clocks : Clocks) (goes : Bool) (time turn low order : ℕ) (steppers : List StepperStream) → ∥ AreUpTo clocks goes time turn steppers ∥₁ → ∥ AreDueFrom low steppers ∥₁ → 0 < low → (0 < order → order < order_at clocks low) → AreBehind order steppers
+pub due-behind : (clocks : Clocks) (goes : Bool) (time turn low order : ℕ) (steppers : List StepperStream) → ∥ AreUpTo clocks goes time turn steppers ∥₁ → ∥ AreDueFrom low steppers ∥₁ → 0 < low → (0 < order → order < order_at clocks low) → AllStartBehind order steppers
 due-behind clocks goes time turn low order steppers up dues some handed = record {
   each = λ k d h. ∥∥₁_elim up (behind-prop _ _) (λ a. ∥∥₁_elim dues (behind-prop _ _) (λ e.
       starts-behind clocks low order k (units_of (get_or steppers k d)) some handed (λ v ws is. head-is clocks goes time turn k (get_or steppers k d) v ws (a.each k d h) is) (e.each k d h).waits));

@@ -13,7 +13,7 @@ use Rattle.step_feed.specs.Pacing.{Release}
 use Rattle.step_feed.specs.Streams.{IsFedOf}
 use Rattle.section_stream.specs.declared.stepper.StepperStream.{StepperStream}
 use Rattle.section_stream.specs.Steppers.{IsStepperOf, StepperKind, kind_of}
-use Rattle.section_feed.specs.Ordering.{AreInOrder, last_order}
+use Rattle.section_feed.specs.Ordering.{AreInOrderFrom, last_order}
 use Rattle.section_feed.specs.Boards.{AreUpTo, HasGiven, HaveGiven, HaveKinds}
 use Rattle.section_feed.specs.Changes.{GoOn}
 use Rattle.section_feed.specs.Feeding.{AreFeeding}
@@ -60,7 +60,7 @@ board-kept clocks goes time turn all old new feed order kinds base parts release
     subst (λ ps. ∥ AreFeeding new feed clocks order kinds base ps released ∥₁) (append-nil parts) (board-pushed clocks goes time turn [] all old new feed order kinds base parts released is goes_on was)
 
 pub board-gave : (clocks : Clocks) (goes : Bool) (time turn : ℕ) (units : List StepUnit) (all old new : List StepperStream) (feed fed : FeedStream) (order order' : ℕ) (more : List Release) (kinds : ℕ → StepperKind) (base : ℕ) (parts : List TimedPart) (released : List Release) → old ≡ all → ∥ GoOn clocks goes time turn [] units old new ∥₁ → All (λ u. u.stepper < length old) units
-    → AreInOrder order units → order' ≡ last_order order units → ((pushed : List StepUnit) (released : List Release) → IsFedOf feed clocks pushed released → IsFedOf fed clocks (pushed ++ units) (released ++ more))
+    → AreInOrderFrom order units → order' ≡ last_order order units → ((pushed : List StepUnit) (released : List Release) → IsFedOf feed clocks pushed released → IsFedOf fed clocks (pushed ++ units) (released ++ more))
     → ∥ AreFeeding all feed clocks order kinds base parts released ∥₁ → ∥ AreFeeding new fed clocks order' kinds base parts (released ++ more) ∥₁
 board-gave clocks goes time turn units all old new feed fed order order' more kinds base parts released is goes_on own in_order order_is feeds was =
     let on = subst (λ (ss : List StepperStream). ∥ GoOn clocks goes time turn [] units ss new ∥₁) is goes_on in
@@ -69,7 +69,7 @@ board-gave clocks goes time turn units all old new feed fed order order' more ki
       units = f.units ++ units;
       kinds_are = kinds-on clocks goes time turn [] units all new kinds p f.kinds_are;
       given = subst (λ ps. HaveGiven new base ps (f.units ++ units)) (append-nil parts) (given-on clocks goes time turn [] units all new base parts f.units p mine f.given);
-      in_order = order-append 0 f.units units f.in_order (subst (λ o. AreInOrder o units) f.order_is in_order);
+      in_order = order-append 0 f.units units f.in_order (subst (λ o. AreInOrderFrom o units) f.order_is in_order);
       order_is = order_is ∙ ap (λ o. last_order o units) f.order_is ∙ sym (last-order-append 0 f.units units);
       fed = feeds f.units released f.fed;
     }))

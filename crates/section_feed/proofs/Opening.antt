@@ -17,7 +17,7 @@ use Rattle.clock_line.specs.Kept.{AreKept}
 use Rattle.clock_line.proofs.Turns.{turn-after}
 use Rattle.step_feed.specs.declared.stream.FeedStream.{FeedStream}
 use Rattle.step_feed.specs.Pacing.{Release, lead}
-use Rattle.step_feed.specs.Streams.{first_turn, next_turn, slots_of}
+use Rattle.step_feed.specs.Streams.{stream_start, next_turn, slots_of}
 use Rattle.step_feed.specs.Units.{StepUnit}
 use Rattle.section_units.specs.Completed.{IsOpenFrontBy, pushed_of}
 use Rattle.section_units.specs.Fronts.{AreFirstOfBy}
@@ -34,7 +34,7 @@ use Rattle.section_stream.proofs.Stretches.{spaced-above}
 use Rattle.section_feed.specs.declared.board.BoardStream.{BoardStream}
 use Rattle.section_feed.specs.declared.section.SectionStream.{SectionStream}
 use Rattle.section_feed.specs.Boards.{AreUpTo, IsLasting}
-use Rattle.section_feed.specs.Feeding.{AreFeeding, IsBoardOf, count_of, first_of, lines_of, slots_in, time_of, turn_of}
+use Rattle.section_feed.specs.Feeding.{AreFeeding, IsBoardOf, count_of, first_of, lines_of_board, slots_in, fed_time, turn_of}
 use Rattle.section_feed.specs.Kinds.{steppers_on}
 use Rattle.section_feed.specs.On.{CanComplete, IsSectionOn}
 use Rattle.section_feed.specs.Queues.{is_taking}
@@ -87,7 +87,7 @@ by-place m clocks all turn b oid P none some =
     ]
 
 -- a board of a section as an open front
-open-front : (homing : Bool) (m : Machine) (clocks : List Clocks) (all : List Move) (turn b : ℕ) (goes : Bool) (time packed : ℕ) (steppers : List StepperStream) (feeds : FeedStream) (order : ℕ) (parts more : List TimedPart) (released : List Release) → 250 ≤ turn → 1 ≤ slots_of feeds → first_turn feeds ≡ turn - 250 → length steppers ≡ length (steppers_on b m.steppers) → parts ++ more ≡ section_parts m all turn
+open-front : (homing : Bool) (m : Machine) (clocks : List Clocks) (all : List Move) (turn b : ℕ) (goes : Bool) (time packed : ℕ) (steppers : List StepperStream) (feeds : FeedStream) (order : ℕ) (parts more : List TimedPart) (released : List Release) → 250 ≤ turn → 1 ≤ slots_of feeds → stream_start feeds ≡ turn - 250 → length steppers ≡ length (steppers_on b m.steppers) → parts ++ more ≡ section_parts m all turn
     → IsLasting (clocks_at clocks b) → AreUpTo (clocks_at clocks b) goes time packed steppers → (goes ≡ false → more ≡ []) → All (λ t. time ≤ t.begin) more → ((k : ℕ) → k < length steppers → IsSetTo homing (board_at m b).freq (base-on clocks turn b) (kinds-on homing m clocks turn b k)) → AreRested (next_turn feeds + 250) steppers
     → AreFeeding steppers feeds (clocks_at clocks b) order (kinds-on homing m clocks turn b) (base-on clocks turn b) parts released
     → IsOpenFrontBy homing (clocks_at clocks b) (board_at m b).freq (slots_of feeds) turn (section_end m clocks all turn) (next_turn feeds) (length (steppers_on b m.steppers)) (plan_at (plans_on m clocks all turn b)) released feeds.waiting.items
@@ -117,7 +117,7 @@ open-front homing m clocks all turn b goes time packed steppers feeds order part
       ];
       fits = λ oid. by-place m clocks all turn b oid (Fits freq base (steps_said oid false (pushed_of oid released feeds.waiting.items))) (λ h. subst (λ us. Fits freq base (steps_said oid false us) []) (sym (others oid h)) tt) (λ h. (given oid h).fits);
       later = λ oid. by-place m clocks all turn b oid (λ p. All (λ (q : Planned). next_turn feeds + lead ≤ lines_turn own q.tick) (drop (length (steps_said oid false (pushed_of oid released feeds.waiting.items))) p)) (λ h. none-left (length (steps_said oid false (pushed_of oid released feeds.waiting.items)))) (rest oid);
-      from = first_turn feeds;
+      from = stream_start feeds;
       exact = omega arith;
       paced = f.fed.paced;
       no_room = f.fed.no_sooner;
@@ -146,10 +146,10 @@ can-complete homing m clocks all turn b slots next next' count rs waiting is sam
     }
 
 board-open : (homing : Bool) (m : Machine) (clocks : List Clocks) (all : List Move) (turn b next : ℕ) (board : BoardStream) (parts more : List TimedPart) (released : List Release) → 250 ≤ turn → 1 ≤ (board_at m b).slots → set_of board ≡ start_set m clocks turn b → parts ++ more ≡ section_parts m all turn → turn_of board ≡ next → IsLasting (clocks_at clocks b)
-    → (goes_of board ≡ false → more ≡ []) → All (λ t. time_of board ≤ t.begin) more → ((k : ℕ) → k < count_of board → IsSetTo homing (board_at m b).freq (base-on clocks turn b) (kinds-on homing m clocks turn b k)) → ∥ AreRested (next + 250) (steppers_in board) ∥₁ → IsBoardOf board (kinds-on homing m clocks turn b) (base-on clocks turn b) parts released → ∥ AreSentOn m clocks all turn b released ∥₁ → ∥ CanComplete homing m clocks all turn b next released ∥₁
+    → (goes_of board ≡ false → more ≡ []) → All (λ t. fed_time board ≤ t.begin) more → ((k : ℕ) → k < count_of board → IsSetTo homing (board_at m b).freq (base-on clocks turn b) (kinds-on homing m clocks turn b k)) → ∥ AreRested (next + 250) (steppers_in board) ∥₁ → IsBoardOf board (kinds-on homing m clocks turn b) (base-on clocks turn b) parts released → ∥ AreSentOn m clocks all turn b released ∥₁ → ∥ CanComplete homing m clocks all turn b next released ∥₁
 board-open homing m clocks all turn b next board parts more released late slots set whole same lasting none after sets rested was sent =
     let own = clocks_at clocks b in
-    let lines : lines_of board ≡ own = ap (λ (x : BoardSet). x.clocks) set in
+    let lines : lines_of_board board ≡ own = ap (λ (x : BoardSet). x.clocks) set in
     let count : count_of board ≡ length (steppers_on b m.steppers) = ap (λ (x : BoardSet). x.count) set in
     let first : first_of board ≡ turn - 250 = ap (λ (x : BoardSet). x.first) set in
     let slots_are : slots_in board ≡ (board_at m b).slots = ap (λ (x : BoardSet). x.slots) set in

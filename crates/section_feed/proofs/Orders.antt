@@ -9,7 +9,7 @@ use Rattle.step_feed.specs.Units.{StepUnit}
 use Rattle.step_feed.specs.Pacing.{Release}
 use Rattle.step_feed.specs.Streams.{IsFedOf}
 use Rattle.step_feed.specs.declared.stream.FeedStream.{FeedStream}
-use Rattle.section_feed.specs.Ordering.{AreInOrder, last_order, order_of}
+use Rattle.section_feed.specs.Ordering.{AreInOrderFrom, last_order, order_of}
 
 pub ne-eqb : (a b : ℕ) → (a ≡ b → ⊥) → eqb a b ≡ false
 ne-eqb a b h = grind (arith, nat_tests)
@@ -36,7 +36,7 @@ at-added P (y ∷ ys) x all here zero d h = all 0 d (omega arith)
 at-added P (y ∷ ys) x all here (suc k) d h = at-added (λ n. P (suc n)) ys x (λ n e l. all (suc n) e (omega arith)) here k d (omega arith)
 
 -- units behind others in their order
-pub order-append : (before : ℕ) (xs ys : List StepUnit) → AreInOrder before xs → AreInOrder (last_order before xs) ys → AreInOrder before (xs ++ ys)
+pub order-append : (before : ℕ) (xs ys : List StepUnit) → AreInOrderFrom before xs → AreInOrderFrom (last_order before xs) ys → AreInOrderFrom before (xs ++ ys)
 order-append before [] ys h k = k
 order-append before (x ∷ xs) ys h k = (h.0, order-append (order_of x) xs ys h.1 k)
 

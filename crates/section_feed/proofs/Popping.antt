@@ -11,9 +11,9 @@ use Rattle.plan_types.specs.Sections.{TimedPart}
 use Rattle.step_feed.specs.Units.{StepUnit}
 use Rattle.section_stream.specs.declared.stepper.StepperStream.{StepperStream}
 use Rattle.section_stream.specs.Pieces.{Piece}
-use Rattle.section_stream.specs.Steppers.{IsCaughtUp, IsDueFrom, IsStepperOf, clocks_of, kind_of, known_of, planned_turn}
+use Rattle.section_stream.specs.Steppers.{IsCaughtUp, IsDueFrom, IsStepperOf, stepper_clocks, kind_of, known_of, planned_turn}
 use Rattle.section_feed.specs.Boards.{AreUpTo, IsLasting, IsUpTo}
-use Rattle.section_feed.specs.Changes.{GoOn, GoesOn}
+use Rattle.section_feed.specs.Changes.{GoOn, StepperGoesOn}
 use Rattle.section_feed.proofs.Boarding.{gave-on, kept-on, still-on, go-on-none, go-on-twice}
 use Rattle.section_feed.proofs.Lasts.{kept-lasting}
 use Rattle.section_feed.proofs.Changing.{any-default}
@@ -21,11 +21,11 @@ use Rattle.section_feed.proofs.Changing.{any-default}
 -- what stays of a stepper that may give a unit
 pub record IsSame (old new : StepperStream) : Type 0 where
   pub known : known_of new ≡ known_of old
-  pub lines : clocks_of new ≡ clocks_of old
+  pub lines : stepper_clocks new ≡ stepper_clocks old
   pub turn : planned_turn new ≡ planned_turn old
   pub kind : kind_of new ≡ kind_of old
   pub caught : (t : ℕ) → IsCaughtUp t old → IsCaughtUp t new
-  pub due : (low : ℕ) → AreKept (clocks_of old) → IsDueFrom low old → IsDueFrom low new
+  pub due : (low : ℕ) → AreKept (stepper_clocks old) → IsDueFrom low old → IsDueFrom low new
 
 -- on a board of one line its units are due as before
 due-on : (clocks : Clocks) (goes : Bool) (time turn place : ℕ) (old new : StepperStream) → IsLasting clocks → IsUpTo clocks goes time turn place old → IsSame old new → (low : ℕ) → IsDueFrom low old → IsDueFrom low new
@@ -51,7 +51,7 @@ popped-on clocks goes time turn place u steppers old new lasting all inside is s
     let number : u.stepper ≡ place = own ∙ up.number in
     record {
       same = length-set steppers place new;
-      each = goes-at (GoesOn clocks goes time turn [] (u ∷ [])) steppers place old new inside is (gave-on clocks goes time turn place u old new up same.known (same.caught turn) same.lines same.turn same.kind (due-on clocks goes time turn place old new lasting up same) own gave)
+      each = goes-at (StepperGoesOn clocks goes time turn [] (u ∷ [])) steppers place old new inside is (gave-on clocks goes time turn place u old new up same.known (same.caught turn) same.lines same.turn same.kind (due-on clocks goes time turn place old new lasting up same) own gave)
           (λ k d l other. still-on clocks goes time turn k u (get_or steppers k d) (all.each k d l) (λ e. other (sym e ∙ number)));
     }
 
@@ -68,10 +68,10 @@ popped-none clocks goes time turn place (Some u) steppers old new lasting all in
 popped-none clocks goes time turn place None steppers old new lasting all inside is same kept = ∥∥₁_map all (λ up. (
     let own : IsUpTo clocks goes time turn place old = subst (IsUpTo clocks goes time turn place) (sym is) (up.each place old inside) in
     let none = go-on-none clocks goes time turn steppers up in
-    let here : GoesOn clocks goes time turn [] [] place old new = kept-on clocks goes goes time turn place old new own (λ e. (let k = own.known e in let s = same.known in omega arith)) (λ e. (let k = own.reaches e in let s = same.known in omega arith)) (λ e. (let k = own.over e in let s = same.known in omega arith)) (same.caught turn) same.lines same.turn same.kind (due-on clocks goes time turn place old new lasting own same) kept in
+    let here : StepperGoesOn clocks goes time turn [] [] place old new = kept-on clocks goes goes time turn place old new own (λ e. (let k = own.known e in let s = same.known in omega arith)) (λ e. (let k = own.reaches e in let s = same.known in omega arith)) (λ e. (let k = own.over e in let s = same.known in omega arith)) (same.caught turn) same.lines same.turn same.kind (due-on clocks goes time turn place old new lasting own same) kept in
     record {
       same = length-set steppers place new;
-      each = goes-at (GoesOn clocks goes time turn [] []) steppers place old new inside is here (λ k d l other. none.each k d l);
+      each = goes-at (StepperGoesOn clocks goes time turn [] []) steppers place old new inside is here (λ k d l other. none.each k d l);
     }))
 
 pub popped-own : (clocks : Clocks) (goes : Bool) (time turn place : ℕ) (r : Option StepUnit) (steppers : List StepperStream) (old : StepperStream) → ∥ AreUpTo clocks goes time turn steppers ∥₁ → place < length steppers → old ≡ get_or steppers place old → IfSome r (λ u. u.stepper ≡ (kind_of old).oid) → IfSome r (λ u. u.stepper < length steppers)

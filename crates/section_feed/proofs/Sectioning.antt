@@ -12,7 +12,7 @@ use Rattle.section_stream.specs.declared.ready.Ready.{Ready}
 use Rattle.section_stream.specs.Steppers.{StepperKind}
 use Rattle.section_feed.specs.declared.board.BoardStream.{BoardStream}
 use Rattle.section_feed.specs.Changes.{AreChanged, AreChangedTo}
-use Rattle.section_feed.specs.Feeding.{IsBoardOf, packed_of, time_of, turn_of}
+use Rattle.section_feed.specs.Feeding.{IsBoardOf, packed_of, fed_time, turn_of}
 use Rattle.section_feed.specs.Going.{HasBatch, IsAtTurn, IsPushed}
 use Rattle.section_feed.specs.Kinds.{board_kinds}
 use Rattle.section_feed.specs.Ended.{AreEnded}
@@ -37,7 +37,7 @@ boards-pushed ready all old new time kinds base parts released is changed are =
 pub record AreMade (m : Machine) (clocks : List Clocks) (turn : ℕ) (homing : Bool) (count : ℕ) (boards : List BoardStream) : Type 0 where
   pub same : length boards ≡ count
   pub each : (b : ℕ) (d : BoardStream) → b < length boards → IsBoardOf (get_or boards b d) (board_kinds m (clocks_at clocks b) b turn homing) (lines_tick (clocks_at clocks b) (turn * turn_ns)) [] []
-  pub times : (b : ℕ) (d : BoardStream) → b < length boards → time_of (get_or boards b d) ≡ turn * turn_ns
+  pub times : (b : ℕ) (d : BoardStream) → b < length boards → fed_time (get_or boards b d) ≡ turn * turn_ns
   pub turns : (b : ℕ) (d : BoardStream) → b < length boards → IsAtTurn (turn - 250) (get_or boards b d)
   pub sets : (b : ℕ) (d : BoardStream) → b < length boards → set_of (get_or boards b d) ≡ start_set m clocks turn b
   pub goes : (b : ℕ) (d : BoardStream) → b < length boards → goes_of (get_or boards b d) ≡ true
@@ -46,7 +46,7 @@ pub none-made : (m : Machine) (clocks : List Clocks) (turn : ℕ) (homing : Bool
 none-made m clocks turn homing boards none = rw none (record { same = refl; each = λ b d h. absurd (omega arith); times = λ b d h. absurd (omega arith); turns = λ b d h. absurd (omega arith); sets = λ b d h. absurd (omega arith); goes = λ b d h. absurd (omega arith) })
 
 pub one-made : (m : Machine) (clocks : List Clocks) (turn : ℕ) (homing : Bool) (count : ℕ) (old new : List BoardStream) (board : BoardStream) (lines : Clocks) → AreMade m clocks turn homing count old → new ≡ old ++ board ∷ [] → lines ≡ clocks_at clocks count
-    → IsBoardOf board (board_kinds m lines count turn homing) (lines_tick lines (turn * turn_ns)) [] [] → time_of board ≡ turn * turn_ns → turn_of board + 250 ≡ turn → set_of board ≡ set_from m lines turn count → goes_of board ≡ true → packed_of board ≡ turn → AreMade m clocks turn homing (count + 1) new
+    → IsBoardOf board (board_kinds m lines count turn homing) (lines_tick lines (turn * turn_ns)) [] [] → fed_time board ≡ turn * turn_ns → turn_of board + 250 ≡ turn → set_of board ≡ set_from m lines turn count → goes_of board ≡ true → packed_of board ≡ turn → AreMade m clocks turn homing (count + 1) new
 one-made m clocks turn homing count old new board lines made adds is relation time next set goes packed =
     let same = made.same in
     let one : IsBoardOf board (board_kinds m (clocks_at clocks (length old)) (length old) turn homing) (lines_tick (clocks_at clocks (length old)) (turn * turn_ns)) [] [] =
@@ -56,7 +56,7 @@ one-made m clocks turn homing count old new board lines made adds is relation ti
     rw adds (record {
       same = (let l = added-length old board in omega arith);
       each = at-added (λ b x. IsBoardOf x (board_kinds m (clocks_at clocks b) b turn homing) (lines_tick (clocks_at clocks b) (turn * turn_ns)) [] []) old board made.each one;
-      times = at-added (λ b x. time_of x ≡ turn * turn_ns) old board made.times time;
+      times = at-added (λ b x. fed_time x ≡ turn * turn_ns) old board made.times time;
       turns = at-added (λ b x. IsAtTurn (turn - 250) x) old board made.turns at;
       sets = at-added (λ b x. set_of x ≡ start_set m clocks turn b) old board made.sets two;
       goes = at-added (λ b x. goes_of x ≡ true) old board made.goes goes;

@@ -21,7 +21,7 @@ use Rattle.section_units.specs.Sections.{steps_said, of_stepper}
 use Rattle.section_units.proofs.Fronting.{first_front}
 use Rattle.section_stream.specs.declared.stepper.StepperStream.{StepperStream}
 use Rattle.section_stream.specs.Pieces.{steps_in}
-use Rattle.section_stream.specs.Plans.{lines_of}
+use Rattle.section_stream.specs.Plans.{stream_lines}
 use Rattle.section_stream.specs.Steppers.{StepperKind}
 use Rattle.section_stream.proofs.Making.{made-first}
 use Rattle.section_stream.proofs.Stretches.{spaced-split}
@@ -57,10 +57,10 @@ stepper-early homing clocks goes time turn steppers fed order freq kinds base pa
     let by : All (λ q. q.tick < lines_tick clocks (one.turn * turn_ns)) steps = subst (λ (c : Clocks). All (λ (q : Planned). q.tick < lines_tick c (one.turn * turn_ns)) steps) here.clocks_are given.stepper.early in
     let before : All (λ q. q.tick < bound) steps = subst (λ n. All (λ (q : Planned). q.tick < lines_tick clocks (n * turn_ns)) steps) here.packed by in
     let spaced = (spaced-split base steps _ (subst (AreSpaced base) packed.split packed.spaced)).0 in
-    let all = made-first homing (lines_of one.steps) one.pack.oid freq base one.pack.reset one.pack.max_error steps [] [] steps given.pieces (of_stepper oid f.units) one.pack.units.items (ap (λ (k : StepperKind). k.reset) kind ∙ is.reset) (ap (λ (k : StepperKind). k.early) kind ∙ is.early) spaced packed.packed (sym (append-nil steps)) (sym (append-nil steps)) packed.units_are in
+    let all = made-first homing (stream_lines one.steps) one.pack.oid freq base one.pack.reset one.pack.max_error steps [] [] steps given.pieces (of_stepper oid f.units) one.pack.units.items (ap (λ (k : StepperKind). k.reset) kind ∙ is.reset) (ap (λ (k : StepperKind). k.early) kind ∙ is.early) spaced packed.packed (sym (append-nil steps)) (sym (append-nil steps)) packed.units_are in
     let split : of_stepper oid f.units ≡ units ++ waiting = ap (of_stepper oid) f.fed.pushed_is ∙ of-append oid (units_of released) fed.waiting.items in
-    let first = first_front homing (lines_of one.steps) freq one.pack.oid base steps units waiting (subst (AreFirstOfBy homing (lines_of one.steps) freq one.pack.oid base steps) split all) in
-    begun-early homing (lines_of one.steps) base bound one.pack.oid units first.begun (fits-before freq base bound (steps_said one.pack.oid false units) steps first.fits before)
+    let first = first_front homing (stream_lines one.steps) freq one.pack.oid base steps units waiting (subst (AreFirstOfBy homing (stream_lines one.steps) freq one.pack.oid base steps) split all) in
+    begun-early homing (stream_lines one.steps) base bound one.pack.oid units first.begun (fits-before freq base bound (steps_said one.pack.oid false units) steps first.fits before)
 
 steppers-early : (homing : Bool) (clocks : Clocks) (goes : Bool) (time turn : ℕ) (steppers : List StepperStream) (feed : FeedStream) (order freq : ℕ) (kinds : ℕ → StepperKind) (base : ℕ) (parts : List TimedPart) (released : List Release) → AreUpTo clocks goes time turn steppers → ((k : ℕ) → k < length steppers → IsSetTo homing freq base (kinds k))
     → AreFeeding steppers feed clocks order kinds base parts released → All (IsReleaseEarly (lines_tick clocks (turn * turn_ns))) released

@@ -13,5 +13,5 @@ pub record ArePast (turn : ℕ) (boards : List BoardStream) : Type 0 where
   pub each : (b : ℕ) (d : BoardStream) → b < length boards → IsPast turn (slice_index_or boards b d)
 
 -- the latest turn of the steps that their steppers packed last, 0 for none
-abbrev pub last_of : List BoardStream → ℕ
-last_of boards = latest (map last_in boards)
+abbrev pub latest_packed : List BoardStream → ℕ
+latest_packed boards = latest (map last_in boards)

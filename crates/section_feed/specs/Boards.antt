@@ -9,9 +9,9 @@ use Rattle.plan_types.specs.Sections.{TimedPart}
 use Rattle.plan_types.specs.Valid.{IsValidLine}
 use Rattle.step_feed.specs.Units.{StepUnit}
 use Rattle.section_stream.specs.declared.stepper.StepperStream.{StepperStream}
-use Rattle.section_stream.specs.Apart.{AreApart, IsNearby}
-use Rattle.section_stream.specs.Pieces.{AreInTurns, Piece, last_turn}
-use Rattle.section_stream.specs.Steppers.{IsCaughtUp, IsStepperOf, StepperKind, clocks_of, kind_of, known_of, planned_turn}
+use Rattle.section_stream.specs.Apart.{AreTurnsApart, IsNearby}
+use Rattle.section_stream.specs.Pieces.{AreInTurns, Piece, pieces_turn}
+use Rattle.section_stream.specs.Steppers.{IsCaughtUp, IsStepperOf, StepperKind, stepper_clocks, kind_of, known_of, planned_turn}
 use Rattle.section_units.specs.Sections.{of_stepper}
 
 -- no section ends as late as this, in nanoseconds: in 500 years
@@ -21,7 +21,7 @@ most_ns = 2 ^ 44 * turn_ns
 -- a stepper that was given the parts of the moves up to a time, where more may come, and whose steps are packed up to a
 -- turn, all that come before it; its object id is its place
 pub record IsUpTo (clocks : Clocks) (goes : Bool) (time turn place : ℕ) (s : StepperStream) : Type 0 where
-  pub clocks_are : clocks_of s ≡ clocks
+  pub clocks_are : stepper_clocks s ≡ clocks
   pub known : goes ≡ true → known_of s ≤ tick clocks.first time
   pub reaches : goes ≡ true → tick clocks.first time ≤ known_of s
   pub over : goes ≡ false → known_of s ≡ tick clocks.first most_ns
@@ -39,7 +39,7 @@ pub record AreUpTo (clocks : Clocks) (goes : Bool) (time turn : ℕ) (steppers :
 pub record IsLasting (clocks : Clocks) : Type 0 where
   pub valid : IsValidLine clocks.first
   pub kept : ∥ AreKept clocks ∥₁
-  pub apart : AreApart clocks
+  pub apart : AreTurnsApart clocks
   pub clock_small : clocks.first.clock < 2 ^ 62
   pub soon : last_from 0 clocks.held < most_ns
   pub small : lines_board clocks (tick clocks.first most_ns) < tick_limit
@@ -65,8 +65,8 @@ pub record HasGiven (s : StepperStream) (base : ℕ) (parts : List TimedPart) (g
   pub out : List Planned
   pub pieces : List Piece
   pub stepper : IsStepperOf s base parts out pieces given
-  pub in_turns : AreInTurns (clocks_of s) 0 pieces
-  pub past : last_turn 0 pieces ≤ planned_turn s
+  pub in_turns : AreInTurns (stepper_clocks s) 0 pieces
+  pub past : pieces_turn 0 pieces ≤ planned_turn s
 
 -- the units of a board are those that its steppers have given
 pub record HaveGiven (steppers : List StepperStream) (base : ℕ) (parts : List TimedPart) (units : List StepUnit)

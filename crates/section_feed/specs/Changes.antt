@@ -21,7 +21,7 @@ pub record AreChangedTo {A : Type 0} (R : ℕ → A → A → Type 0) (count : �
   pub others : (k : ℕ) (d : A) → count ≤ k → k < length old → slice_index_or new k d ≡ slice_index_or old k d
 
 -- a stepper was given more parts, and gave more units
-pub record GoesOn (clocks : Clocks) (goes : Bool) (time turn : ℕ) (more : List TimedPart) (units : List StepUnit)
+pub record StepperGoesOn (clocks : Clocks) (goes : Bool) (time turn : ℕ) (more : List TimedPart) (units : List StepUnit)
     (place : ℕ) (old new : StepperStream) : Type 0 where
   pub up : IsUpTo clocks goes time turn place new
   pub kind : kind_of new ≡ kind_of old
@@ -47,4 +47,4 @@ AreLined clocks goes time packed turn old new = AreChanged (IsLined clocks goes 
 -- all steppers of a board were given them, and gave them
 abbrev pub GoOn : Clocks → Bool → ℕ → ℕ → List TimedPart → List StepUnit → List StepperStream → List StepperStream →
     Type 0
-GoOn clocks goes time turn more units old new = AreChanged (GoesOn clocks goes time turn more units) old new
+GoOn clocks goes time turn more units old new = AreChanged (StepperGoesOn clocks goes time turn more units) old new

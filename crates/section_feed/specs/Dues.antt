@@ -21,7 +21,7 @@ StartsBehind order [] = Unit {0}
 StartsBehind order (u ∷ us) = order < order_of u
 
 -- so do the units of all steppers
-pub record AreBehind (order : ℕ) (steppers : List StepperStream) : Type 0 where
+pub record AllStartBehind (order : ℕ) (steppers : List StepperStream) : Type 0 where
   pub each : (k : ℕ) (d : StepperStream) → k < length steppers →
       StartsBehind order (units_of (slice_index_or steppers k d))
 

@@ -6,9 +6,9 @@ use Rattle.plan_types.specs.Sections.{TimedPart}
 use Rattle.step_feed.specs.Units.{StepUnit}
 use Rattle.step_feed.specs.Pacing.{Release}
 use Rattle.step_feed.specs.declared.stream.FeedStream.{FeedStream}
-use Rattle.step_feed.specs.Streams.{IsFedOf, first_turn, next_turn, slots_of}
+use Rattle.step_feed.specs.Streams.{IsFedOf, stream_start, next_turn, slots_of}
 use Rattle.section_feed.specs.declared.board.BoardStream.{BoardStream}
-use Rattle.section_feed.specs.Ordering.{AreInOrder, last_order}
+use Rattle.section_feed.specs.Ordering.{AreInOrderFrom, last_order}
 use Rattle.section_stream.specs.declared.stepper.StepperStream.{StepperStream}
 use Rattle.section_stream.specs.Steppers.{StepperKind}
 use Rattle.section_feed.specs.Boards.{HaveGiven, HaveKinds}
@@ -20,7 +20,7 @@ pub record AreFeeding (steppers : List StepperStream) (feed : FeedStream) (clock
   pub units : List StepUnit
   pub kinds_are : HaveKinds steppers kinds
   pub given : HaveGiven steppers base parts units
-  pub in_order : AreInOrder 0 units
+  pub in_order : AreInOrderFrom 0 units
   pub order_is : order ≡ last_order 0 units
   pub fed : IsFedOf feed clocks units released
 
@@ -30,12 +30,12 @@ IsBoardOf b kinds base parts released =
     ∥ AreFeeding b.steppers.items b.feed b.lines b.order kinds base parts released ∥₁
 
 -- when the moves end that a board's stream was given, in nanoseconds since the session's start
-abbrev pub time_of : BoardStream → ℕ
-time_of b = b.time
+abbrev pub fed_time : BoardStream → ℕ
+fed_time b = b.time
 
 -- its clock lines
-abbrev pub lines_of : BoardStream → Clocks
-lines_of b = b.lines
+abbrev pub lines_of_board : BoardStream → Clocks
+lines_of_board b = b.lines
 
 -- the turn whose units it gives next
 abbrev pub turn_of : BoardStream → ℕ
@@ -43,7 +43,7 @@ turn_of b = next_turn b.feed
 
 -- from which turn on its units may be released
 abbrev pub first_of : BoardStream → ℕ
-first_of b = first_turn b.feed
+first_of b = stream_start b.feed
 
 -- how many slots the queue of each of its steppers has
 abbrev pub slots_in : BoardStream → ℕ

@@ -10,7 +10,7 @@ use Rattle.section_units.specs.Fronts.{AreFirstOfBy}
 use Rattle.section_units.specs.Sent.{AreLongestOf}
 use Rattle.section_stream.specs.Steppers.{StepperKind}
 use Rattle.section_feed.specs.declared.section.SectionStream.{SectionStream}
-use Rattle.section_feed.specs.Ordering.{AreInOrder}
+use Rattle.section_feed.specs.Ordering.{AreInOrderFrom}
 use Rattle.section_feed.specs.Queues.{begin_in, cruise_in}
 use Rattle.section_feed.specs.Sections.{queue_of}
 use Rattle.section_feed.specs.Wholes.{sent_plan}
@@ -24,11 +24,11 @@ pub record IsBoardFront (homing : Bool) (clocks : Clocks) (freq slots first base
       AreFirstOfBy homing clocks freq oid base (sent_plan (kinds oid) clocks base parts)
       (of_stepper oid (units_of released))
   pub others : (oid : ℕ) → count ≤ oid → of_stepper oid (units_of released) ≡ []
-  pub in_order : AreInOrder 0 (units_of released)
+  pub in_order : AreInOrderFrom 0 (units_of released)
   pub longest : (oid : ℕ) → oid < count →
       AreLongestOf clocks freq base (sent_plan (kinds oid) clocks base parts) (of_stepper oid (units_of released))
   pub paced : ArePaced clocks slots first [] released
 
 -- the parts of a section with all these moves
-abbrev pub parts_of : SectionStream → ℕ → List Move → List TimedPart
-parts_of s scv all = timed_moves (cruise_in (queue_of s)) all (greatest_speeds all scv) (begin_in (queue_of s))
+abbrev pub front_parts : SectionStream → ℕ → List Move → List TimedPart
+front_parts s scv all = timed_moves (cruise_in (queue_of s)) all (greatest_speeds all scv) (begin_in (queue_of s))

@@ -9,7 +9,7 @@ use Rattle.msg_code.specs.declared.unit.Unit.{Unit as StepUnit}
 use Rattle.section_stream.specs.declared.ready.Ready.{Ready}
 use Rattle.section_stream.specs.Steppers.{StepperKind}
 use Rattle.section_feed.specs.declared.board.BoardStream.{BoardStream}
-use Rattle.section_feed.specs.Feeding.{IsBoardOf, lines_of, packed_of, time_of, turn_of}
+use Rattle.section_feed.specs.Feeding.{IsBoardOf, lines_of_board, packed_of, fed_time, turn_of}
 use Rattle.section_feed.specs.Released.{steppers_in}
 use Rattle.section_feed.specs.Rests.{AreRested}
 use Rattle.section_feed.specs.Sets.{goes_of, set_of}
@@ -18,18 +18,18 @@ use Rattle.section_feed.specs.Sets.{goes_of, set_of}
 pub record IsPushed (ready : Ready) (place : ℕ) (old new : BoardStream) : Type 0 where
   pub on : (kinds : ℕ → StepperKind) (base : ℕ) (parts : List TimedPart) (released : List Release) →
       IsBoardOf old kinds base parts released →
-      IsBoardOf new kinds base (parts ++ timed ready.one 0 (time_of old) ready.parts) released
-  pub time : time_of new ≡ time_of old + duration ready.parts
+      IsBoardOf new kinds base (parts ++ timed ready.one 0 (fed_time old) ready.parts) released
+  pub time : fed_time new ≡ fed_time old + duration ready.parts
   pub turn : turn_of new ≡ turn_of old
   pub set : set_of new ≡ set_of old
   pub goes : goes_of new ≡ goes_of old
   pub packed : packed_of new ≡ packed_of old
 
 -- no more moves come for a board
-pub record IsKept (place : ℕ) (old new : BoardStream) : Type 0 where
+pub record IsBoardStill (place : ℕ) (old new : BoardStream) : Type 0 where
   pub on : (kinds : ℕ → StepperKind) (base : ℕ) (parts : List TimedPart) (released : List Release) →
       IsBoardOf old kinds base parts released → IsBoardOf new kinds base parts released
-  pub time : time_of new ≡ time_of old
+  pub time : fed_time new ≡ fed_time old
   pub turn : turn_of new ≡ turn_of old
   pub set : set_of new ≡ set_of old
   pub packed : packed_of new ≡ packed_of old
@@ -38,7 +38,7 @@ pub record IsKept (place : ℕ) (old new : BoardStream) : Type 0 where
 pub record IsPlanned (turn place : ℕ) (old new : BoardStream) : Type 0 where
   pub on : (kinds : ℕ → StepperKind) (base : ℕ) (parts : List TimedPart) (released : List Release) →
       IsBoardOf old kinds base parts released → IsBoardOf new kinds base parts released
-  pub time : time_of new ≡ time_of old
+  pub time : fed_time new ≡ fed_time old
   pub next : turn_of new ≡ turn_of old
   pub set : set_of new ≡ set_of old
   pub goes : goes_of new ≡ goes_of old
@@ -50,7 +50,7 @@ pub record HasBatch (turn : ℕ) (batches : ℕ → List StepUnit) (place : ℕ)
   pub on : (kinds : ℕ → StepperKind) (base : ℕ) (parts : List TimedPart) (released : List Release) →
       IsBoardOf old kinds base parts released →
       IsBoardOf new kinds base parts (released ++ at_turn turn (batches place))
-  pub time : time_of new ≡ time_of old
+  pub time : fed_time new ≡ fed_time old
   pub next : turn_of new ≡ turn + 1
   pub set : set_of new ≡ set_of old
   pub goes : goes_of new ≡ goes_of old
@@ -73,8 +73,8 @@ pub record IsPackedTo (turn : ℕ) (b : BoardStream) : Type 0 where
 -- Its steps are packed so far ahead of a turn that all units are made that are due by 250 turns behind it: up
 -- to a turn that begins behind the next one by as many ticks as a step may be early.
 pub record IsAhead (turn : ℕ) (b : BoardStream) : Type 0 where
-  pub ahead : lines_tick (lines_of b) ((turn + 251) * turn_ns) + max_error (lines_of b).first.freq
-      ≤ lines_tick (lines_of b) (packed_of b * turn_ns)
+  pub ahead : lines_tick (lines_of_board b) ((turn + 251) * turn_ns) + max_error (lines_of_board b).first.freq
+      ≤ lines_tick (lines_of_board b) (packed_of b * turn_ns)
 
 -- more moves may come for a board
 pub record IsOpen (b : BoardStream) : Type 0 where

@@ -6,7 +6,7 @@ use Rattle.section_stream.specs.declared.stepper.StepperStream.{StepperStream}
 use Rattle.section_stream.specs.Fronts.{HasStepsLeft}
 use Rattle.section_stream.specs.Steppers.{packed_to}
 use Rattle.section_feed.specs.declared.board.BoardStream.{BoardStream}
-use Rattle.section_feed.specs.Feeding.{lines_of}
+use Rattle.section_feed.specs.Feeding.{lines_of_board}
 use Rattle.section_feed.specs.Released.{steppers_in}
 
 -- a tick that no run has
@@ -25,4 +25,4 @@ pub record AreLeftOn (boards : List BoardStream) : Type 0 where
   pub board : ℕ
   pub inside : board < length boards
   pub left : (d : BoardStream) →
-      AreLeft (lines_of (slice_index_or boards board d)) (steppers_in (slice_index_or boards board d))
+      AreLeft (lines_of_board (slice_index_or boards board d)) (steppers_in (slice_index_or boards board d))

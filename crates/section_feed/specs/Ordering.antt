@@ -7,9 +7,9 @@ abbrev pub order_of : StepUnit → ℕ
 order_of u = u.first * 256 + u.stepper
 
 -- units stand in this order, behind a place in it
-abbrev pub AreInOrder : ℕ → List StepUnit → Type 0
-AreInOrder before [] = Unit {0}
-AreInOrder before (u ∷ us) = before < order_of u × AreInOrder (order_of u) us
+abbrev pub AreInOrderFrom : ℕ → List StepUnit → Type 0
+AreInOrderFrom before [] = Unit {0}
+AreInOrderFrom before (u ∷ us) = before < order_of u × AreInOrderFrom (order_of u) us
 
 -- where the last of some units stands
 abbrev pub last_order : ℕ → List StepUnit → ℕ

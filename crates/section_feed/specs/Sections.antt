@@ -8,7 +8,7 @@ use Rattle.section_feed.specs.declared.board.BoardStream.{BoardStream}
 use Rattle.section_feed.specs.declared.queue.MoveQueue.{MoveQueue}
 use Rattle.section_feed.specs.declared.section.SectionStream.{SectionStream}
 use Rattle.section_feed.specs.Boards.{most_ns}
-use Rattle.section_feed.specs.Feeding.{IsBoardOf, time_of}
+use Rattle.section_feed.specs.Feeding.{IsBoardOf, fed_time}
 use Rattle.section_feed.specs.Left.{AreLeftOn}
 use Rattle.section_feed.specs.Queues.{IsDrawn, IsQueueOf, drawn_to}
 use Rattle.section_feed.specs.Sets.{BoardSet, set_of}
@@ -18,7 +18,7 @@ pub record AreBoards (boards : List BoardStream) (time : ℕ) (kinds : ℕ → �
     (parts : List TimedPart) (released : ℕ → List Release) : Type 0 where
   pub each : (b : ℕ) (d : BoardStream) → b < length boards →
       IsBoardOf (slice_index_or boards b d) (kinds b) (base b) parts (released b)
-  pub times : (b : ℕ) (d : BoardStream) → b < length boards → time_of (slice_index_or boards b d) ≡ time
+  pub times : (b : ℕ) (d : BoardStream) → b < length boards → fed_time (slice_index_or boards b d) ≡ time
 
 -- These moves were pushed; those of them whose speeds are final were given to the boards, as far as they were
 -- needed, and the boards have released these units.

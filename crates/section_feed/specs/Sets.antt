@@ -5,7 +5,7 @@ use Rattle.plan_types.specs.Lines.{Clocks}
 use Rattle.plan_types.specs.Machines.{board_at}
 use Rattle.plan_types.specs.Sections.{clocks_at}
 use Rattle.section_feed.specs.declared.board.BoardStream.{BoardStream}
-use Rattle.section_feed.specs.Feeding.{count_of, first_of, lines_of, slots_in}
+use Rattle.section_feed.specs.Feeding.{count_of, first_of, lines_of_board, slots_in}
 use Rattle.section_feed.specs.Kinds.{steppers_on}
 
 -- the clock lines of a board, the turn from which on its units may be released, the slots of its queues, and
@@ -18,7 +18,7 @@ pub record BoardSet : Type 0 where
 
 -- what stays the same of a board's stream, with its clock lines
 abbrev pub set_of : BoardStream → BoardSet
-set_of b = record { clocks = lines_of b; first = first_of b; slots = slots_in b; count = count_of b }
+set_of b = record { clocks = lines_of_board b; first = first_of b; slots = slots_in b; count = count_of b }
 
 -- that of a board of a machine with these clock lines, in a section that begins with a turn
 abbrev pub set_from : Machine → Clocks → ℕ → ℕ → BoardSet

@@ -14,8 +14,8 @@ use Rattle.section_stream.specs.declared.stepper.StepperStream.{StepperStream}
 use Rattle.section_stream.specs.Fronts.{plan_of}
 use Rattle.section_stream.specs.Pieces.{Piece, steps_in}
 use Rattle.section_stream.specs.Plans.{segments_for}
-use Rattle.section_stream.specs.Steppers.{IsStepperOf, StepperKind, clocks_of, kind_of, packed_step}
-use Rattle.section_feed.specs.Ordering.{AreInOrder}
+use Rattle.section_stream.specs.Steppers.{IsStepperOf, StepperKind, stepper_clocks, kind_of, packed_step}
+use Rattle.section_feed.specs.Ordering.{AreInOrderFrom}
 
 -- the planned steps of a stepper for these parts of moves, in the directions that are sent
 abbrev pub sent_plan : StepperKind → Clocks → ℕ → List TimedPart → List Planned
@@ -33,7 +33,8 @@ IsDone s =
     (homing : Bool) (freq base : ℕ) (parts : List TimedPart) (out : List Planned) (pieces : List Piece)
     (given : List StepUnit) → (kind_of s).reset ≡ set_to homing base → (kind_of s).early ≡ max_error freq →
     IsStepperOf s base parts out pieces given →
-    ArePackedBy homing (clocks_of s) freq (kind_of s).oid base (as_sent (kind_of s).inverted (plan_of s base parts))
+    ArePackedBy homing (stepper_clocks s) freq (kind_of s).oid base
+    (as_sent (kind_of s).inverted (plan_of s base parts))
     given
 
 -- all of them have
@@ -48,7 +49,7 @@ pub record IsReleased (homing : Bool) (clocks : Clocks) (freq slots first base :
       ArePackedBy homing clocks freq oid base (sent_plan (kinds oid) clocks base parts)
       (of_stepper oid (units_of released))
   pub others : (oid : ℕ) → count ≤ oid → of_stepper oid (units_of released) ≡ []
-  pub in_order : AreInOrder 0 (units_of released)
+  pub in_order : AreInOrderFrom 0 (units_of released)
   pub paced : ArePaced clocks slots first [] released
 
 -- a tick is before the end of a turn

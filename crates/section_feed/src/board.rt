@@ -64,7 +64,7 @@ impl BoardStream {
     ghost use Rattle.section_feed.specs.Released.{HasReleased, IsPast, last_in, steppers_in};
     ghost use Rattle.section_feed.specs.Left.{AreLeft};
     ghost use Rattle.section_feed.specs.Rests.{AreRested};
-    ghost use Rattle.section_feed.specs.Feeding.{IsBoardOf, base_of, count_of, first_of, lines_of, packed_of, slots_in, time_of, turn_of};
+    ghost use Rattle.section_feed.specs.Feeding.{IsBoardOf, base_of, count_of, first_of, lines_of_board, packed_of, slots_in, fed_time, turn_of};
     ghost use Rattle.section_feed.specs.Sets.{goes_of, set_of};
 
     /// A board that has no stepper yet, in a section that begins with a turn; its queues have so many slots.
@@ -74,8 +74,8 @@ impl BoardStream {
         requires slots { 1 ≤ slots }
         ensures empty { (kinds : ℕ → StepperKind) → IsBoardOf result kinds (lines_tick lines (turn * turn_ns)) [] [] }
         ensures base { base_of result ≡ lines_tick lines (turn * turn_ns) }
-        ensures lines { lines_of result ≡ lines }
-        ensures time { time_of result ≡ turn * turn_ns }
+        ensures lines { lines_of_board result ≡ lines }
+        ensures time { fed_time result ≡ turn * turn_ns }
         ensures turn { turn_of result + 250 ≡ turn }
         ensures first { first_of result + 250 ≡ turn }
         ensures slots { slots_in result ≡ slots }
@@ -106,15 +106,15 @@ impl BoardStream {
         requires gear { IsValidGear stepper.now.gear }
         requires number { stepper.now.oid ≡ count_of self.old }
         requires going { goes_of self.old ≡ true }
-        requires begins { time_of self.old ≡ packed_of self.old * turn_ns }
+        requires begins { fed_time self.old ≡ packed_of self.old * turn_ns }
         ensures empty { OnOk result ((kinds : ℕ → StepperKind) → IsBoardOf self.old kinds (base_of self.old) [] [] →
             kinds (count_of self.old)
-            ≡ kind_from corexy stepper.now (lines_of self.old).first
+            ≡ kind_from corexy stepper.now (lines_of_board self.old).first
             (if homing then None else Some (base_of self.old)) →
             IsBoardOf self.new kinds (base_of self.old) [] []) }
         ensures base { base_of self.new ≡ base_of self.old }
-        ensures lines { lines_of self.new ≡ lines_of self.old }
-        ensures time { time_of self.new ≡ time_of self.old }
+        ensures lines { lines_of_board self.new ≡ lines_of_board self.old }
+        ensures time { fed_time self.new ≡ fed_time self.old }
         ensures turn { turn_of self.new ≡ turn_of self.old }
         ensures first { first_of self.new ≡ first_of self.old }
         ensures slots { slots_in self.new ≡ slots_in self.old }
@@ -134,10 +134,10 @@ impl BoardStream {
         requires going { goes_of self.old ≡ true }
         ensures on { OnOk result ((kinds : ℕ → StepperKind) (base : ℕ) (parts : List TimedPart)
             (released : List Release) → IsBoardOf self.old kinds base parts released →
-            IsBoardOf self.new kinds base (parts ++ timed ready.now.one 0 (time_of self.old) ready.now.parts)
+            IsBoardOf self.new kinds base (parts ++ timed ready.now.one 0 (fed_time self.old) ready.now.parts)
             released) }
-        ensures time { OnOk result (time_of self.new ≡ time_of self.old + duration ready.now.parts) }
-        ensures lines { lines_of self.new ≡ lines_of self.old }
+        ensures time { OnOk result (fed_time self.new ≡ fed_time self.old + duration ready.now.parts) }
+        ensures lines { lines_of_board self.new ≡ lines_of_board self.old }
         ensures turn { turn_of self.new ≡ turn_of self.old }
         ensures first { first_of self.new ≡ first_of self.old }
         ensures slots { slots_in self.new ≡ slots_in self.old }
@@ -162,8 +162,8 @@ impl BoardStream {
         ensures on { OnOk result ((kinds : ℕ → StepperKind) (base : ℕ) (parts : List TimedPart)
             (released : List Release) → IsBoardOf self.old kinds base parts released →
             IsBoardOf self.new kinds base parts released) }
-        ensures time { time_of self.new ≡ time_of self.old }
-        ensures lines { lines_of self.new ≡ lines_of self.old }
+        ensures time { fed_time self.new ≡ fed_time self.old }
+        ensures lines { lines_of_board self.new ≡ lines_of_board self.old }
         ensures turn { turn_of self.new ≡ turn_of self.old }
         ensures first { first_of self.new ≡ first_of self.old }
         ensures slots { slots_in self.new ≡ slots_in self.old }
@@ -196,8 +196,8 @@ impl BoardStream {
     pub fn finish(&mut self)
         ensures on { (kinds : ℕ → StepperKind) (base : ℕ) (parts : List TimedPart) (released : List Release) →
             IsBoardOf self.old kinds base parts released → IsBoardOf self.new kinds base parts released }
-        ensures time { time_of self.new ≡ time_of self.old }
-        ensures lines { lines_of self.new ≡ lines_of self.old }
+        ensures time { fed_time self.new ≡ fed_time self.old }
+        ensures lines { lines_of_board self.new ≡ lines_of_board self.old }
         ensures turn { turn_of self.new ≡ turn_of self.old }
         ensures first { first_of self.new ≡ first_of self.old }
         ensures slots { slots_in self.new ≡ slots_in self.old }
@@ -215,13 +215,13 @@ impl BoardStream {
 
     /// Lets a clock line hold from the beginning of a turn on, which is behind that up to which the steps are packed.
     pub fn add_line(&mut self, turn: u64, line: Line) -> Result<(), OutOfMemory>
-        requires may { MayTake (lines_of self.old) turn line }
+        requires may { MayTake (lines_of_board self.old) turn line }
         requires behind { packed_of self.old < turn }
         ensures on { OnOk result ((kinds : ℕ → StepperKind) (base : ℕ) (parts : List TimedPart)
             (released : List Release) → IsBoardOf self.old kinds base parts released →
             IsBoardOf self.new kinds base parts released) }
-        ensures lines { OnOk result (lines_of self.new ≡ added (lines_of self.old) (turn * turn_ns) line) }
-        ensures time { time_of self.new ≡ time_of self.old }
+        ensures lines { OnOk result (lines_of_board self.new ≡ added (lines_of_board self.old) (turn * turn_ns) line) }
+        ensures time { fed_time self.new ≡ fed_time self.old }
         ensures turn { turn_of self.new ≡ turn_of self.old }
         ensures first { first_of self.new ≡ first_of self.old }
         ensures slots { slots_in self.new ≡ slots_in self.old }
@@ -265,8 +265,8 @@ impl BoardStream {
             (released : List Release) → IsBoardOf self.old kinds base parts released →
             IsBoardOf self.new kinds base parts (released ++ at_turn turn units.items)) }
         ensures turn { OnOk result (turn_of self.new ≡ turn + 1) }
-        ensures time { time_of self.new ≡ time_of self.old }
-        ensures lines { lines_of self.new ≡ lines_of self.old }
+        ensures time { fed_time self.new ≡ fed_time self.old }
+        ensures lines { lines_of_board self.new ≡ lines_of_board self.old }
         ensures first { first_of self.new ≡ first_of self.old }
         ensures slots { slots_in self.new ≡ slots_in self.old }
         ensures set { OnOk result (set_of self.new ≡ set_of self.old) }
@@ -302,7 +302,7 @@ impl BoardStream {
     pub fn last_turn(&self) -> Option<u64>
         ensures past { IfSome result (λ t. IsPast t self.now) }
         ensures value { IfSome result (λ t. t ≡ last_in self.now) }
-        ensures left { IfNone result (AreLeft (lines_of self.now) (steppers_in self.now)) }
+        ensures left { IfNone result (AreLeft (lines_of_board self.now) (steppers_in self.now)) }
     {
         last_turn(&self.steppers, &self.lines)
     }

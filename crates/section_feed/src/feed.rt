@@ -5,7 +5,7 @@ ghost use Rattle.plan_types.specs.Clock.{tick_limit};
 ghost use Rattle.plan_types.specs.Lines.{Clocks};
 ghost use Rattle.step_feed.specs.Units.{StepUnit};
 ghost use Rattle.step_feed.specs.Pacing.{Release, lead, turn_limit};
-ghost use Rattle.step_feed.specs.Streams.{IsFedOf, first_turn, next_turn, slots_of};
+ghost use Rattle.step_feed.specs.Streams.{IsFedOf, stream_start, next_turn, slots_of};
 ghost use Rattle.section_feed.specs.Ordering.{last_order, order_of};
 
 use crate::OutOfMemory;
@@ -29,7 +29,7 @@ pub fn feed_units(feed: &mut FeedStream, order: u128, units: &[Unit]) -> Result<
         IsFedOf feed.old clocks pushed released → IsFedOf feed.new clocks (pushed ++ units.now) released) }
     ensures order { IfOk result (λ o. o ≡ last_order order units.now) }
     ensures next { next_turn feed.new ≡ next_turn feed.old }
-    ensures first { first_turn feed.new ≡ first_turn feed.old }
+    ensures first { stream_start feed.new ≡ stream_start feed.old }
     ensures slots { slots_of feed.new ≡ slots_of feed.old }
 {
     let mut place = order;

@@ -20,8 +20,8 @@ ghost use Rattle.section_units.specs.Plans.{AreOnBoardsBy, AreSentOn, AreSentToO
 ghost use Rattle.section_stream.specs.Looking.{IsFuture};
 ghost use Rattle.section_stream.specs.Steppers.{StepperKind};
 ghost use Rattle.section_feed.specs.declared.section.SectionStream.{SectionStream};
-ghost use Rattle.section_feed.specs.AllBoards.{ArePast, AreReleased, last_of};
-ghost use Rattle.section_feed.specs.Fronts.{IsBoardFront, parts_of};
+ghost use Rattle.section_feed.specs.AllBoards.{ArePast, AreReleased, latest_packed};
+ghost use Rattle.section_feed.specs.Fronts.{IsBoardFront, front_parts};
 ghost use Rattle.section_feed.specs.Boards.{IsLasting, MayTake};
 ghost use Rattle.section_feed.specs.Going.{IsPackedTo, most_ahead};
 ghost use Rattle.section_feed.specs.Lined.{ArePlannedBefore, HasLine, line_at};
@@ -41,7 +41,7 @@ pub fn sections_stay()
         ((k : ℕ) → k < (slice_index_or (sets_of s) b d).count → IsSetTo homing freq (base b) (kinds b k)) →
         ∥ IsBoardFront homing (slice_index_or (sets_of s) b d).clocks freq (slice_index_or (sets_of s) b d).slots
         (slice_index_or (sets_of s) b d).first (base b) (kinds b) (slice_index_or (sets_of s) b d).count
-        (parts_of s scv all) (released b) ∥₁ }
+        (front_parts s scv all) (released b) ∥₁ }
 {}
 
 /// The law of a section of which all moves were drawn: it ends when they end; where its boards have released
@@ -59,17 +59,17 @@ pub fn sections_end()
         ((k : ℕ) → k < (slice_index_or (sets_of s) b d).count → IsSetTo homing freq (base b) (kinds b k)) →
         ∥ IsReleased homing (slice_index_or (sets_of s) b d).clocks freq (slice_index_or (sets_of s) b d).slots
         (slice_index_or (sets_of s) b d).first (base b) (kinds b) (slice_index_or (sets_of s) b d).count
-        (parts_of s scv moves) (released b) ∥₁ }
+        (front_parts s scv moves) (released b) ∥₁ }
     ensures within { (s : SectionStream) (scv : ℕ) (moves : List Move) (kinds : ℕ → ℕ → StepperKind) (base : ℕ → ℕ)
         (released : ℕ → List Release) (b turn oid later : ℕ) (d : BoardSet) →
         IsSectionOf s scv moves kinds base released → IsDrawn (queue_of s) → ArePast turn (boards_in s) →
         b < boards_of s → oid < (slice_index_or (sets_of s) b d).count → turn < later →
         All (λ q. q.tick < lines_tick (slice_index_or (sets_of s) b d).clocks (later * turn_ns))
-        (sent_plan (kinds b oid) (slice_index_or (sets_of s) b d).clocks (base b) (parts_of s scv moves)) }
+        (sent_plan (kinds b oid) (slice_index_or (sets_of s) b d).clocks (base b) (front_parts s scv moves)) }
     ensures end { (m : Machine) (clocks : List Clocks) (turn : ℕ) (homing : Bool) (s : SectionStream)
         (moves : List Move) (released : ℕ → List Release) (e : ℕ) → IsSectionOn m clocks turn homing s moves released →
         IsDrawn (queue_of s) → ArePast e (boards_in s) →
-        e ≡ max (drawn_to (queue_of s) / turn_ns) (last_of (boards_in s)) → e ≡ section_end m clocks moves turn }
+        e ≡ max (drawn_to (queue_of s) / turn_ns) (latest_packed (boards_in s)) → e ≡ section_end m clocks moves turn }
 {}
 
 /// The law of packed sections: where all steps of a section are packed, the last one is before the turn up to
@@ -96,7 +96,7 @@ pub fn sections_follow_plans()
     ensures whole { (m : Machine) (clocks : List Clocks) (turn : ℕ) (homing : Bool) (s : SectionStream)
         (moves : List Move) (released : ℕ → List Release) (e b : ℕ) →
         IsSectionOn m clocks turn homing s moves released → IsDrawn (queue_of s) → AreReleased (boards_in s) →
-        ArePast e (boards_in s) → e ≡ max (drawn_to (queue_of s) / turn_ns) (last_of (boards_in s)) →
+        ArePast e (boards_in s) → e ≡ max (drawn_to (queue_of s) / turn_ns) (latest_packed (boards_in s)) →
         b < length m.boards → ∥ IsOnBoardBy homing m clocks moves turn b (released b) ∥₁ }
 {}
 

@@ -7,12 +7,12 @@ ghost use Rattle.plan_types.specs.Machines.{IsValidMachine};
 ghost use Rattle.section_stream.specs.Ready.{IsReadyMove};
 ghost use Rattle.section_feed.specs.Boards.{MayStart};
 ghost use Rattle.section_feed.specs.Changes.{AreChanged};
-ghost use Rattle.section_feed.specs.Feeding.{IsBoardOf, lines_of, packed_of, time_of, turn_of};
-ghost use Rattle.section_feed.specs.Going.{HasBatch, IsAhead, IsAtTurn, IsKept, IsOpen, IsPlanned, IsPushed};
+ghost use Rattle.section_feed.specs.Feeding.{IsBoardOf, lines_of_board, packed_of, fed_time, turn_of};
+ghost use Rattle.section_feed.specs.Going.{HasBatch, IsAhead, IsAtTurn, IsBoardStill, IsOpen, IsPlanned, IsPushed};
 ghost use Rattle.section_feed.specs.Ended.{AreEnded};
 ghost use Rattle.section_feed.specs.Sets.{goes_of, set_from, set_of};
 ghost use Rattle.section_feed.specs.Kinds.{board_kinds};
-ghost use Rattle.section_feed.specs.AllBoards.{ArePast, AreReleased, last_of};
+ghost use Rattle.section_feed.specs.AllBoards.{ArePast, AreReleased, latest_packed};
 ghost use Rattle.section_feed.specs.Left.{AreLeftOn};
 
 use crate::OutOfMemory;
@@ -54,7 +54,7 @@ fn push_boards(boards: &mut Vec<BoardStream>, ready: &Ready) -> Result<(), OutOf
 
 /// No more moves come for all boards.
 fn finish_boards(boards: &mut Vec<BoardStream>)
-    ensures { AreChanged IsKept boards.old.items boards.new.items }
+    ensures { AreChanged IsBoardStill boards.old.items boards.new.items }
 {
     let mut place = 0;
     while place < boards.len() {
@@ -106,7 +106,7 @@ fn are_done(boards: &[BoardStream]) -> bool
 /// are packed.
 fn last_turn(boards: &[BoardStream], first: u64) -> Option<u64>
     ensures past { IfSome result (λ t. ArePast t boards.now) }
-    ensures value { IfSome result (λ t. t ≡ max first (last_of boards.now)) }
+    ensures value { IfSome result (λ t. t ≡ max first (latest_packed boards.now)) }
     ensures left { IfNone result (AreLeftOn boards.now) }
 {
     let mut last = first;
@@ -157,9 +157,9 @@ fn board_of(
     requires lead { 250 ≤ turn }
     ensures empty { IfOk result (λ board.
         IsBoardOf board (board_kinds machine.now lines number turn homing) (lines_tick lines (turn * turn_ns)) [] []) }
-    ensures time { IfOk result (λ board. time_of board ≡ turn * turn_ns) }
+    ensures time { IfOk result (λ board. fed_time board ≡ turn * turn_ns) }
     ensures turn { IfOk result (λ board. turn_of board + 250 ≡ turn) }
-    ensures lines { IfOk result (λ board. lines_of board ≡ lines) }
+    ensures lines { IfOk result (λ board. lines_of_board board ≡ lines) }
     ensures set { IfOk result (λ board. set_of board ≡ set_from machine.now lines turn number) }
     ensures packed { IfOk result (λ board. packed_of board ≡ turn) }
     ensures goes { IfOk result (λ board. goes_of board ≡ true) }
@@ -202,7 +202,7 @@ impl SectionStream {
     ghost use Rattle.section_feed.specs.Going.{IsAhead, IsPackedTo, most_ahead};
     ghost use Rattle.section_feed.specs.Kinds.{board_kinds};
     ghost use Rattle.section_feed.specs.Queues.{IsDrawn, IsQueueOf, begin_in, count_in, cruise_in, drawn_to, is_taking, settled_to};
-    ghost use Rattle.section_feed.specs.AllBoards.{ArePast, AreReleased, last_of};
+    ghost use Rattle.section_feed.specs.AllBoards.{ArePast, AreReleased, latest_packed};
     ghost use Rattle.section_feed.specs.Rests.{AreAllRested};
     ghost use Rattle.section_feed.specs.Sections.{IsLeft, IsSectionOf, boards_of, next_of, queue_of, sets_of};
     ghost use Rattle.section_feed.specs.Sets.{BoardSet, start_set};
@@ -461,7 +461,7 @@ impl SectionStream {
         ensures drawn { IfSome result (λ e. IsDrawn (queue_of self.now)) }
         ensures steps { IfSome result (λ e. ArePast e self.now.boards.items) }
         ensures value { IfSome result
-            (λ e. e ≡ max (drawn_to (queue_of self.now) / turn_ns) (last_of self.now.boards.items)) }
+            (λ e. e ≡ max (drawn_to (queue_of self.now) / turn_ns) (latest_packed self.now.boards.items)) }
         ensures none { IfNone result (IsLeft self.now) }
     {
         let drawn = self.queue.drawn();

@@ -10,8 +10,8 @@ ghost use Rattle.clock_line.specs.Kept.{added};
 ghost use Rattle.section_feed.specs.Changes.{AreLined, GoOn};
 ghost use Rattle.step_feed.specs.Units.{StepUnit};
 ghost use Rattle.section_feed.specs.Left.{AreLeft, IsOutside};
-ghost use Rattle.section_feed.specs.Dues.{AreBehind, AreDueFrom, HasFirst, IsTaken};
-ghost use Rattle.section_feed.specs.Ordering.{AreInOrder, order_of};
+ghost use Rattle.section_feed.specs.Dues.{AllStartBehind, AreDueFrom, HasFirst, IsTaken};
+ghost use Rattle.section_feed.specs.Ordering.{AreInOrderFrom, order_of};
 ghost use Rattle.section_feed.specs.Rests.{AreAfter};
 ghost use Rattle.section_feed.specs.Wholes.{AreDone, ArePast, IsBefore, IsOver, IsWhole, turn_where};
 ghost use Rattle.section_stream.specs.Fronts.{HasStepsLeft};
@@ -192,8 +192,8 @@ fn take_first(
         (λ u. ∥ GoOn lines.now goes time turn [] (u ∷ []) steppers.old.items steppers.new.items ∥₁) }
     ensures none { IfNone result (∥ GoOn lines.now goes time turn [] [] steppers.old.items steppers.new.items ∥₁) }
     ensures own { IfSome result (λ u. u.stepper < length steppers.old.items) }
-    ensures order { IfSome result (λ u. (order : ℕ) → AreBehind order steppers.old.items →
-        (order < order_of u) × AreBehind (order_of u) steppers.new.items) }
+    ensures order { IfSome result (λ u. (order : ℕ) → AllStartBehind order steppers.old.items →
+        (order < order_of u) × AllStartBehind (order_of u) steppers.new.items) }
     ensures taken { IfSome result
         (λ u. (low : ℕ) → ∥ AreDueFrom low steppers.old.items ∥₁ → IsTaken lines.now low due u) }
     ensures after { IfNone result (AreAfter due steppers.new.items) }
@@ -218,7 +218,7 @@ pub fn take_units(
         (λ units. ∥ GoOn lines.now goes time turn [] units.items steppers.old.items steppers.new.items ∥₁) }
     ensures own { IfOk result (λ units. All (λ u. u.stepper < length steppers.old.items) units.items) }
     ensures in_order { IfOk result
-        (λ units. (order : ℕ) → AreBehind order steppers.old.items → AreInOrder order units.items) }
+        (λ units. (order : ℕ) → AllStartBehind order steppers.old.items → AreInOrderFrom order units.items) }
     ensures taken { IfOk result
         (λ units. (low : ℕ) → ∥ AreDueFrom low steppers.old.items ∥₁ → All (IsTaken lines.now low due) units.items) }
     ensures after { IfOk result (λ units. AreAfter due steppers.new.items) }

@@ -4,7 +4,7 @@ use Rattle.std.proofs.lemmas.List.{get_or-map, length-map}
 use Rattle.plan_types.specs.declared.plan.Move.{Move}
 use Rattle.plan_types.specs.Machines.{no_move}
 use Rattle.plan_types.specs.Moves.{squared_distance}
-use Rattle.plan_types.specs.Speeds.{AreWithin, caps, later_caps, corner_cap, bend_cap, junction_cap, least_limit, half_sine, half_cosine, speed_change}
+use Rattle.plan_types.specs.Speeds.{AreWithinCaps, caps, later_caps, corner_cap, bend_cap, junction_cap, least_limit, half_sine, half_cosine, speed_change}
 use Rattle.plan_types.proofs.Lowest.{least_of-below}
 use Rattle.lookahead.proofs.Caps.{length-caps}
 use Rattle.section_plan.specs.Runs.{IsJoined}
@@ -47,7 +47,7 @@ start-cap moves scv (suc i) d h = later-start moves scv i d h
 end-cap : (moves : List Move) (scv i : ℕ) (d : Move) → i < length moves → get_or (caps moves scv) (i + 1) 0 ≤ (get_or moves i d).v * (get_or moves i d).v
 end-cap moves scv i d h = rw add-one (later-end moves scv i d h)
 
-pub joined : (moves : List Move) (scv : ℕ) (speeds : List ℕ) (i : ℕ) → AreWithin (caps moves scv) (map speed_change moves) speeds → i < length moves → IsJoined (get_or moves i no_move) (get_or speeds i 0) (get_or speeds (i + 1) 0)
+pub joined : (moves : List Move) (scv : ℕ) (speeds : List ℕ) (i : ℕ) → AreWithinCaps (caps moves scv) (map speed_change moves) speeds → i < length moves → IsJoined (get_or moves i no_move) (get_or speeds i 0) (get_or speeds (i + 1) 0)
 joined moves scv speeds i within h =
     let count = length-caps moves scv in
     let start = within.within i (omega arith) in

@@ -45,7 +45,7 @@ pub record IsRun (cruise : ℕ) (moves : List Move) (speeds : List ℕ) (begin :
   pub begin_small : begin < 2 ^ 90
 
 -- a line that has ticks for so many moves from a time on
-pub record HasRoom (line : Line) (moves begin : ℕ) : Type 0 where
+pub record HasTicksFor (line : Line) (moves begin : ℕ) : Type 0 where
   pub valid : IsValidLine line
   pub before : line.at ≤ begin
   pub room : tick line (begin + moves * move_ns) < tick_limit

@@ -6,7 +6,7 @@ ghost use Rattle.plan_types.specs.Clock.{tick};
 ghost use Rattle.plan_types.specs.Sections.{end_time, segment_of, timed_moves};
 ghost use Rattle.plan_types.specs.Steps.{raw_steps};
 ghost use Rattle.plan_types.specs.Valid.{IsValidGear};
-ghost use Rattle.section_plan.specs.Runs.{IsRun, HasRoom, IsGoodSegment, move_ns, steps_of_move};
+ghost use Rattle.section_plan.specs.Runs.{IsRun, HasTicksFor, IsGoodSegment, move_ns, steps_of_move};
 
 use crate::OutOfMemory;
 use crate::drive::Drive;
@@ -38,7 +38,7 @@ pub fn segments_of(
 ) -> Result<Vec<Segment>, OutOfMemory>
     requires drive { drive.now.number < 4 }
     requires run { IsRun cruise moves.now speeds.now begin }
-    requires room { HasRoom drive.now.line (length moves.now) begin }
+    requires room { HasTicksFor drive.now.line (length moves.now) begin }
     ensures value { IfOk result (λ made. made.items
         ≡ map (segment_of drive.now.corexy drive.now.number drive.now.line)
         (timed_moves cruise moves.now speeds.now begin)) }

@@ -23,7 +23,7 @@ use Rattle.clock_line.specs.Kept.{AreKept, added}
 use Rattle.clock_line.proofs.Boards.{board-added, board-mono}
 use Rattle.clock_line.proofs.Holding.{are-added, chosen, come-first, come-is, passed, tick-mono, tick-zero}
 use Rattle.clock_line.proofs.Turns.{last_from-above, last_from-each, tick_over-mono, turn-after, turn-below}
-use Rattle.section_stream.specs.Apart.{AreApart, IsNearby}
+use Rattle.section_stream.specs.Apart.{AreTurnsApart, IsNearby}
 
 -- the line that is added, with what it keeps of those before it
 abbrev one_more : Clocks → ℕ → Line → Held
@@ -179,7 +179,7 @@ line-apart line k low_freq whole begun =
     let v = div-add-mod (line.freq * 25) 1_000_000 in
     omega arith
 
-pub one-apart : (clocks : Clocks) → IsValidLine clocks.first → clocks.held ≡ [] → AreApart clocks
+pub one-apart : (clocks : Clocks) → IsValidLine clocks.first → clocks.held ≡ [] → AreTurnsApart clocks
 one-apart clocks valid alone = record {
   turns = λ k begun. (
       let one : lines_tick clocks (k * turn_ns) ≡ tick clocks.first (k * turn_ns) = rw alone (omega arith) in
@@ -190,7 +190,7 @@ one-apart clocks valid alone = record {
 }
 
 -- and so they stay where a line is added from the beginning of a turn on that is not too far behind
-pub apart-added : (clocks : Clocks) (turn : ℕ) (line : Line) → AreKept clocks → AreApart clocks → last_from 0 clocks.held < turn * turn_ns → IsFit clocks.first line (turn * turn_ns) → IsNearby clocks turn line → AreApart (added clocks (turn * turn_ns) line)
+pub apart-added : (clocks : Clocks) (turn : ℕ) (line : Line) → AreKept clocks → AreTurnsApart clocks → last_from 0 clocks.held < turn * turn_ns → IsFit clocks.first line (turn * turn_ns) → IsNearby clocks turn line → AreTurnsApart (added clocks (turn * turn_ns) line)
 apart-added clocks turn line kept apart after fit near = record {
   turns = λ k begun. (
       let from = turn * turn_ns in

@@ -25,9 +25,9 @@ use Rattle.section_units.proofs.Packing.{piece_end}
 use Rattle.section_stream.specs.declared.stepper.StepperStream.{StepperStream}
 use Rattle.section_stream.specs.Fronts.{plan_of}
 use Rattle.section_stream.specs.Packs.{held_of, is_inverted, waiting_of}
-use Rattle.section_stream.specs.Pieces.{AreInTurns, ArePieces, Piece, last_turn, placed_in, steps_in}
-use Rattle.section_stream.specs.Plans.{lines_of, segments_for}
-use Rattle.section_stream.specs.Steppers.{IsCaughtUp, IsStepperOf, StepperKind, clocks_of, kind_of, known_of}
+use Rattle.section_stream.specs.Pieces.{AreInTurns, ArePieces, Piece, pieces_turn, placed_in, steps_in}
+use Rattle.section_stream.specs.Plans.{stream_lines, segments_for}
+use Rattle.section_stream.specs.Steppers.{IsCaughtUp, IsStepperOf, StepperKind, stepper_clocks, kind_of, known_of}
 use Rattle.section_stream.proofs.Adding.{added-before, board-from}
 use Rattle.section_stream.proofs.Later.{sent-all, turn-from}
 use Rattle.section_stream.proofs.Leaving.{behind-alike}
@@ -47,7 +47,7 @@ turn-before clocks from (suc k) t low high = (
     omega arith)
 
 -- the turn before which all steps of some pieces are planned is not before the one from which on they are
-past-from : (clocks : Clocks) (from : ℕ) (ps : List Piece) → AreInTurns clocks from ps → from ≤ last_turn from ps
+past-from : (clocks : Clocks) (from : ℕ) (ps : List Piece) → AreInTurns clocks from ps → from ≤ pieces_turn from ps
 past-from clocks from [] h = omega arith
 past-from clocks from (p ∷ ps) h = (let low = h.0 in let later = past-from clocks p.turn ps h.3 in omega arith)
 
@@ -61,17 +61,17 @@ pieces-from clocks from (p ∷ ps) h =
     All-append P p.steps (steps_in ps) h.1 (λ k d l. (let low = rest k d l in omega arith))
 
 -- one more piece
-pub turns-more : (clocks : Clocks) (from before : ℕ) (ps : List Piece) (p : Piece) → AreInTurns clocks from ps → last_turn from ps ≤ before → before ≤ p.turn → All (λ (s : Planned). lines_tick clocks (before * turn_ns) ≤ s.tick) p.steps
+pub turns-more : (clocks : Clocks) (from before : ℕ) (ps : List Piece) (p : Piece) → AreInTurns clocks from ps → pieces_turn from ps ≤ before → before ≤ p.turn → All (λ (s : Planned). lines_tick clocks (before * turn_ns) ≤ s.tick) p.steps
     → All (λ (s : Planned). s.tick < lines_tick clocks (p.turn * turn_ns)) p.steps → AreInTurns clocks from (ps ++ p ∷ [])
 turns-more clocks from before [] p h past order low high = (let up = ticks-up clocks from before past in (omega arith, λ k d l. (let a = low k d l in omega arith), high, tt))
 turns-more clocks from before (q ∷ ps) p h past order low high = (h.0, h.1, h.2, turns-more clocks q.turn before ps p h.3 past order low high)
 
-pub past-more : (from : ℕ) (ps : List Piece) (p : Piece) → last_turn from (ps ++ p ∷ []) ≡ p.turn
+pub past-more : (from : ℕ) (ps : List Piece) (p : Piece) → pieces_turn from (ps ++ p ∷ []) ≡ p.turn
 past-more from [] p = refl
 past-more from (q ∷ ps) p = past-more q.turn ps p
 
 -- a line that holds from a later time on changes nothing of them
-pub turns-lined : (clocks : Clocks) (from turn time : ℕ) (line : Line) (ps : List Piece) → AreInTurns clocks from ps → last_turn from ps ≤ turn → turn * turn_ns < time → AreInTurns (added clocks time line) from ps
+pub turns-lined : (clocks : Clocks) (from turn time : ℕ) (line : Line) (ps : List Piece) → AreInTurns clocks from ps → pieces_turn from ps ≤ turn → turn * turn_ns < time → AreInTurns (added clocks time line) from ps
 turns-lined clocks from turn time line [] h past before = tt
 turns-lined clocks from turn time line (p ∷ ps) h past before =
     let low = h.0 in
@@ -100,7 +100,7 @@ steps-behind [] ys = refl
 steps-behind (x ∷ xs) ys = steps-behind xs ys
 
 -- the triples of pieces of a plan, of which the rest is in later turns
-pub pieces-longest : (clocks : Clocks) (oid : ℕ) (reset : Option ℕ) (up : Option Bool) (e behind from turn : ℕ) (ps : List Piece) (rest : List Planned) → AreKept clocks → ArePieces e behind ps → AreInTurns clocks from ps → last_turn from ps ≤ turn
+pub pieces-longest : (clocks : Clocks) (oid : ℕ) (reset : Option ℕ) (up : Option Bool) (e behind from turn : ℕ) (ps : List Piece) (rest : List Planned) → AreKept clocks → ArePieces e behind ps → AreInTurns clocks from ps → pieces_turn from ps ≤ turn
     → All (λ (q : Planned). lines_tick clocks (turn * turn_ns) ≤ q.tick) rest → AreLongest clocks behind (open_windows e behind (steps_in ps ++ rest)) (steps_in ps ++ rest) (units_on clocks oid reset up (steps_in ps) (placed_in ps))
 pieces-longest clocks oid reset up e behind from turn [] rest kept are turns past late = tt
 pieces-longest clocks oid reset up e behind from turn (p ∷ ps) rest kept are turns past late =
@@ -134,12 +134,12 @@ pieces-longest clocks oid reset up e behind from turn (p ∷ ps) rest kept are t
 record IsParted (s : StepperStream) (base : ℕ) (plan : List Planned) (pieces : List Piece) : Type 0 where
   pub rest : List Planned
   pub whole : as_sent (kind_of s).inverted plan ≡ steps_in pieces ++ rest
-  pub late : (turn : ℕ) → AreKept (clocks_of s) → IsCaughtUp turn s → All (λ (q : Planned). lines_tick (clocks_of s) (turn * turn_ns) ≤ q.tick) rest
+  pub late : (turn : ℕ) → AreKept (stepper_clocks s) → IsCaughtUp turn s → All (λ (q : Planned). lines_tick (stepper_clocks s) (turn * turn_ns) ≤ q.tick) rest
 
-parted : (s : StepperStream) (base : ℕ) (parts more : List TimedPart) (out : List Planned) (pieces : List Piece) (given : List StepUnit) → IsStepperOf s base parts out pieces given → All (λ t. known_of s ≤ tick (clocks_of s).first t.begin) more
+parted : (s : StepperStream) (base : ℕ) (parts more : List TimedPart) (out : List Planned) (pieces : List Piece) (given : List StepUnit) → IsStepperOf s base parts out pieces given → All (λ t. known_of s ≤ tick (stepper_clocks s).first t.begin) more
     → IsParted s base (plan_of s base (parts ++ more)) pieces
 parted s base parts more out pieces given are later =
-    let clocks = lines_of s.steps in
+    let clocks = stream_lines s.steps in
     let inverted = is_inverted s.pack in
     let held = held_of s.pack in
     let steps = steps_in pieces in
@@ -155,10 +155,10 @@ parted s base parts more out pieces given are later =
 
 -- the units that a stepper has given, by its whole plan, whatever parts follow those that it was given
 pub given-longest : (s : StepperStream) (freq base from turn : ℕ) (parts more : List TimedPart) (out : List Planned) (pieces : List Piece) (given : List StepUnit) → (kind_of s).early ≡ max_error freq → IsStepperOf s base parts out pieces given
-    → All (λ t. known_of s ≤ tick (clocks_of s).first t.begin) more → AreKept (clocks_of s) → IsCaughtUp turn s → AreInTurns (clocks_of s) from pieces → last_turn from pieces ≤ turn
-    → AreLongestOf (clocks_of s) freq base (as_sent (kind_of s).inverted (plan_of s base (parts ++ more))) given
+    → All (λ t. known_of s ≤ tick (stepper_clocks s).first t.begin) more → AreKept (stepper_clocks s) → IsCaughtUp turn s → AreInTurns (stepper_clocks s) from pieces → pieces_turn from pieces ≤ turn
+    → AreLongestOf (stepper_clocks s) freq base (as_sent (kind_of s).inverted (plan_of s base (parts ++ more))) given
 given-longest s freq base from turn parts more out pieces given early are later kept caught turns past =
-    let clocks = lines_of s.steps in
+    let clocks = stream_lines s.steps in
     let oid = s.pack.oid in
     let waiting = waiting_of s.pack in
     let packed = are.packed in
@@ -171,16 +171,16 @@ given-longest s freq base from turn parts more out pieces given early are later 
 
 -- the steps of a piece that is packed behind a turn with which a stepper has caught up
 pub piece-late : (old new : StepperStream) (base before : ℕ) (parts : List TimedPart) (out out' : List Planned) (pieces : List Piece) (piece : Piece) (given given' : List StepUnit) → IsStepperOf old base parts out pieces given → IsStepperOf new base parts out' (pieces ++ piece ∷ []) given'
-    → clocks_of new ≡ clocks_of old → kind_of new ≡ kind_of old → AreKept (clocks_of old) → IsCaughtUp before old → All (λ (s : Planned). lines_tick (clocks_of old) (before * turn_ns) ≤ s.tick) piece.steps
+    → stepper_clocks new ≡ stepper_clocks old → kind_of new ≡ kind_of old → AreKept (stepper_clocks old) → IsCaughtUp before old → All (λ (s : Planned). lines_tick (stepper_clocks old) (before * turn_ns) ≤ s.tick) piece.steps
 piece-late old new base before parts out out' pieces piece given given' was is lines kind kept caught =
-    let none = λ (s : StepperStream). All-nil (λ (t : TimedPart). known_of s ≤ tick (clocks_of s).first t.begin) in
+    let none = λ (s : StepperStream). All-nil (λ (t : TimedPart). known_of s ≤ tick (stepper_clocks s).first t.begin) in
     let one = parted old base parts [] out pieces given was (none old) in
     let two = parted new base parts [] out' (pieces ++ piece ∷ []) given' is (none new) in
     let Plan : StepperKind → Clocks → List Planned = λ k c. as_sent k.inverted (Rattle.plan_types.specs.Plan.planned_steps k.gear c (segments_for k.drive (parts ++ [])) base) in
-    let same : Plan (kind_of new) (clocks_of new) ≡ Plan (kind_of old) (clocks_of old) = ap (λ k. Plan k (clocks_of new)) kind ∙ ap (Plan (kind_of old)) lines in
+    let same : Plan (kind_of new) (stepper_clocks new) ≡ Plan (kind_of old) (stepper_clocks old) = ap (λ k. Plan k (stepper_clocks new)) kind ∙ ap (Plan (kind_of old)) lines in
     let both : steps_in pieces ++ (piece.steps ++ two.rest) ≡ steps_in pieces ++ one.rest = sym (append_assoc (steps_in pieces) piece.steps two.rest) ∙ ap (λ xs. xs ++ two.rest) (sym (steps-more pieces piece)) ∙ sym two.whole ∙ same ∙ one.whole in
     let e = behind-alike (steps_in pieces) (steps_in pieces) (piece.steps ++ two.rest) one.rest refl both in
-    let P : Planned → Type 0 = λ q. lines_tick (clocks_of old) (before * turn_ns) ≤ q.tick in
+    let P : Planned → Type 0 = λ q. lines_tick (stepper_clocks old) (before * turn_ns) ≤ q.tick in
     let all : All P (piece.steps ++ two.rest) = subst (All P) (sym e) (one.late before kept caught) in
     front P piece.steps two.rest all
   where

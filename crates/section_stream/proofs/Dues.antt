@@ -19,12 +19,12 @@ use Rattle.section_plan.specs.declared.drive.Drive.{Drive}
 use Rattle.section_units.specs.Units.{as_sent}
 use Rattle.step_ticks.specs.declared.stream.StepStream.{StepStream}
 use Rattle.section_stream.specs.declared.pack.PackStream.{PackStream}
-use Rattle.section_stream.specs.Plans.{gear_of, lines_of, segments_for}
+use Rattle.section_stream.specs.Plans.{gear_of, stream_lines, segments_for}
 use Rattle.section_stream.specs.Rows.{AreInRow}
 use Rattle.section_stream.specs.Stepping.{AreCaughtUp, AreInStep, IsLeftFrom, IsPackedBehind}
 use Rattle.section_stream.specs.declared.stepper.StepperStream.{StepperStream}
 use Rattle.section_stream.specs.Packs.{held_of}
-use Rattle.section_stream.specs.Steppers.{IsCaughtUp, StartFrom, clocks_of, kind_of, known_of, packed_to, parts_end, units_of}
+use Rattle.section_stream.specs.Steppers.{IsCaughtUp, StartFrom, stepper_clocks, kind_of, known_of, packed_to, parts_end, units_of}
 use Rattle.section_stream.proofs.Adding.{board-from}
 use Rattle.section_stream.proofs.Leaving.{left-sooner}
 use Rattle.section_stream.proofs.Later.{sent-all, turn-from}
@@ -77,8 +77,8 @@ popped-start clocks low end (Some u) old new kept row some none start =
     ∥∥₁_elim row (start-prop low new) (λ r. start-behind clocks low end u new kept (subst (λ (us : List StepUnit). AreInRow clocks 0 end us) some r) from)
 
 -- the steps that are taken come where those wait that were not taken yet, or later
-items-late : (old new : StepStream) (drive : Drive) (pack : PackStream) (turn until end t low : ℕ) (items : List Planned) → AreInStep old drive pack turn → tick drive.line (turn * turn_ns) ≤ until → Takes old new until items end → lines_of new ≡ lines_of old → gear_of new ≡ gear_of old
-    → IsLeftFrom t old → ((n : ℕ) → t ≤ n → low ≤ lines_board (lines_of old) n) → All (λ q. low ≤ q.tick) items
+items-late : (old new : StepStream) (drive : Drive) (pack : PackStream) (turn until end t low : ℕ) (items : List Planned) → AreInStep old drive pack turn → tick drive.line (turn * turn_ns) ≤ until → Takes old new until items end → stream_lines new ≡ stream_lines old → gear_of new ≡ gear_of old
+    → IsLeftFrom t old → ((n : ℕ) → t ≤ n → low ≤ lines_board (stream_lines old) n) → All (λ q. low ≤ q.tick) items
 items-late old new drive pack turn until end t low items h later take lines gear left up =
     let by = h.asked_by in
     let segments = segments_for drive h.parts in
@@ -119,7 +119,7 @@ added-start clocks low end last (u ∷ old) new added kept row from is start = s
 
 -- one more piece is planned and packed: what its units are due in
 pub planned-start : (old new : StepStream) (drive : Drive) (pack : PackStream) (clocks : Clocks) (before until end low e last last' : ℕ) (items held_old held_new : List Planned) (waiting waiting' added : List StepUnit) (inverted : Bool)
-    → AreInStep old drive pack before → tick drive.line (before * turn_ns) ≤ until → Takes old new until items end → lines_of new ≡ lines_of old → gear_of new ≡ gear_of old → clocks ≡ lines_of old
+    → AreInStep old drive pack before → tick drive.line (before * turn_ns) ≤ until → Takes old new until items end → stream_lines new ≡ stream_lines old → gear_of new ≡ gear_of old → clocks ≡ stream_lines old
     → AreKept clocks → e ≡ max_error clocks.first.freq → held_new ≡ held_old ++ as_sent inverted items
     → waiting' ≡ waiting ++ added → AreInRow clocks last last' added → ((t : ℕ) → All (λ q. t + e ≤ q.tick) held_new → All (λ u. t ≤ u.first) added)
     → IsPackedBehind clocks low before old held_old ⊎ (lines_tick clocks (low * turn_ns) ≤ last) → StartFrom low waiting → StartFrom low waiting'
@@ -127,7 +127,7 @@ planned-start old new drive pack clocks before until end low e last last' items 
     let cut : ℕ → ℕ = λ to. lines_tick clocks (to * turn_ns) in
     let Q : ℕ → Planned → Type 0 = λ to q. cut to ≤ q.tick in
     let t : ℕ → ℕ = λ to. tick clocks.first (to * turn_ns) in
-    let up : (to n : ℕ) → t to ≤ n → cut to ≤ lines_board (lines_of old) n = λ to. subst (λ (k : Clocks). (n : ℕ) → t to ≤ n → cut to ≤ lines_board k n) own (λ n le. board-from clocks (to * turn_ns) n kept le) in
+    let up : (to n : ℕ) → t to ≤ n → cut to ≤ lines_board (stream_lines old) n = λ to. subst (λ (k : Clocks). (n : ℕ) → t to ≤ n → cut to ≤ lines_board k n) own (λ n le. board-from clocks (to * turn_ns) n kept le) in
     let held_late : (to : ℕ) → AreCaughtUp clocks to old held_old → All (Q to) held_new = λ to caught. subst (All (Q to)) (sym adds) (All-append (Q to) held_old (as_sent inverted items) caught.held_are (sent-all (λ n. cut to ≤ n) inverted items (items-late old new drive pack before until end (t to) (cut to) items h later take lines gear caught.steps_are (up to)))) in
     let far : IsPackedBehind clocks low before old held_old → All (λ q. lines_tick clocks (low * turn_ns) + max_error clocks.first.freq ≤ q.tick) held_new = λ p. (let all = held_late p.to p.caught_up in let b = p.behind in λ k d l. (let a = all k d l in omega arith)) in
     let at : IsFrom clocks low last held_new = from-either (IsPackedBehind clocks low before old held_old) far where_from in
@@ -155,10 +155,10 @@ planned-later own now low before turn old new held held' last last' same more or
 
 -- the same of a stepper
 pub stepper-caught : (s : StepperStream) (turn later : ℕ) → turn ≤ later → IsCaughtUp later s → IsCaughtUp turn s
-stepper-caught s turn later order caught = caught-sooner (lines_of s.steps) turn later s.steps (held_of s.pack) order caught
+stepper-caught s turn later order caught = caught-sooner (stream_lines s.steps) turn later s.steps (held_of s.pack) order caught
 
 -- what holds of the units that wait at every stepper
-pub stepper-row : (s : StepperStream) → ∥ AreInRow (clocks_of s) 0 (packed_to s) (units_of s) ∥₁
+pub stepper-row : (s : StepperStream) → ∥ AreInRow (stepper_clocks s) 0 (packed_to s) (units_of s) ∥₁
 stepper-row s = s.row
 
 pub stepper-own : (s : StepperStream) → All (λ u. u.stepper ≡ (kind_of s).oid) (units_of s)

@@ -24,8 +24,8 @@ use Rattle.section_stream.specs.declared.stepper.StepperStream.{StepperStream}
 use Rattle.section_stream.specs.Fronts.{HasMore, HasStepsLeft, plan_of}
 use Rattle.section_stream.specs.Packs.{held_of, is_inverted, waiting_of}
 use Rattle.section_stream.specs.Pieces.{ArePieces, Piece, placed_in, steps_in}
-use Rattle.section_stream.specs.Plans.{lines_of, segments_for}
-use Rattle.section_stream.specs.Steppers.{IsCaughtUp, IsStepperOf, StartFrom, clocks_of, kind_of, known_of, packed_to, units_of}
+use Rattle.section_stream.specs.Plans.{stream_lines, segments_for}
+use Rattle.section_stream.specs.Steppers.{IsCaughtUp, IsStepperOf, StartFrom, stepper_clocks, kind_of, known_of, packed_to, units_of}
 use Rattle.section_stream.proofs.Adding.{board-from}
 use Rattle.section_stream.proofs.Making.{pieces-make, sent-append}
 use Rattle.section_stream.proofs.Leaving.{behind-alike}
@@ -169,10 +169,10 @@ turn-from clocks turn t kept h = elim (cases_lt (lines_turn clocks t) turn) as (
 -- The steps of a stepper's plan that its units do not say yet are due in a turn or later, where those are that it still has,
 -- and it has caught up with a later turn.
 pub rest-later : (homing : Bool) (s : StepperStream) (freq base turn low : ℕ) (parts more : List TimedPart) (out : List Planned) (pieces : List Piece) (given : List StepUnit) → (kind_of s).reset ≡ set_to homing base → (kind_of s).early ≡ max_error freq → IsStepperOf s base parts out pieces given
-    → All (λ t. known_of s ≤ tick (clocks_of s).first t.begin) more → AreKept (clocks_of s) → IsCaughtUp turn s → low ≤ turn → StartFrom low (units_of s)
-    → All (λ q. low ≤ lines_turn (clocks_of s) q.tick) (drop (length (steps_said (kind_of s).oid false given)) (as_sent (kind_of s).inverted (plan_of s base (parts ++ more))))
+    → All (λ t. known_of s ≤ tick (stepper_clocks s).first t.begin) more → AreKept (stepper_clocks s) → IsCaughtUp turn s → low ≤ turn → StartFrom low (units_of s)
+    → All (λ q. low ≤ lines_turn (stepper_clocks s) q.tick) (drop (length (steps_said (kind_of s).oid false given)) (as_sent (kind_of s).inverted (plan_of s base (parts ++ more))))
 rest-later homing s freq base turn low parts more out pieces given reset early are later kept caught order late =
-    let clocks = lines_of s.steps in
+    let clocks = stream_lines s.steps in
     let oid = s.pack.oid in
     let inverted = is_inverted s.pack in
     let waiting = waiting_of s.pack in
@@ -234,10 +234,10 @@ last-from-late clocks low (x ∷ []) q rest h = last-from-late clocks low [] q r
 last-from-late clocks low (x ∷ y ∷ xs) q rest h = last-from-late clocks low (y ∷ xs) q rest h
 
 -- where a step is left to a stepper that has caught up with a turn, its plan ends in that turn or later
-pub left-late : (s : StepperStream) (base turn : ℕ) (parts : List TimedPart) (out : List Planned) (pieces : List Piece) (given : List StepUnit) → IsStepperOf s base parts out pieces given → AreKept (clocks_of s) → IsCaughtUp turn s → HasStepsLeft s
-    → turn ≤ last_turn (clocks_of s) (as_sent (kind_of s).inverted (plan_of s base parts))
+pub left-late : (s : StepperStream) (base turn : ℕ) (parts : List TimedPart) (out : List Planned) (pieces : List Piece) (given : List StepUnit) → IsStepperOf s base parts out pieces given → AreKept (stepper_clocks s) → IsCaughtUp turn s → HasStepsLeft s
+    → turn ≤ last_turn (stepper_clocks s) (as_sent (kind_of s).inverted (plan_of s base parts))
 left-late s base turn parts out pieces given are kept caught left =
-    let clocks = lines_of s.steps in
+    let clocks = stream_lines s.steps in
     let inverted = is_inverted s.pack in
     let held = held_of s.pack in
     let steps = steps_in pieces in
@@ -266,10 +266,10 @@ last-from-front clocks low b (x ∷ y ∷ xs) ys kept spaced some late =
     last-from-front clocks low x.tick (y ∷ xs) ys kept rest (omega (arith, next, after)) late
 
 -- where a stepper packed a step at a tick of a turn or later, its plan ends in that turn or later
-pub packed-late : (s : StepperStream) (base turn : ℕ) (parts : List TimedPart) (out : List Planned) (pieces : List Piece) (given : List StepUnit) → IsStepperOf s base parts out pieces given → AreKept (clocks_of s) → base < packed_to s → lines_tick (clocks_of s) (turn * turn_ns) ≤ packed_to s
-    → turn ≤ last_turn (clocks_of s) (as_sent (kind_of s).inverted (plan_of s base parts))
+pub packed-late : (s : StepperStream) (base turn : ℕ) (parts : List TimedPart) (out : List Planned) (pieces : List Piece) (given : List StepUnit) → IsStepperOf s base parts out pieces given → AreKept (stepper_clocks s) → base < packed_to s → lines_tick (stepper_clocks s) (turn * turn_ns) ≤ packed_to s
+    → turn ≤ last_turn (stepper_clocks s) (as_sent (kind_of s).inverted (plan_of s base parts))
 packed-late s base turn parts out pieces given are kept some late =
-    let clocks = lines_of s.steps in
+    let clocks = stream_lines s.steps in
     let inverted = is_inverted s.pack in
     let held = held_of s.pack in
     let steps = steps_in pieces in

@@ -13,7 +13,7 @@ use Rattle.msg_code.specs.declared.unit.Unit.{Unit as StepUnit}
 use Rattle.step_pack.specs.declared.Placed.{Placed}
 use Rattle.step_pack.specs.Placing.{PacksPlaced}
 use Rattle.step_pack.proofs.Piecewise.{length-windows}
-use Rattle.section_units.specs.Units.{first_up, set_in, told, unit_of, units_on, up_after}
+use Rattle.section_units.specs.Units.{first_up, set_in, told_direction, unit_of, units_on, up_after}
 
 -- a window behind a tick, and below the limit of ticks
 pub record IsWithin (clock : ℕ) (w : Window) : Type 0 where
@@ -119,7 +119,7 @@ next-here clocks oid reset first steps placed old new up next i p has inside is 
     next-of clocks.first.clock (drop next steps) p (drop (i + 1) placed) left
 
 pub one-more : (clocks : Clocks) (oid : ℕ) (reset : Option ℕ) (first : Option Bool) (steps : List Planned) (placed : List Placed) (old new : List StepUnit) (up : Option Bool) (next i : ℕ) (p : Placed) (s : Planned) → HasUnits clocks oid reset first steps placed old new up next i → i < length placed → p ≡ get_or placed i p → s ≡ get_or steps next s
-    → HasUnits clocks oid reset first steps placed old (new ++ unit_of clocks oid p (told up s.up) (set_in up reset) ∷ []) (Some s.up) (next + p.triple.count) (i + 1)
+    → HasUnits clocks oid reset first steps placed old (new ++ unit_of clocks oid p (told_direction up s.up) (set_in up reset) ∷ []) (Some s.up) (next + p.triple.count) (i + 1)
 one-more clocks oid reset first steps placed old new up next i p s has inside is step =
     let head : drop i placed ≡ p ∷ drop (i + 1) placed = rw (← is) at (drop_more placed i p inside) in
     let n = next-here clocks oid reset first steps placed old new up next i p has inside is in
@@ -131,12 +131,12 @@ one-more clocks oid reset first steps placed old new up next i p s has inside is
     let rest = drop p.triple.count (drop next steps) in
     let later = drop (i + 1) placed in
     let now = first_up (drop next steps) in
-    let units1 : new ++ (unit_of clocks oid p (told up now) (set_in up reset) ∷ units_on clocks oid reset (Some now) rest later) ≡ old ++ units_on clocks oid reset first steps placed = rw head at has.units in
+    let units1 : new ++ (unit_of clocks oid p (told_direction up now) (set_in up reset) ∷ units_on clocks oid reset (Some now) rest later) ≡ old ++ units_on clocks oid reset first steps placed = rw head at has.units in
     let ups1 : up_after (Some now) rest later ≡ up_after first steps placed = rw head at has.ups in
     let units = rw (dir, on) at units1 in
     let ups = rw (dir, on) at ups1 in
     record {
-      units = append_assoc new (unit_of clocks oid p (told up s.up) (set_in up reset) ∷ []) (units_on clocks oid reset (Some s.up) (drop (next + p.triple.count) steps) (drop (i + 1) placed)) ∙ units;
+      units = append_assoc new (unit_of clocks oid p (told_direction up s.up) (set_in up reset) ∷ []) (units_on clocks oid reset (Some s.up) (drop (next + p.triple.count) steps) (drop (i + 1) placed)) ∙ units;
       ups = ups;
       left = rw on at n.left;
       within = omega arith;
@@ -177,7 +177,7 @@ turn-small clocks t small soon =
 pub units_own : (clocks : Clocks) (oid : ℕ) (reset : Option ℕ) (up : Option Bool) (steps : List Planned) (placed : List Placed) → All (λ u. u.stepper ≡ oid) (units_on clocks oid reset up steps placed)
 units_own clocks oid reset up steps [] = All-nil (λ (u : StepUnit). u.stepper ≡ oid)
 units_own clocks oid reset up steps (p ∷ placed) =
-    All-cons (λ (u : StepUnit). u.stepper ≡ oid) (unit_of clocks oid p (told up (first_up steps)) (set_in up reset)) (units_on clocks oid reset (Some (first_up steps)) (drop p.triple.count steps) placed) refl
+    All-cons (λ (u : StepUnit). u.stepper ≡ oid) (unit_of clocks oid p (told_direction up (first_up steps)) (set_in up reset)) (units_on clocks oid reset (Some (first_up steps)) (drop p.triple.count steps) placed) refl
     (units_own clocks oid reset (Some (first_up steps)) (drop p.triple.count steps) placed)
 
 front-of : (P : StepUnit → Type 0) (xs ys : List StepUnit) → All P (xs ++ ys) → All P xs

@@ -15,7 +15,7 @@ use Rattle.clock_line.specs.Kept.{AreKept, added}
 use Rattle.clock_line.proofs.Holding.{tick-mono}
 use Rattle.msg_code.specs.declared.unit.Unit.{Unit as StepUnit}
 use Rattle.section_plan.specs.declared.drive.Drive.{Drive}
-use Rattle.section_units.specs.Units.{as_sent, first_up, set_in, told, unit_of, units_on}
+use Rattle.section_units.specs.Units.{as_sent, first_up, set_in, told_direction, unit_of, units_on}
 use Rattle.step_pack.specs.declared.Placed.{Placed}
 use Rattle.step_ticks.specs.declared.stream.StepStream.{StepStream}
 use Rattle.step_ticks.specs.Streaming.{IsStepsOf, last_step_tick}
@@ -23,7 +23,7 @@ use Rattle.section_stream.specs.declared.pack.PackStream.{PackStream}
 use Rattle.section_stream.specs.Packing.{ArePacked}
 use Rattle.section_stream.specs.Packs.{IsPackedOf, held_of, is_inverted, last_packed, waiting_of}
 use Rattle.section_stream.specs.Pieces.{ArePieces, Piece, placed_in, steps_in}
-use Rattle.section_stream.specs.Plans.{lines_of, segments_for}
+use Rattle.section_stream.specs.Plans.{stream_lines, segments_for}
 use Rattle.section_stream.specs.Rows.{AreInRow}
 use Rattle.section_stream.specs.Stepping.{AreCaughtUp, AreInStep, AreStepping, IsLeftFrom, IsPackedBehind}
 use Rattle.section_stream.proofs.Adding.{added-before, added-least, kept-added, turn-added}
@@ -56,8 +56,8 @@ units-same clocks new bound oid reset up steps [] same early = refl
 units-same clocks new bound oid reset up steps (p ∷ placed) same early =
     let here = same p.first (early 0 p (omega arith)) in
     let rest = units-same clocks new bound oid reset (Some (first_up steps)) (drop p.triple.count steps) placed same (λ k d l. early (suc k) d (omega arith)) in
-    ap (λ n. record { stepper = oid; first = p.first; last = p.last; due = n; triple = p.triple; up = told up (first_up steps); reset = set_in up reset } ∷ units_on new oid reset (Some (first_up steps)) (drop p.triple.count steps) placed) here
-    ∙ ap (λ (us : List StepUnit). unit_of clocks oid p (told up (first_up steps)) (set_in up reset) ∷ us) rest
+    ap (λ n. record { stepper = oid; first = p.first; last = p.last; due = n; triple = p.triple; up = told_direction up (first_up steps); reset = set_in up reset } ∷ units_on new oid reset (Some (first_up steps)) (drop p.triple.count steps) placed) here
+    ∙ ap (λ (us : List StepUnit). unit_of clocks oid p (told_direction up (first_up steps)) (set_in up reset) ∷ us) rest
 
 pieces-before : (e before bound : ℕ) (pieces : List Piece) → ArePieces e before pieces → All (λ s. s.tick < bound) (steps_in pieces) → All (λ p. p.first < bound) (placed_in pieces)
 pieces-before e before bound [] are early = All-nil (λ (p : Placed). p.first < bound)
@@ -114,10 +114,10 @@ asked-by line first turn from asked is order by =
     omega arith
 
 -- the stepper
-pub stepping-added : (old new : StepStream) (drive : Drive) (pack : PackStream) (turn from : ℕ) (line : Line) (base : ℕ) (parts : List TimedPart) (out : List Planned) (pieces : List Piece) (given : List StepUnit) → MayAdd (lines_of old) from line → turn * turn_ns ≤ from → drive.line ≡ (lines_of old).first → lines_of new ≡ added (lines_of old) from line → Keeps old new (tick (lines_of old).first from)
+pub stepping-added : (old new : StepStream) (drive : Drive) (pack : PackStream) (turn from : ℕ) (line : Line) (base : ℕ) (parts : List TimedPart) (out : List Planned) (pieces : List Piece) (given : List StepUnit) → MayAdd (stream_lines old) from line → turn * turn_ns ≤ from → drive.line ≡ (stream_lines old).first → stream_lines new ≡ added (stream_lines old) from line → Keeps old new (tick (stream_lines old).first from)
     → AreStepping old drive pack turn base parts out pieces given → AreStepping new drive pack turn base parts out pieces given
 stepping-added old new drive pack turn from line base parts out pieces given may order own is keeps h =
-    let clocks = lines_of old in
+    let clocks = stream_lines old in
     let bound = lines_tick clocks (turn * turn_ns) in
     let up = least-added clocks from line (turn * turn_ns) may order in
     let packed = packed-added clocks (added clocks from line) bound pack.oid pack.max_error pack.last pack.up pack.reset (held_of pack) (waiting_of pack) base (as_sent (is_inverted pack) out) pieces given (turns-same clocks from line turn may order) h.early h.packed in
@@ -129,14 +129,14 @@ stepping-added old new drive pack turn from line base parts out pieces given may
       early = subst (λ (k : Clocks). All (λ (s : Planned). s.tick < lines_tick k (turn * turn_ns)) (steps_in pieces)) (sym is) (λ k d l. (let e = h.early k d l in omega arith));
     }
 
-still-in-step : (old new : StepStream) (drive : Drive) (pack : PackStream) (turn from : ℕ) → turn * turn_ns ≤ from → drive.line ≡ (lines_of old).first → Keeps old new (tick (lines_of old).first from) → AreInStep old drive pack turn → AreInStep new drive pack turn
+still-in-step : (old new : StepStream) (drive : Drive) (pack : PackStream) (turn from : ℕ) → turn * turn_ns ≤ from → drive.line ≡ (stream_lines old).first → Keeps old new (tick (stream_lines old).first from) → AreInStep old drive pack turn → AreInStep new drive pack turn
 still-in-step old new drive pack turn from order own keeps h = record {
   base = h.base;
   parts = h.parts;
   out = h.out;
   asked = h.asked;
   asked_by = h.asked_by;
-  steps_are = keeps h.base (segments_for drive h.parts) h.asked h.out (asked-by drive.line (lines_of old).first turn from h.asked own order h.asked_by) h.steps_are;
+  steps_are = keeps h.base (segments_for drive h.parts) h.asked h.out (asked-by drive.line (stream_lines old).first turn from h.asked own order h.asked_by) h.steps_are;
   behind = h.behind;
 }
 
@@ -167,30 +167,30 @@ later-added old new clocks now low turn from line held last order here is left (
 
 -- what is known of a stream of steps whether it took up a line or not
 pub record Took (old new : StepStream) (from : ℕ) (line : Line) : Type 0 where
-  pub lines : lines_of new ≡ added (lines_of old) from line
-  pub keeps : Keeps old new (tick (lines_of old).first from)
+  pub lines : stream_lines new ≡ added (stream_lines old) from line
+  pub keeps : Keeps old new (tick (stream_lines old).first from)
 
-pub took-either : {E : Type 0} (r : Result (Unit {0}) E) (old new : StepStream) (from : ℕ) (line : Line) → OnOk r (lines_of new ≡ added (lines_of old) from line) → OnOk r (Keeps old new (tick (lines_of old).first from)) → OnErr r (new ≡ old) → Took old new from line ⊎ (new ≡ old)
+pub took-either : {E : Type 0} (r : Result (Unit {0}) E) (old new : StepStream) (from : ℕ) (line : Line) → OnOk r (stream_lines new ≡ added (stream_lines old) from line) → OnOk r (Keeps old new (tick (stream_lines old).first from)) → OnErr r (new ≡ old) → Took old new from line ⊎ (new ≡ old)
 took-either (Ok x) old new from line lines keeps same = inl (record { lines = lines; keeps = keeps })
 took-either (Err e) old new from line lines keeps same = inr same
 
 -- what holds of a stepper, on both ways
 pub record IsSound (steps : StepStream) (drive : Drive) (pack : PackStream) (turn : ℕ) : Type 0 where
-  pub line : drive.line ≡ (lines_of steps).first
+  pub line : drive.line ≡ (stream_lines steps).first
   pub in_step : ∥ AreInStep steps drive pack turn ∥₁
-  pub row : ∥ AreInRow (lines_of steps) 0 (last_packed pack) (waiting_of pack) ∥₁
-  pub kept : ∥ AreKept (lines_of steps) ∥₁
-  pub before : All (λ u. u.first < lines_tick (lines_of steps) (turn * turn_ns)) (waiting_of pack)
+  pub row : ∥ AreInRow (stream_lines steps) 0 (last_packed pack) (waiting_of pack) ∥₁
+  pub kept : ∥ AreKept (stream_lines steps) ∥₁
+  pub before : All (λ u. u.first < lines_tick (stream_lines steps) (turn * turn_ns)) (waiting_of pack)
 
-pub still-sound : (old new : StepStream) (drive : Drive) (pack : PackStream) (turn from : ℕ) (line : Line) → last_from 0 (lines_of old).held < from → IsFit (lines_of old).first line from → turn * turn_ns ≤ from → IsSound old drive pack turn → Took old new from line ⊎ (new ≡ old) → IsSound new drive pack turn
+pub still-sound : (old new : StepStream) (drive : Drive) (pack : PackStream) (turn from : ℕ) (line : Line) → last_from 0 (stream_lines old).held < from → IsFit (stream_lines old).first line from → turn * turn_ns ≤ from → IsSound old drive pack turn → Took old new from line ⊎ (new ≡ old) → IsSound new drive pack turn
 still-sound old new drive pack turn from line after fit order sound (inr same) = subst (λ (s : StepStream). IsSound s drive pack turn) (sym same) sound
 still-sound old new drive pack turn from line after fit order sound (inl took) =
-    let may : MayAdd (lines_of old) from line = record { kept = sound.kept; after = after; fit = fit } in
+    let may : MayAdd (stream_lines old) from line = record { kept = sound.kept; after = after; fit = fit } in
     let is = took.lines in
     record {
       line = sound.line ∙ ap (λ (k : Clocks). k.first) (sym is);
       in_step = ∥∥₁_map sound.in_step (λ h. still-in-step old new drive pack turn from order sound.line took.keeps h);
-      row = still-row (lines_of old) (lines_of new) from line turn (last_packed pack) (waiting_of pack) may order is sound.before sound.row;
-      kept = still-kept (lines_of old) (lines_of new) from line may is;
-      before = still-before (lines_of old) (lines_of new) from line turn (waiting_of pack) may order is sound.before;
+      row = still-row (stream_lines old) (stream_lines new) from line turn (last_packed pack) (waiting_of pack) may order is sound.before sound.row;
+      kept = still-kept (stream_lines old) (stream_lines new) from line may is;
+      before = still-before (stream_lines old) (stream_lines new) from line turn (waiting_of pack) may order is sound.before;
     }

@@ -15,7 +15,7 @@ use Rattle.step_pack.specs.declared.Placed.{Placed}
 use Rattle.step_pack.specs.Placing.{PacksPlaced}
 use Rattle.step_pack.proofs.Rows.{run_drop, spaced_run}
 use Rattle.step_pack.proofs.Signed.{covered_rise}
-use Rattle.section_units.specs.Units.{first_up, set_in, told, unit_of, units_on}
+use Rattle.section_units.specs.Units.{first_up, set_in, told_direction, unit_of, units_on}
 use Rattle.section_stream.specs.declared.pack.PackStream.{PackStream}
 use Rattle.section_stream.specs.Packs.{last_packed, waiting_of}
 use Rattle.step_ticks.specs.Streaming.{last_step_tick}
@@ -118,7 +118,7 @@ units-from clocks oid reset up b t ws steps (p ∷ placed) packs from =
     let low = from 0 (record { low = 0; high = 0; up = false }) (omega arith) in
     let early = covers.not_early 0 some in
     let first = first-tick p.first p.triple.interval p.triple.add in
-    All-cons (λ (u : StepUnit). t ≤ u.first) (unit_of clocks oid p (told up (first_up steps)) (set_in up reset)) (units_on clocks oid reset (Some (first_up steps)) (drop p.triple.count steps) placed) (omega arith)
+    All-cons (λ (u : StepUnit). t ≤ u.first) (unit_of clocks oid p (told_direction up (first_up steps)) (set_in up reset)) (units_on clocks oid reset (Some (first_up steps)) (drop p.triple.count steps) placed) (omega arith)
     (units-from clocks oid reset (Some (first_up steps)) p.last t (drop p.triple.count ws) (drop p.triple.count steps) placed packs.3 (All-drop (λ (w : Window). t ≤ w.low) p.triple.count ws from))
 
 windows-from : (e before t : ℕ) (steps : List Planned) → All (λ s. t + e ≤ s.tick) steps → All (λ w. t ≤ w.low) (windows_of e before steps)
@@ -167,7 +167,7 @@ piece-before e last t steps placed packs early = placed-before last t (windows_o
 units-before : (clocks : Clocks) (oid : ℕ) (reset : Option ℕ) (up : Option Bool) (t : ℕ) (steps : List Planned) (placed : List Placed) → All (λ p. p.first < t) placed → All (λ u. u.first < t) (units_on clocks oid reset up steps placed)
 units-before clocks oid reset up t steps [] early = All-nil (λ (u : StepUnit). u.first < t)
 units-before clocks oid reset up t steps (p ∷ placed) early =
-    All-cons (λ (u : StepUnit). u.first < t) (unit_of clocks oid p (told up (first_up steps)) (set_in up reset)) (units_on clocks oid reset (Some (first_up steps)) (drop p.triple.count steps) placed) (early 0 p (omega arith))
+    All-cons (λ (u : StepUnit). u.first < t) (unit_of clocks oid p (told_direction up (first_up steps)) (set_in up reset)) (units_on clocks oid reset (Some (first_up steps)) (drop p.triple.count steps) placed) (early 0 p (omega arith))
     (units-before clocks oid reset (Some (first_up steps)) t (drop p.triple.count steps) placed (rest-of (λ (q : Placed). q.first < t) p placed early))
 
 all-front : (P : StepUnit → Type 0) (us vs : List StepUnit) → All P (us ++ vs) → All P us

@@ -8,7 +8,7 @@ use Rattle.plan_types.specs.declared.plan.Line.{Line}
 -- Each turn of a board, from the time of its first line on, begins at least 25 microseconds after the sixth
 -- one before it: by as many ticks as a step may be early. For so long the ticks may stand still where a line
 -- is behind the ones before it.
-pub record AreApart (clocks : Clocks) : Type 0 where
+pub record AreTurnsApart (clocks : Clocks) : Type 0 where
   pub turns : (k : ℕ) → clocks.first.at ≤ k * turn_ns →
       lines_tick clocks (k * turn_ns) + max_error clocks.first.freq ≤ lines_tick clocks ((k + 6) * turn_ns)
 

@@ -15,7 +15,7 @@ use Rattle.step_ticks.specs.Streaming.{due_steps, end_of_segments, known_end}
 use Rattle.section_stream.specs.Pieces.{Piece}
 use Rattle.section_stream.specs.Packs.{error_of, held_of, is_inverted, last_packed, oid_of, reset_of, step_packed, waiting_of}
 use Rattle.section_stream.specs.Packing.{IsPieceTo}
-use Rattle.section_stream.specs.Plans.{gear_of, lines_of, segments_for}
+use Rattle.section_stream.specs.Plans.{gear_of, stream_lines, segments_for}
 use Rattle.section_stream.specs.Stepping.{AreCaughtUp, AreStepping, IsPackedBehind}
 
 -- a stepper that was given these parts, from whose plan these steps were taken, packed in these pieces, and
@@ -24,8 +24,8 @@ abbrev pub IsStepperOf : StepperStream → ℕ → List TimedPart → List Plann
 IsStepperOf s base parts out pieces given = AreStepping s.steps s.drive s.pack s.turn base parts out pieces given
 
 -- the clock lines of its board
-abbrev pub clocks_of : StepperStream → Clocks
-clocks_of s = lines_of s.steps
+abbrev pub stepper_clocks : StepperStream → Clocks
+stepper_clocks s = stream_lines s.steps
 
 -- the turn before which its steps are packed
 abbrev pub planned_turn : StepperStream → ℕ
@@ -85,7 +85,7 @@ units_of s = waiting_of s.pack
 
 -- no step that is left to plan or to pack is before a turn
 abbrev pub IsCaughtUp : ℕ → StepperStream → Type 0
-IsCaughtUp turn s = AreCaughtUp (clocks_of s) turn s.steps (held_of s.pack)
+IsCaughtUp turn s = AreCaughtUp (stepper_clocks s) turn s.steps (held_of s.pack)
 
 -- the first of some units, if there is one, is due in a turn or later
 abbrev pub StartFrom : ℕ → List StepUnit → Type 0
@@ -97,12 +97,13 @@ StartFrom low (u ∷ us) = low ≤ u.due
 -- that is packed is not before the turn.
 pub record IsDueFrom (low : ℕ) (s : StepperStream) : Type 0 where
   pub waits : StartFrom low (units_of s)
-  pub later : IsPackedBehind (clocks_of s) low (planned_turn s) s.steps (held_of s.pack)
-      ⊎ (lines_tick (clocks_of s) (low * turn_ns) ≤ packed_to s)
+  pub later : IsPackedBehind (stepper_clocks s) low (planned_turn s) s.steps (held_of s.pack)
+      ⊎ (lines_tick (stepper_clocks s) (low * turn_ns) ≤ packed_to s)
 
 -- it knows all steps up to a turn: those that may still come are so long behind it that they change none of these
 abbrev pub KnowsTo : ℕ → StepperStream → Type 0
-KnowsTo turn s = tick (clocks_of s).first (turn * turn_ns) + cancel_reach (clocks_of s).first.freq ≤ known_of s
+KnowsTo turn s =
+    tick (stepper_clocks s).first (turn * turn_ns) + cancel_reach (stepper_clocks s).first.freq ≤ known_of s
 
 -- Its steps up to a turn are planned, as far as they were known from which tick on more may come, and packed:
 -- one more piece.
@@ -111,7 +112,7 @@ pub record IsPlannedTo (s : StepperStream) (turn end base : ℕ) (parts : List T
   pub more : List Planned
   pub piece : Piece
   pub due : out ++ more
-      ≡ due_steps (gear_of s.steps) (lines_of s.steps) (segments_for s.drive parts) base
-      (tick (lines_of s.steps).first (turn * turn_ns)) end
-  pub piece_to : IsPieceTo (lines_of s.steps) turn piece (held_of s.pack)
+      ≡ due_steps (gear_of s.steps) (stream_lines s.steps) (segments_for s.drive parts) base
+      (tick (stream_lines s.steps).first (turn * turn_ns)) end
+  pub piece_to : IsPieceTo (stream_lines s.steps) turn piece (held_of s.pack)
   pub stepper : IsStepperOf s base parts (out ++ more) (pieces ++ piece ∷ []) given

@@ -5,7 +5,7 @@ ghost use Rattle.clock_line.specs.Kept.{AreKept};
 ghost use Rattle.plan_types.specs.Clock.{turn_ns};
 ghost use Rattle.plan_types.specs.Lines.{lines_tick};
 ghost use Rattle.plan_types.specs.Valid.{IsValidLine};
-ghost use Rattle.section_stream.specs.Plans.{lines_of};
+ghost use Rattle.section_stream.specs.Plans.{stream_lines};
 ghost use Rattle.plan_types.specs.Plan.{max_error};
 ghost use Rattle.section_stream.specs.Packs.{error_of, last_packed, waiting_of};
 ghost use Rattle.section_stream.specs.Rows.{AreInRow};
@@ -34,14 +34,14 @@ pub struct StepperStream {
     pack: PackStream,
     turn: u64,
     ghost drive_small: { drive.number < 4 },
-    ghost line: { drive.line ≡ (lines_of steps).first },
+    ghost line: { drive.line ≡ (stream_lines steps).first },
     ghost line_valid: { IsValidLine drive.line },
     ghost from: { drive.line.clock ≤ last_packed pack },
     ghost in_step: { ∥ AreInStep steps drive pack turn ∥₁ },
     ghost early: { error_of pack ≡ max_error drive.line.freq },
-    ghost row: { ∥ AreInRow (lines_of steps) 0 (last_packed pack) (waiting_of pack) ∥₁ },
-    ghost kept: { ∥ AreKept (lines_of steps) ∥₁ },
-    ghost before: { All (λ u. u.first < lines_tick (lines_of steps) (turn * turn_ns)) (waiting_of pack) },
+    ghost row: { ∥ AreInRow (stream_lines steps) 0 (last_packed pack) (waiting_of pack) ∥₁ },
+    ghost kept: { ∥ AreKept (stream_lines steps) ∥₁ },
+    ghost before: { All (λ u. u.first < lines_tick (stream_lines steps) (turn * turn_ns)) (waiting_of pack) },
 }
 
 impl StepperStream {
@@ -63,7 +63,7 @@ impl StepperStream {
     ghost use Rattle.section_units.specs.Packed.{ArePackedBy};
     ghost use Rattle.section_units.specs.Sections.{set_to};
     ghost use Rattle.plan_types.specs.Plan.{max_error};
-    ghost use Rattle.section_stream.specs.Steppers.{IsCaughtUp, IsDueFrom, IsStepperOf, IsPlannedTo, KnowsTo, clocks_of, kind_from, kind_of, known_of, packed_step, packed_to, parts_end, planned_turn, units_of};
+    ghost use Rattle.section_stream.specs.Steppers.{IsCaughtUp, IsDueFrom, IsStepperOf, IsPlannedTo, KnowsTo, stepper_clocks, kind_from, kind_of, known_of, packed_step, packed_to, parts_end, planned_turn, units_of};
 
     /// A stepper of a section that begins with a turn.
     pub fn new(
@@ -82,7 +82,7 @@ impl StepperStream {
         requires begun { lines.now.first.at ≤ turn * turn_ns }
         requires begin_small { tick lines.now.first (turn * turn_ns) < 2 ^ 64 }
         ensures empty { IfOk result (λ s. IsStepperOf s (lines_tick lines.now (turn * turn_ns)) [] [] [] []) }
-        ensures lines { IfOk result (λ s. clocks_of s ≡ lines.now) }
+        ensures lines { IfOk result (λ s. stepper_clocks s ≡ lines.now) }
         ensures turn { IfOk result (λ s. planned_turn s ≡ turn) }
         ensures end { IfOk result (λ s. known_of s ≡ tick lines.now.first (turn * turn_ns)) }
         ensures caught_up { IfOk result (IsCaughtUp turn) }
@@ -122,21 +122,21 @@ impl StepperStream {
     /// Adds a move behind the others, which begins at a time in ns.
     pub fn push(&mut self, ready: &Ready, begin: u128) -> Result<(), OutOfMemory>
         requires ready { IsReadyMove ready.now }
-        requires begun { (clocks_of self.old).first.at ≤ begin }
+        requires begun { (stepper_clocks self.old).first.at ≤ begin }
         requires begin_small { begin < 2 ^ 99 }
-        requires order { known_of self.old ≤ tick (clocks_of self.old).first begin }
-        requires room { tick (clocks_of self.old).first (begin + duration ready.now.parts) < tick_limit }
-        requires on_board { lines_board (clocks_of self.old)
-            (tick (clocks_of self.old).first (begin + duration ready.now.parts)) < tick_limit }
+        requires order { known_of self.old ≤ tick (stepper_clocks self.old).first begin }
+        requires room { tick (stepper_clocks self.old).first (begin + duration ready.now.parts) < tick_limit }
+        requires on_board { lines_board (stepper_clocks self.old)
+            (tick (stepper_clocks self.old).first (begin + duration ready.now.parts)) < tick_limit }
         ensures pushed { OnOk result ((base : ℕ) (parts : List TimedPart) (out : List Planned) (pieces : List Piece)
             (given : List StepUnit) → IsStepperOf self.old base parts out pieces given →
             IsStepperOf self.new base (parts ++ timed ready.now.one 0 begin ready.now.parts) out pieces given) }
         ensures end { OnOk result
-            (known_of self.new ≤ tick (clocks_of self.old).first (begin + duration ready.now.parts)) }
-        ensures reaches { OnOk result (tick (clocks_of self.old).first begin ≤ known_of self.old →
-            tick (clocks_of self.old).first (begin + duration ready.now.parts) ≤ known_of self.new) }
+            (known_of self.new ≤ tick (stepper_clocks self.old).first (begin + duration ready.now.parts)) }
+        ensures reaches { OnOk result (tick (stepper_clocks self.old).first begin ≤ known_of self.old →
+            tick (stepper_clocks self.old).first (begin + duration ready.now.parts) ≤ known_of self.new) }
         ensures caught_up { OnOk result ((turn : ℕ) → IsCaughtUp turn self.old → IsCaughtUp turn self.new) }
-        ensures lines { clocks_of self.new ≡ clocks_of self.old }
+        ensures lines { stepper_clocks self.new ≡ stepper_clocks self.old }
         ensures turn { planned_turn self.new ≡ planned_turn self.old }
         ensures units { units_of self.new ≡ units_of self.old }
         ensures due { OnOk result ((low : ℕ) → IsDueFrom low self.old → IsDueFrom low self.new) }
@@ -148,7 +148,7 @@ impl StepperStream {
 
     /// Plans and packs the steps up to a turn.
     pub fn plan(&mut self, lines: &Lines, turn: u64) -> Result<(), OutOfMemory>
-        requires lines { lines.now ≡ clocks_of self.old }
+        requires lines { lines.now ≡ stepper_clocks self.old }
         requires order { planned_turn self.old ≤ turn }
         requires begun { lines.now.first.at ≤ turn * turn_ns }
         requires soon { last_from lines.now.first.at lines.now.held < 2 ^ 62 * turn_ns }
@@ -162,7 +162,7 @@ impl StepperStream {
             ((low : ℕ) → KnowsTo turn self.old → AreKept lines.now → IsDueFrom low self.old → IsDueFrom low self.new) }
         ensures turn { planned_turn self.new ≡ turn }
         ensures end { known_of self.new ≡ known_of self.old }
-        ensures lines { clocks_of self.new ≡ clocks_of self.old }
+        ensures lines { stepper_clocks self.new ≡ stepper_clocks self.old }
         ensures kind { kind_of self.new ≡ kind_of self.old }
     {
         self.turn = turn;
@@ -176,17 +176,17 @@ impl StepperStream {
     /// Lets a clock line hold from a time on, which is not before the turn up to which the steps are planned
     /// and packed.
     pub fn add_line(&mut self, from: u128, line: Line) -> Result<(), OutOfMemory>
-        requires after { last_from 0 (clocks_of self.old).held < from }
-        requires fit { IsFit (clocks_of self.old).first line from }
-        requires tick_small { lines_tick (clocks_of self.old) from < 2 ^ 64 }
+        requires after { last_from 0 (stepper_clocks self.old).held < from }
+        requires fit { IsFit (stepper_clocks self.old).first line from }
+        requires tick_small { lines_tick (stepper_clocks self.old) from < 2 ^ 64 }
         requires start_small { tick line from < 2 ^ 64 }
-        requires plan_small { tick (clocks_of self.old).first from < 2 ^ 64 }
-        requires on_board { lines_board (added (clocks_of self.old) from line) (parts_end self.old) < tick_limit }
+        requires plan_small { tick (stepper_clocks self.old).first from < 2 ^ 64 }
+        requires on_board { lines_board (added (stepper_clocks self.old) from line) (parts_end self.old) < tick_limit }
         requires order { planned_turn self.old * turn_ns ≤ from }
         ensures added { OnOk result ((base : ℕ) (parts : List TimedPart) (out : List Planned) (pieces : List Piece)
             (given : List StepUnit) → IsStepperOf self.old base parts out pieces given →
             IsStepperOf self.new base parts out pieces given) }
-        ensures lines { OnOk result (clocks_of self.new ≡ added (clocks_of self.old) from line) }
+        ensures lines { OnOk result (stepper_clocks self.new ≡ added (stepper_clocks self.old) from line) }
         ensures unchanged { OnErr result (self.new ≡ self.old) }
         ensures caught_up { OnOk result
             ((turn : ℕ) → turn * turn_ns < from → IsCaughtUp turn self.old → IsCaughtUp turn self.new) }
@@ -211,7 +211,7 @@ impl StepperStream {
         ensures end { known_of self.new ≡ end }
         ensures caught_up { (turn : ℕ) → IsCaughtUp turn self.old → IsCaughtUp turn self.new }
         ensures turn { planned_turn self.new ≡ planned_turn self.old }
-        ensures lines { clocks_of self.new ≡ clocks_of self.old }
+        ensures lines { stepper_clocks self.new ≡ stepper_clocks self.old }
         ensures units { units_of self.new ≡ units_of self.old }
         ensures due { (low : ℕ) → IsDueFrom low self.old → IsDueFrom low self.new }
         ensures kind { kind_of self.new ≡ kind_of self.old }
@@ -241,9 +241,9 @@ impl StepperStream {
         ensures caught_up { (turn : ℕ) → IsCaughtUp turn self.old → IsCaughtUp turn self.new }
         ensures turn { planned_turn self.new ≡ planned_turn self.old }
         ensures end { known_of self.new ≡ known_of self.old }
-        ensures lines { clocks_of self.new ≡ clocks_of self.old }
+        ensures lines { stepper_clocks self.new ≡ stepper_clocks self.old }
         ensures number { IfSome result (λ u. u.stepper ≡ (kind_of self.old).oid) }
-        ensures due { (low : ℕ) → AreKept (clocks_of self.old) → IsDueFrom low self.old → IsDueFrom low self.new }
+        ensures due { (low : ℕ) → AreKept (stepper_clocks self.old) → IsDueFrom low self.old → IsDueFrom low self.new }
         ensures kind { kind_of self.new ≡ kind_of self.old }
     {
         self.pack.pop()
@@ -264,7 +264,7 @@ impl StepperStream {
         ensures { IsTrue result → (homing : Bool) (freq base : ℕ) (parts : List TimedPart) (out : List Planned)
             (pieces : List Piece) (given : List StepUnit) → (kind_of self.now).reset ≡ set_to homing base →
             (kind_of self.now).early ≡ max_error freq → IsStepperOf self.now base parts out pieces given →
-            ArePackedBy homing (clocks_of self.now) freq (kind_of self.now).oid base
+            ArePackedBy homing (stepper_clocks self.now) freq (kind_of self.now).oid base
             (as_sent (kind_of self.now).inverted (plan_of self.now base parts)) given }
     {
         self.is_whole() && self.pack.is_given()

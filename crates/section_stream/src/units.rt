@@ -8,7 +8,7 @@ ghost use Rattle.plan_types.specs.Plan.{AreSpaced};
 ghost use Rattle.step_pack.specs.Placing.{PacksPlaced};
 ghost use Rattle.step_ticks.specs.Streaming.{last_step_tick};
 ghost use Rattle.section_stream.specs.Rows.{AreInRow};
-ghost use Rattle.section_units.specs.Units.{set_in, sent, told, units_on, up_after};
+ghost use Rattle.section_units.specs.Units.{set_in, sent, told_direction, units_on, up_after};
 
 use crate::OutOfMemory;
 use clock_line::Lines;
@@ -26,7 +26,7 @@ pub fn sent(inverted: bool, up: bool) -> bool
 
 /// A direction, where it is told.
 fn told(up: Option<bool>, now: bool) -> Option<bool>
-    ensures { result ≡ told up now }
+    ensures { result ≡ told_direction up now }
 {
     match up {
         Some(up) if up == now => None,

@@ -13,7 +13,7 @@ use Rattle.plan_types.specs.declared.plan.Triple.{Triple}
 use Rattle.plan_types.specs.Lines.{Clocks, lines_tick, lines_turn}
 use Rattle.plan_types.specs.Packing.{ticks_of}
 use Rattle.plan_types.specs.Plan.{AreSpaced, Fits, pulse_of}
-use Rattle.step_feed.specs.Fed.{behind, last_turn}
+use Rattle.step_feed.specs.Fed.{releases_behind, last_release}
 use Rattle.step_feed.specs.Pacing.{Release, lead, units_of}
 use Rattle.step_feed.specs.Units.{StepUnit}
 use Rattle.section_units.specs.Completed.{IsCompletionBy, IsOpenFrontBy}
@@ -313,7 +313,7 @@ completed homing clocks freq slots start end next count plan rs waiting f =
     let base = lines_tick clocks (start * turn_ns) in
     let pushed = units_of rs ++ waiting in
     let w = all-whole homing clocks freq base (next + lead) count plan pushed (λ oid. stepper-whole homing clocks freq oid base (next + lead) (plan oid) (of_stepper oid pushed) (f.spaced oid) (f.begun oid) (f.fits oid) (f.later oid)) in
-    let paced = can-pace clocks slots (last_turn f.from rs) (behind [] rs) (waiting ++ w.more) f.slots_some in
+    let paced = can-pace clocks slots (last_release f.from rs) (releases_behind [] rs) (waiting ++ w.more) f.slots_some in
     let more = paced.releases in
     let units : units_of (rs ++ more) ≡ pushed ++ w.more = units_append rs more ∙ ap (λ us. units_of rs ++ us) paced.units ∙ sym (append_assoc (units_of rs) waiting w.more) in
     let of : (oid : ℕ) → of_stepper oid (units_of (rs ++ more)) ≡ of_stepper oid pushed ++ of_stepper oid w.more = λ oid. ap (of_stepper oid) units ∙ of_append oid pushed w.more in
@@ -339,6 +339,6 @@ completed homing clocks freq slots start end next count plan rs waiting f =
           exact = f.exact;
           paced = paced-join clocks slots f.from [] rs more f.paced paced.paced;
         };
-        later = none-sooner clocks slots (last_turn f.from rs) next (behind [] rs) more waiting w.more paced.paced paced.units f.no_room w.due;
+        later = none-sooner clocks slots (last_release f.from rs) next (releases_behind [] rs) more waiting w.more paced.paced paced.units f.no_room w.due;
       },
     )

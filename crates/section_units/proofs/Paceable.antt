@@ -7,7 +7,7 @@ use Rattle.std.proofs.lemmas.List.Elements.{All-cons, All-head, All-nil}
 use Rattle.plan_types.specs.Lines.{Clocks}
 use Rattle.plan_types.specs.Numbers.{first_from}
 use Rattle.clock_line.proofs.Firsts.{first_from-below, first_from-passes, first_from-step}
-use Rattle.step_feed.specs.Fed.{IsNoSooner, behind, last_turn}
+use Rattle.step_feed.specs.Fed.{IsNoSooner, releases_behind, last_release}
 use Rattle.step_feed.specs.Pacing.{ArePaced, HasRoom, IsReleased, Release, bytes_in, lead, one_pending, over_turn, pending, turn_bytes, units_of}
 use Rattle.step_feed.specs.Units.{StepUnit, dir_bytes, queue_bytes, reset_bytes, unit_bytes}
 use Rattle.step_feed.proofs.Counts.{count_bounds}
@@ -140,7 +140,7 @@ can-pace clocks slots from before (u ∷ us) some =
     let rest = can-pace clocks slots here.turn (r ∷ before) us some in
     record { releases = r ∷ rest.releases; units = ap (λ vs. u ∷ vs) rest.units; paced = (here.released, rest.paced) }
 
-pub paced-join : (clocks : Clocks) (slots from : ℕ) (before rs qs : List Release) → ArePaced clocks slots from before rs → ArePaced clocks slots (last_turn from rs) (behind before rs) qs → ArePaced clocks slots from before (rs ++ qs)
+pub paced-join : (clocks : Clocks) (slots from : ℕ) (before rs qs : List Release) → ArePaced clocks slots from before rs → ArePaced clocks slots (last_release from rs) (releases_behind before rs) qs → ArePaced clocks slots from before (rs ++ qs)
 paced-join clocks slots from before [] qs a b = b
 paced-join clocks slots from before (r ∷ rs) qs a b = (a.0, paced-join clocks slots r.turn (r ∷ before) rs qs a.1 b)
 

@@ -21,7 +21,7 @@ use Rattle.step_pack.proofs.Rows.{run_drop, spaced_run}
 use Rattle.step_pack.proofs.Signed.{covered_rise}
 use Rattle.step_feed.specs.Units.{StepUnit}
 use Rattle.section_units.specs.Sections.{dir_after, steps_said, ticks_meant, IsUnit, AreChained, AreBegunBy, set_to}
-use Rattle.section_units.specs.Units.{unit_of, told, first_up, units_on}
+use Rattle.section_units.specs.Units.{unit_of, told_direction, first_up, units_on}
 use Rattle.section_units.specs.Packed.{ArePackedBy, dir_behind, end_of_plan, end_of_units, units_from, units_next}
 
 first_tick : (first interval : ℕ) (add : ℤ) → tick_at first interval add 0 ≡ first
@@ -67,7 +67,7 @@ chained clocks oid behind reset up ws steps (p ∷ placed) run packs small =
     let some = covers.some in
     let late : p.last ≤ (window_at ws (p.triple.count - 1)).high = rw packs.1 (covers.not_late (p.triple.count - 1) (omega (arith, some))) in (
       refl,
-      one_unit clocks oid behind p ws (told (Some up) (first_up steps)) None run covers packs.1 (All-head P p placed small),
+      one_unit clocks oid behind p ws (told_direction (Some up) (first_up steps)) None run covers packs.1 (All-head P p placed small),
       chained clocks oid p.last reset (first_up steps) (drop p.triple.count ws) (drop p.triple.count steps) placed
           (run_drop behind p.last p.triple.count ws run some covers.within late) packs.3 (All-tail P p placed small),
     )
@@ -91,7 +91,7 @@ begun homing clocks oid base ws steps (p ∷ placed) run packs small =
     )
 
 -- the direction that is told
-told_is : (up now : Bool) → dir_after up (told (Some up) now) ≡ now
+told_is : (up now : Bool) → dir_after up (told_direction (Some up) now) ≡ now
 told_is true true = refl
 told_is true false = refl
 told_is false true = refl
@@ -176,11 +176,11 @@ ticks_behind : (clocks : Clocks) (oid : ℕ) (reset : Option ℕ) (up : Bool) (s
 ticks_behind clocks oid reset up steps [] = refl
 ticks_behind clocks oid reset up steps (p ∷ placed) =
     let now = first_up steps in
-    let u = unit_of clocks oid p (told (Some up) now) None in
+    let u = unit_of clocks oid p (told_direction (Some up) now) None in
     let later = units_on clocks oid reset (Some now) (drop p.triple.count steps) placed in
     let At : Bool → Type 0 = λ d. map (λ (q : Pulse). q.tick) (map (pulse_of oid) (steps_of d (ticks_of p.first p.triple)) ++ steps_said oid d later) ≡ ticks_of p.first p.triple ++ placed_ticks placed in
     subst At (sym (told_is up now))
-    (one_ticks clocks oid p (told (Some up) now) None now (steps_said oid now later) (placed_ticks placed) (ticks_behind clocks oid reset now (drop p.triple.count steps) placed))
+    (one_ticks clocks oid p (told_direction (Some up) now) None now (steps_said oid now later) (placed_ticks placed) (ticks_behind clocks oid reset now (drop p.triple.count steps) placed))
 
 ticks_from : (homing : Bool) (clocks : Clocks) (oid base : ℕ) (steps : List Planned) (placed : List Placed) → map (λ (q : Pulse). q.tick) (steps_said oid false (units_from homing clocks oid base steps placed)) ≡ placed_ticks placed
 ticks_from homing clocks oid base steps [] = refl
@@ -209,11 +209,11 @@ ups_behind : (clocks : Clocks) (oid behind : ℕ) (reset : Option ℕ) (up : Boo
 ups_behind clocks oid behind reset up ws steps [] packs same = ap (map (λ (s : Planned). s.up)) (sym (none_left ws steps same packs))
 ups_behind clocks oid behind reset up ws steps (p ∷ placed) packs same =
     let now = first_up steps in
-    let u = unit_of clocks oid p (told (Some up) now) None in
+    let u = unit_of clocks oid p (told_direction (Some up) now) None in
     let later = units_on clocks oid reset (Some now) (drop p.triple.count steps) placed in
     let At : Bool → Type 0 = λ d. map (λ (q : Pulse). q.up) (map (pulse_of oid) (steps_of d (ticks_of p.first p.triple)) ++ steps_said oid d later) ≡ map (λ (s : Planned). s.up) steps in
     subst At (sym (told_is up now))
-    (one_ups clocks oid p (told (Some up) now) None ws steps behind (steps_said oid now later) packs.0 same
+    (one_ups clocks oid p (told_direction (Some up) now) None ws steps behind (steps_said oid now later) packs.0 same
     (ups_behind clocks oid p.last reset now (drop p.triple.count ws) (drop p.triple.count steps) placed packs.3 (same_drop p.triple.count ws steps same)))
 
 ups_from : (homing : Bool) (clocks : Clocks) (oid base : ℕ) (ws : List Window) (steps : List Planned) (placed : List Placed) → PacksPlaced base ws placed → SameUps ws steps

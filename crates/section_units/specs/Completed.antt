@@ -4,7 +4,7 @@ use Rattle.plan_types.specs.declared.plan.Planned.{Planned}
 use Rattle.plan_types.specs.Clock.{turn_ns}
 use Rattle.plan_types.specs.Lines.{Clocks, lines_tick, lines_turn}
 use Rattle.plan_types.specs.Plan.{AreSpaced, Fits}
-use Rattle.step_feed.specs.Fed.{IsNoSooner, behind, last_turn}
+use Rattle.step_feed.specs.Fed.{IsNoSooner, releases_behind, last_release}
 use Rattle.step_feed.specs.Pacing.{ArePaced, Release, lead, units_of}
 use Rattle.step_feed.specs.Units.{StepUnit}
 use Rattle.section_units.specs.Fronts.{section_from}
@@ -32,7 +32,7 @@ pub record IsOpenFrontBy (homing : Bool) (clocks : Clocks) (freq slots start end
   pub from : ℕ
   pub exact : from + 250 ≡ start
   pub paced : ArePaced clocks slots from [] rs
-  pub no_room : IsNoSooner clocks slots next (last_turn from rs) (behind [] rs) waiting
+  pub no_room : IsNoSooner clocks slots next (last_release from rs) (releases_behind [] rs) waiting
 
 -- with these releases a section is whole, and none of them is before a turn
 pub record IsCompletionBy (homing : Bool) (clocks : Clocks) (freq slots start end next : ℕ) (plan : ℕ → List Planned)

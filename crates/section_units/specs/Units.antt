@@ -27,12 +27,12 @@ unit_of clocks oid p up reset = record {
 }
 
 -- a direction is told in the first unit, and where it changes
-abbrev pub told : Option Bool → Bool → Option Bool
-told None now = Some now
-told (Some true) true = None
-told (Some true) false = Some false
-told (Some false) true = Some true
-told (Some false) false = None
+abbrev pub told_direction : Option Bool → Bool → Option Bool
+told_direction None now = Some now
+told_direction (Some true) true = None
+told_direction (Some true) false = Some false
+told_direction (Some false) true = Some true
+told_direction (Some false) false = None
 
 -- the clock is set in the first unit
 abbrev pub set_in : Option Bool → Option ℕ → Option ℕ
@@ -49,7 +49,7 @@ first_up (s ∷ steps) = s.up
 abbrev pub units_on : Clocks → ℕ → Option ℕ → Option Bool → List Planned → List Placed → List StepUnit
 units_on clocks oid reset up steps [] = []
 units_on clocks oid reset up steps (p ∷ placed) =
-    unit_of clocks oid p (told up (first_up steps)) (set_in up reset)
+    unit_of clocks oid p (told_direction up (first_up steps)) (set_in up reset)
     ∷ units_on clocks oid reset (Some (first_up steps)) (drop p.triple.count steps) placed
 
 -- the direction behind them

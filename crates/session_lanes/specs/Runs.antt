@@ -25,7 +25,7 @@ use Rattle.session_work.specs.Heads.{ReactorStep}
 use Rattle.session_work.specs.Links.{LinkStep}
 use Rattle.session_work.specs.Motions.{MotionStep, seated}
 use Rattle.session_work.specs.Leads.{last_controls, last_words}
-use Rattle.session_work.specs.Reactors.{ends}
+use Rattle.session_work.specs.Reactors.{answered_ends}
 use Rattle.session_work.specs.Rows.{gather, item, option_items, HasPut, HasTaken}
 use Rattle.session_work.specs.Turns.{Goes}
 
@@ -76,7 +76,7 @@ module _ {M L A O : Type 0} (m : Motion M) (l : Link L) (a : Reactor A) (o : Out
     Met boards s h r =
         ((e : Seat M) × Goes (MotionStep m boards) 0 (seated m s) ts e)
         × Goes (ReactorStep a o boards) 0 h (rs ++ end ∷ []) r.head
-        × (ends rs ≡ []) × (end.end ≡ Some r.cause)
+        × (answered_ends rs ≡ []) × (end.end ≡ Some r.cause)
         × Carried r.words (gather (λ t. t.word ∷ []) rs ++ last_words (length rs) n) (gather (λ t. t.words) ts)
         × Carried r.notes (gather (λ t. t.note ∷ []) ts) (gather (λ t. option_items t.note) (rs ++ end ∷ []))
         × Carried r.pieces (gather (λ t. t.pieces) (rs ++ end ∷ [])) (gather (λ t. t.pieces) ts)

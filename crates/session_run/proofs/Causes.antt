@@ -9,12 +9,12 @@ use Rattle.msg_code.specs.declared.talk.Piece.{Piece}
 use Rattle.report_text.specs.declared.line.ReportLine.{ReportLine}
 use Rattle.report_text.specs.declared.write.WriteStop.{WriteStop}
 use Rattle.host_reactor.specs.Reactor.{Run, first_told}
-use Rattle.host_reactor.specs.Rows.{EndsFor, IsOwn}
+use Rattle.host_reactor.specs.Rows.{MayEndFor, IsOwn}
 use Rattle.host_reactor.proofs.Blames.{blames}
 use Rattle.session_work.specs.declared.head.Head.{Head}
 use Rattle.session_work.specs.declared.table.ReactorTurn.{ReactorTurn}
 use Rattle.session_work.specs.Heads.{Ordering, Served, ServeStep, ReactorStep, Wrote}
-use Rattle.session_work.specs.Reactors.{ends}
+use Rattle.session_work.specs.Reactors.{answered_ends}
 use Rattle.session_work.specs.Rows.{option_items}
 use Rattle.session_work.specs.Turns.{Goes}
 use Rattle.session_run.specs.declared.desk.Desk.{Desk}
@@ -24,7 +24,7 @@ use Rattle.session_run.specs.Desks.{Writes, cause_of, desk_out}
 use Rattle.session_run.specs.Reads.{CountsReads}
 use Rattle.session_run.specs.Tells.{Tells}
 use Rattle.session_run.specs.Machines.{reactor}
-use Rattle.session_run.specs.Reactors.{Turns}
+use Rattle.session_run.specs.Reactors.{TurnsReactor}
 
 -- what the reactor was told to stop for, by why the writing and the reading stopped
 abbrev Knows : Option Cause → Option WriteStop → Option ReadStop → Type 0
@@ -117,7 +117,7 @@ module _ {F S : Type 0} (f : Files F) (o : Sink S) where
       pieces k 0 b t.pieces y (subst (λ c. Served reactor (desk_out f o) k b c t.pieces y) e s.2) told
 
   -- the turn that ends the run
-  kept-for : (x : Head Run D) (y : D) (lines : List ReportLine) (c : Cause) (ok : Bool) → (desk_out f o).writes x.outside lines y ok → Known x → EndsFor x.machine.known.stopped c → IsFor c y.kept.now.unwritten y.kept.now.unread
+  kept-for : (x : Head Run D) (y : D) (lines : List ReportLine) (c : Cause) (ok : Bool) → (desk_out f o).writes x.outside lines y ok → Known x → MayEndFor x.machine.known.stopped c → IsFor c y.kept.now.unwritten y.kept.now.unread
   kept-for x y lines c ok w h e =
       ⊎_elim (λ m. inl m)
       (λ more. ⊎_elim
@@ -146,9 +146,9 @@ module _ {F S : Type 0} (f : Files F) (o : Sink S) where
 
   -- A run whose turns go on, but for the last, ends for want of memory, for a write or a read that failed, or for a cause of its
   -- own, with nothing unread.
-  pub ends-for : (n k : ℕ) (x : Head Run D) (ts : List ReactorTurn) (last : ReactorTurn) (c : Cause) (y : Head Run D) → ends ts ≡ [] → last.end ≡ Some c → Goes (ReactorStep reactor (desk_out f o) n) k x (ts ++ last ∷ []) y
+  pub ends-for : (n k : ℕ) (x : Head Run D) (ts : List ReactorTurn) (last : ReactorTurn) (c : Cause) (y : Head Run D) → answered_ends ts ≡ [] → last.end ≡ Some c → Goes (ReactorStep reactor (desk_out f o) n) k x (ts ++ last ∷ []) y
       → Known x → IsFor c y.outside.kept.now.unwritten y.outside.kept.now.unread
   ends-for n k x [] last c y none e g h = subst (λ (z : Head Run D). IsFor c z.outside.kept.now.unwritten z.outside.kept.now.unread) g.2 (ends-so n k x last c g.0 e g.1 h)
   ends-for n k x (t ∷ ts) last c y none e g h =
-      let here = none-in t.end (ends ts) none in
+      let here = none-in t.end (answered_ends ts) none in
       ends-for n (k + 1) g.0 ts last c y here.1 e g.2 (goes-on n k x t g.0 here.0 g.1 h)

@@ -11,7 +11,7 @@ use Rattle.session_lanes.specs.declared.near.Told.{Told}
 use Rattle.session_lanes.specs.Runs.{IsRun, head_at, ran_at}
 use Rattle.session_run.specs.declared.desk.Desk.{Desk}
 use Rattle.session_run.specs.declared.tell.Kept.{Kept}
-use Rattle.session_run.specs.Desks.{Desked, Happened, IsToldRun, desk_out, lines_of}
+use Rattle.session_run.specs.Desks.{Desked, Happened, IsToldRun, desk_out, reported_lines}
 use Rattle.session_run.specs.Tells.{Tells}
 use Rattle.session_run.proofs.Counting.{counts-nil, counts-more}
 use Rattle.session_run.proofs.Outsides.{outside_goes}
@@ -57,8 +57,8 @@ module _ {M L A F S : Type 0} (m : Motion M) (l : Link L) (a : Reactor A) (f : F
           y,
           i.4,
           i.5,
-          given names (lines_of rows) x.files.now x.out.now x.kept.now y files' out' kept' (fs (sym d.0.0)) (os (sym d.0.1)) (ks (sym d.0.2))
-              (subst (λ n. Happened f s n (lines_of rows) x.files.now x.out.now x.kept.now y.files.now y.out.now y.kept.now) e d.1),
+          given names (reported_lines rows) x.files.now x.out.now x.kept.now y files' out' kept' (fs (sym d.0.0)) (os (sym d.0.1)) (ks (sym d.0.2))
+              (subst (λ n. Happened f s n (reported_lines rows) x.files.now x.out.now x.kept.now y.files.now y.out.now y.kept.now) e d.1),
           (refl, refl, refl, refl),
           (sym (fs (sym d.0.0)), sym (os (sym d.0.1)), sym (ks (sym d.0.2)), d.0.4),
         )

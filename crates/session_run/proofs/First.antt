@@ -2,7 +2,7 @@
 use Rattle.std.proofs.Common.{◌≡◌, ◌≤◌, arith, get_or, drop, ℕ, ◌+◌, List, [], ◌∷◌, ◌++◌, length, Option, Some, None, IfSome, subst, Result, Ok, Err, OnOk, suc, refl, sym, ap, ◌∙◌, append_assoc}
 use Rattle.plan_types.specs.declared.machine.BoardDef.{BoardDef}
 use Rattle.wire_scene.specs.declared.scene.Scene.{Scene}
-use Rattle.link_work.specs.Stands.{Seen}
+use Rattle.link_work.specs.Stands.{SeenLink}
 use Rattle.io_core.specs.declared.traits.Files.{Ghosts as Files}
 use Rattle.io_core.specs.declared.traits.Sink.{Ghosts as Sink}
 use Rattle.plan_types.specs.declared.machine.Machine.{Machine}
@@ -16,13 +16,13 @@ use Rattle.session_run.specs.declared.motion.Planning.{Planning}
 use Rattle.session_run.specs.Machines.{link, planner, reactor}
 use Rattle.session_run.specs.Runs.{AreFirstLinks, IsFirstLink, RunsOver}
 
-pub added : {T E : Type 0} (r : Result T E) (s : Scene) (i : ℕ) (b : BoardDef) (rest : List BoardDef) (old mid new : List Seen) (l : Seen) → mid ≡ old ++ l ∷ [] → IsFirstLink s i b l
-    → OnOk r ((more : List Seen) × (new ≡ mid ++ more) × AreFirstLinks s (i + 1) rest more) → OnOk r ((more : List Seen) × (new ≡ old ++ more) × AreFirstLinks s i (b ∷ rest) more)
+pub added : {T E : Type 0} (r : Result T E) (s : Scene) (i : ℕ) (b : BoardDef) (rest : List BoardDef) (old mid new : List SeenLink) (l : SeenLink) → mid ≡ old ++ l ∷ [] → IsFirstLink s i b l
+    → OnOk r ((more : List SeenLink) × (new ≡ mid ++ more) × AreFirstLinks s (i + 1) rest more) → OnOk r ((more : List SeenLink) × (new ≡ old ++ more) × AreFirstLinks s i (b ∷ rest) more)
 added (Ok t) s i b rest old mid new l e f h = (l ∷ h.0, h.1 ∙ ap (λ x. x ++ h.0) e ∙ append_assoc old (l ∷ []) h.0, (f, h.2))
 added (Err x) s i b rest old mid new l e f h = tt
 
 -- as many as there are boards
-pub count : (s : Scene) (i : ℕ) (boards : List BoardDef) (links : List Seen) → AreFirstLinks s i boards links → length links ≡ length boards
+pub count : (s : Scene) (i : ℕ) (boards : List BoardDef) (links : List SeenLink) → AreFirstLinks s i boards links → length links ≡ length boards
 count s i [] [] h = refl
 count s i [] (l ∷ links) h = absurd h
 count s i (b ∷ boards) [] h = absurd h
@@ -33,7 +33,7 @@ split [] d h = absurd (omega arith)
 split (b ∷ boards) d h = refl
 
 -- and the run that is made of them
-pub ran : {F S : Type 0} (f : Files F) (o : Sink S) (m : Machine) (s : Scene) (name : List ℕ) (files : F) (out : S) (kept : Kept) (told : Option (Told Run)) (files' : F) (out' : S) (kept' : Kept) (p : Planning) (links : List Seen) (h : Run) (boards : List BoardDef)
+pub ran : {F S : Type 0} (f : Files F) (o : Sink S) (m : Machine) (s : Scene) (name : List ℕ) (files : F) (out : S) (kept : Kept) (told : Option (Told Run)) (files' : F) (out' : S) (kept' : Kept) (p : Planning) (links : List SeenLink) (h : Run) (boards : List BoardDef)
     → IsPlannerOf p.motion nothing_seen → p.motion.machine ≡ m → boards ≡ m.boards → AreFirstLinks s 0 boards links → h ≡ first_run m s.switches
     → IfSome told (λ t. IsToldRun planner link reactor f o m name p links h files out kept t files' out' kept') → IfSome told (λ t. RunsOver f o m s name files out kept t files' out' kept')
 ran f o m s name files out kept None files' out' kept' p links h boards fresh printer same first begins i = tt

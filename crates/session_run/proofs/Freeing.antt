@@ -27,10 +27,10 @@ use Rattle.host_reactor.specs.declared.ordered.Phase.{Phase}
 use Rattle.host_reactor.specs.declared.ordered.Phase.TheVariants.{Connecting, Running, Stopping}
 use Rattle.host_reactor.specs.Free as rest
 use Rattle.host_reactor.specs.Free.{AreEmpty, EndsOrRests, IsAtRest, OrdersNothing, free_turns}
-use Rattle.host_reactor.specs.Notes.{are_lines, is_out, news_of, noted, told, told_all}
+use Rattle.host_reactor.specs.Notes.{are_lines, is_out, news_of, noted, known_behind, told_all}
 use Rattle.host_reactor.specs.Report.{first_lines}
 use Rattle.host_reactor.specs.Reactor.{Reacted, Run, after_homing, by_phase, carries_on, cut_line, ends, finishes, is_end, plain_controls, reacts, run_controls, stop_command, stops, unless_ended, unless_homing_ends, unless_stale}
-use Rattle.host_reactor.specs.Rows.{AreControls, IsWhole}
+use Rattle.host_reactor.specs.Rows.{AreControls, HasEachBoard}
 use Rattle.host_reactor.specs.Running.{first_cause, is_finished, stop_of}
 use Rattle.host_reactor.proofs.Idle.{rests}
 use Rattle.host_reactor.proofs.Rowing.{rowed}
@@ -91,10 +91,10 @@ unless-ended None m switches r k states lines e = in-phase r.phase m switches r 
 
 all-phase : (m : Machine) (ns : List NoteNews) (r : Known) → (told_all m ns r).phase ≡ r.phase
 all-phase m [] r = refl
-all-phase m (news.Start section kind turn last moving ∷ ns) r = all-phase m ns (told m r (news.Start section kind turn last moving))
-all-phase m (news.Done section turn ∷ ns) r = all-phase m ns (told m r (news.Done section turn))
-all-phase m (news.Read end sections ∷ ns) r = all-phase m ns (told m r (news.Read end sections))
-all-phase m (news.Line board line from ∷ ns) r = all-phase m ns (told m r (news.Line board line from))
+all-phase m (news.Start section kind turn last moving ∷ ns) r = all-phase m ns (known_behind m r (news.Start section kind turn last moving))
+all-phase m (news.Done section turn ∷ ns) r = all-phase m ns (known_behind m r (news.Done section turn))
+all-phase m (news.Read end sections ∷ ns) r = all-phase m ns (known_behind m r (news.Read end sections))
+all-phase m (news.Line board line from ∷ ns) r = all-phase m ns (known_behind m r (news.Line board line from))
 
 same-phase : (m : Machine) (note : Option Note) (r : Known) → (noted m note r).phase ≡ r.phase
 same-phase m None r = refl
@@ -140,7 +140,7 @@ free-in x k n before e (inl z) = absurd (omega arith)
 free-in x k n before e (inr f) = (f.0, subst (λ b. n + 1 ≤ b) (ap (free_turns x.machine x.known) f.0 ∙ sym e) f.1)
 
 -- a turn of a reactor that is free
-pub goes-free : (x y : Run) (k n : ℕ) (states : List State) (note : Option Note) (o : Ordered) (before behind : ℕ) → IsWhole x.machine x.known → o ≡ (reacted x k states note).ordered
+pub goes-free : (x y : Run) (k n : ℕ) (states : List State) (note : Option Note) (o : Ordered) (before behind : ℕ) → HasEachBoard x.machine x.known → o ≡ (reacted x k states note).ordered
     → y.next ≡ k + 1 → AreOf (λ s. s.turn + 1) k states
     → before ≡ free_turns x.machine x.known x.next → ((i : ℕ) → i + 1 ≤ before → IsAtRest x.machine x.known x.next (i + 1))
     → behind ≡ free_turns y.machine y.known y.next → (0 < before → (are_lines (news_of note) ≡ true) × (before ≤ behind + 1))

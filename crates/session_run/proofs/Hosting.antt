@@ -6,7 +6,7 @@ use Rattle.msg_code.specs.declared.talk.State.{State}
 use Rattle.msg_code.specs.declared.unit.Control.{Control}
 use Rattle.host_reactor.specs.declared.ordered.Ordered.{Ordered}
 use Rattle.host_reactor.specs.Reactor.{Run, is_end}
-use Rattle.host_reactor.specs.Rows.{AreControls, IsRow, IsWhole}
+use Rattle.host_reactor.specs.Rows.{AreControls, IsRow, HasEachBoard}
 use Rattle.host_reactor.proofs.Rowing.{rowed}
 use Rattle.session_work.specs.Rows.{AllEnd, AreOf}
 use Rattle.session_run.specs.Reactors.{reacted}
@@ -25,10 +25,10 @@ ending : (o : Option Cause) → is_end o ≡ is_some o
 ending None = refl
 ending (Some c) = refl
 
-row : (x : Run) (k : ℕ) (states : List State) (note : Option Note) (o : Ordered) → IsWhole x.machine x.known → o ≡ (reacted x k states note).ordered → IsRow x.machine k o
+row : (x : Run) (k : ℕ) (states : List State) (note : Option Note) (o : Ordered) → HasEachBoard x.machine x.known → o ≡ (reacted x k states note).ordered → IsRow x.machine k o
 row x k states note o w e = subst (IsRow x.machine k) (sym e) (rowed x.machine x.switches x.known k states note w).row
 
-module _ (x : Run) (k : ℕ) (states : List State) (note : Option Note) (o : Ordered) (w : IsWhole x.machine x.known) (e : o ≡ (reacted x k states note).ordered) where
+module _ (x : Run) (k : ℕ) (states : List State) (note : Option Note) (o : Ordered) (w : HasEachBoard x.machine x.known) (e : o ≡ (reacted x k states note).ordered) where
   pub controls : (cs : List Control) → cs ≡ o.controls → (length cs ≡ length x.machine.boards) × AreOf (λ c. c.turn) k cs
   controls cs same =
       let r = row x k states note o w e in (
@@ -46,6 +46,6 @@ module _ (x : Run) (k : ℕ) (states : List State) (note : Option Note) (o : Ord
         subst (λ (l : List Control). AllEnd (is_some o.end) l) (sym same) (subst (λ b. AllEnd b o.controls) (ending o.end) (all-end k (is_end o.end) o.controls r.controls)),
       )
 
-pub whole : (x y : Run) (k : ℕ) (states : List State) (note : Option Note) → IsWhole x.machine x.known → y.machine ≡ x.machine → y.known ≡ (reacted x k states note).known → IsWhole y.machine y.known
+pub whole : (x y : Run) (k : ℕ) (states : List State) (note : Option Note) → HasEachBoard x.machine x.known → y.machine ≡ x.machine → y.known ≡ (reacted x k states note).known → HasEachBoard y.machine y.known
 whole x y k states note w same e =
-    subst (λ m. IsWhole m y.known) (sym same) (subst (IsWhole x.machine) (sym e) (rowed x.machine x.switches x.known k states note w).whole)
+    subst (λ m. HasEachBoard m y.known) (sym same) (subst (HasEachBoard x.machine) (sym e) (rowed x.machine x.switches x.known k states note w).whole)

@@ -10,7 +10,7 @@ use Rattle.session_work.specs.declared.head.Head.{Head}
 use Rattle.session_work.specs.declared.table.ReactorTurn.{ReactorTurn}
 use Rattle.session_work.specs.Heads.{Served, ServeStep, ReactorStep}
 use Rattle.session_work.specs.Turns.{Goes}
-use Rattle.session_run.specs.Desks.{lines_of}
+use Rattle.session_run.specs.Desks.{reported_lines}
 
 module _ {A O : Type 0} (a : Reactor A) (o : Out O) (R : O → List ReportLine → O → Type 0) (same : (x : O) → R x [] x) (then : (x y z : O) (s t : List ReportLine) → R x s y → R y t z → R x (s ++ t) z)
     (writes : (x : O) (lines : List ReportLine) (y : O) (out : Bool) → o.writes x lines y out → R x lines y) (serves : (x : O) (n : ℕ) (r : Result Piece Cause) (y : O) → o.serves x n r y → R x [] y) where
@@ -32,6 +32,6 @@ module _ {A O : Type 0} (a : Reactor A) (o : Out O) (R : O → List ReportLine �
       (then x.outside s.0.outside y.outside t.lines [] (⊎_elim (λ z. ⊎_elim (λ v. writes x.outside t.lines s.0.outside _ v.0) (λ v. writes x.outside t.lines s.0.outside _ v.0) z.1.2.1) (λ z. subst (λ l. R x.outside l s.0.outside) (sym z.2) (as_same x.outside s.0.outside z.4)) s.1.1)
       (served_or_not k s.0 t.end t.pieces y s.2))
 
-  pub outside_goes : (n k : ℕ) (x : Head A O) (ts : List ReactorTurn) (y : Head A O) → Goes (ReactorStep a o n) k x ts y → R x.outside (lines_of ts) y.outside
+  pub outside_goes : (n k : ℕ) (x : Head A O) (ts : List ReactorTurn) (y : Head A O) → Goes (ReactorStep a o n) k x ts y → R x.outside (reported_lines ts) y.outside
   outside_goes n k x [] y g = as_same x.outside y.outside (ap (λ (h : Head A O). h.outside) (sym g))
-  outside_goes n k x (t ∷ ts) y g = then x.outside g.0.outside y.outside t.lines (lines_of ts) (one n k x t g.0 g.1) (outside_goes n (k + 1) g.0 ts y g.2)
+  outside_goes n k x (t ∷ ts) y g = then x.outside g.0.outside y.outside t.lines (reported_lines ts) (one n k x t g.0 g.1) (outside_goes n (k + 1) g.0 ts y g.2)

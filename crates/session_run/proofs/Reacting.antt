@@ -14,7 +14,7 @@ use Rattle.session_work.specs.declared.machines.Outside.{Ghosts as Out}
 use Rattle.session_work.specs.declared.head.Head.{Head}
 use Rattle.session_work.specs.declared.table.ReactorTurn.{ReactorTurn}
 use Rattle.session_work.specs.Heads.{IsRow, Ordering, Served, ServeStep, ReactorStep, Wrote}
-use Rattle.session_work.specs.Reactors.{ends}
+use Rattle.session_work.specs.Reactors.{answered_ends}
 use Rattle.session_work.specs.Rows.{option_items}
 use Rattle.session_work.specs.Turns.{Goes}
 use Rattle.session_run.specs.Machines.{reactor}
@@ -90,11 +90,11 @@ module _ {O : Type 0} (o : Out O) (m : Machine) (switches : List Switch) where
   none-in None cs e = (refl, e)
   none-in (Some c) cs e = cc
 
-  pub turns : (n k : ℕ) (before : List Came) (x : Head Run O) (ts us : List ReactorTurn) (y : Head Run O) → n ≡ length m.boards → k ≡ length before → ends ts ≡ [] → Goes (ReactorStep reactor o n) k x (ts ++ us) y → Follows before x.machine
+  pub turns : (n k : ℕ) (before : List Came) (x : Head Run O) (ts us : List ReactorTurn) (y : Head Run O) → n ≡ length m.boards → k ≡ length before → answered_ends ts ≡ [] → Goes (ReactorStep reactor o n) k x (ts ++ us) y → Follows before x.machine
       → AreReactorTurns m switches before ts
   turns n k before x [] us y count number none g h = tt
   turns n k before x (t ∷ ts) us y count number none g h =
-      let here = none-in t.end (ends ts) none in
+      let here = none-in t.end (answered_ends ts) none in
       let one = turn n k before x t g.0 count number here.0 g.1 h in
       (one.0, turns n (k + 1) (came_in t ∷ before) g.0 ts us y count (let e = number in omega arith) here.1 g.2 one.1)
 
@@ -106,12 +106,12 @@ module _ {O : Type 0} (o : Out O) (m : Machine) (switches : List Switch) where
     pub follows : Follows before x.machine
     pub step : ReactorStep reactor o n k x t y
 
-  pub last : (n k : ℕ) (before : List Came) (x : Head Run O) (ts : List ReactorTurn) (t : ReactorTurn) (y : Head Run O) → n ≡ length m.boards → k ≡ length before → ends ts ≡ []
+  pub last : (n k : ℕ) (before : List Came) (x : Head Run O) (ts : List ReactorTurn) (t : ReactorTurn) (y : Head Run O) → n ≡ length m.boards → k ≡ length before → answered_ends ts ≡ []
       → Goes (ReactorStep reactor o n) k x (ts ++ t ∷ []) y → Follows before x.machine → Last (came_from before ts) n t y
   last n k before x [] t y count number none g h =
       record { k = k; number = number; x = x; follows = h; step = subst (λ (z : Head Run O). ReactorStep reactor o n k x t z) g.2 g.1 }
   last n k before x (u ∷ ts) t y count number none g h =
-      let here = none-in u.end (ends ts) none in
+      let here = none-in u.end (answered_ends ts) none in
       let one = turn n k before x u g.0 count number here.0 g.1 h in
       last n (k + 1) (came_in u ∷ before) g.0 ts t y count (let e = number in omega arith) here.1 g.2 one.1
 

@@ -7,7 +7,7 @@ use Rattle.std.proofs.lemmas.Grind.{common_steps}
 use mathlib.Core.Logic.{inl, inr}
 use Rattle.io_core.specs.declared.traits.Files.{Ghosts as Files}
 use Rattle.msg_code.specs.declared.talk.Piece.{Piece}
-use Rattle.session_run.specs.Reads.{IsNext}
+use Rattle.session_run.specs.Reads.{IsNextPiece}
 
 take-fewer : (n m : ℕ) (xs : List ℕ) → n ≤ m → take n (take m xs) ≡ take n xs
 take-fewer n m xs h = grind (arith, common_steps)
@@ -32,7 +32,7 @@ piece-whole text bytes at small front ended =
     ]
 
 pub next-piece : {F : Type 0} (f : Files F) (name : List ℕ) (files : F) (at after : ℕ) (p : Piece) (bytes : List ℕ) → p.bytes ≡ bytes → p.end ≡ nat_lt (length bytes) 4_096 → after ≡ at + length bytes → length bytes ≤ 4_096
-    → ((text : List ℕ) → f.told files name ≡ Some text → bytes ≡ take (length bytes) (drop at text)) → (length bytes < 4_096 → (text : List ℕ) → f.told files name ≡ Some text → length (drop at text) ≤ length bytes) → IsNext f name files at p after
+    → ((text : List ℕ) → f.told files name ≡ Some text → bytes ≡ take (length bytes) (drop at text)) → (length bytes < 4_096 → (text : List ℕ) → f.told files name ≡ Some text → length (drop at text) ≤ length bytes) → IsNextPiece f name files at p after
 next-piece f name files at after p bytes is end goes small front ended = (
   goes ∙ ap (λ b. at + length b) (sym is),
   subst (λ b. length b ≤ 4_096) (sym is) small,

@@ -27,7 +27,7 @@ use Rattle.session_run.specs.declared.tell.Kept.{Kept}
 use Rattle.session_run.specs.Counts.{counted, pulse_counts, pulses_shown}
 use Rattle.session_run.specs.Desks.{cause_of}
 use Rattle.session_run.specs.Reads.{CountsReads, StopsReading}
-use Rattle.session_run.specs.Tells.{Said, StopsWriting, Tells, without_pulses}
+use Rattle.session_run.specs.Tells.{WereTold, StopsWriting, Tells, without_pulses}
 use Rattle.session_run.proofs.Counted.{all-counted}
 use Rattle.session_run.specs.Reported.{GivenFor, IsFresh, IsOfRun, IsWritten, own_of, run_lines, with_failure}
 use Rattle.session_run.specs.Runs.{RunsOver}
@@ -98,7 +98,7 @@ shows-all m old mid new c t all kept lines n counts are w k e cs fr al = record 
 }
 
 -- and where it stopped
-shows-front : (m : Machine) (old mid new : Option (List ℕ)) (c t : Cause) (w : WriteStop) (all kept lines : List ReportLine) (n : ℕ) (before counts : List ℕ) (d : Said m all old mid [] before kept counts) → before ≡ replicate n 0 → new ≡ mid
+shows-front : (m : Machine) (old mid new : Option (List ℕ)) (c t : Cause) (w : WriteStop) (all kept lines : List ReportLine) (n : ℕ) (before counts : List ℕ) (d : WereTold m all old mid [] before kept counts) → before ≡ replicate n 0 → new ≡ mid
     → (lines ≡ kept ++ report.End (own_of (Some w) t) ∷ []) ⊎ ((lines ≡ kept) × (c ≡ cause.Memory)) → (c ≡ own_of (Some w) t) ⊎ (c ≡ cause.Memory) → Shows m old new c t all lines n counts
 shows-front m old mid new c t w all kept lines n before counts d none same e cs =
     let out : (c ≢ cause.Memory) → (c ≢ cause.WriteFault) → ⊥ = λ a b. ⊎_elim (λ x. stopped w x a b) a cs in record {
@@ -134,7 +134,7 @@ shows m old mid new c t (Some w) u' before after all kept kept' lines n none-yet
 shows m old mid new c t None None before after all kept kept' lines n none-yet counts none empty zeros tells e cs fr al st =
     shows-all m old mid new c t all kept' lines n counts (tells.3 ∙ all-counted n none-yet all zeros) tells.0 (tells.2 ∙ ap (λ (ls : List ReportLine). ls ++ without_pulses all) empty) e cs (fr refl) (al refl)
 shows m old mid new c t None (Some w) before after all kept kept' lines n none-yet counts none empty zeros tells e cs fr al st =
-    shows-front m old mid new c t w all kept' lines n none-yet counts (subst (λ (ls : List ReportLine). Said m all old mid ls none-yet kept' counts) empty tells.0) zeros (st w refl).0 e (st w refl).1
+    shows-front m old mid new c t w all kept' lines n none-yet counts (subst (λ (ls : List ReportLine). WereTold m all old mid ls none-yet kept' counts) empty tells.0) zeros (st w refl).0 e (st w refl).1
 
 -- the faults
 rose-on : (a b c : ℕ) → b ≡ a → Rose b c → Rose a c

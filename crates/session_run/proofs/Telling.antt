@@ -8,7 +8,7 @@ use Rattle.report_text.specs.declared.write.WriteStop.{WriteStop}
 use Rattle.report_text.specs.Written.{WritesAll, WritesFront}
 use Rattle.report_text.proofs.Writing.{report_text-append, report_text-line}
 use Rattle.session_run.specs.Counts.{with_pulse, with_pulses}
-use Rattle.session_run.specs.Tells.{Said, StopsWriting, Tells, is_pulse, unless_pulse, without_pulses}
+use Rattle.session_run.specs.Tells.{WereTold, StopsWriting, Tells, is_pulse, unless_pulse, without_pulses}
 
 writes-nil : (w : Option (List ℕ)) → WritesAll w w []
 writes-nil w = λ before e. e ∙ ap Some (sym (append-nil before))
@@ -96,7 +96,7 @@ counted-one c d e lines i l h one two =
     counted-more c d e (take i lines) (get_or lines i l ∷ []) one two ∙ ap (λ t. with_pulses t c) (sym (take-more lines i l h))
 
 -- the first lines were told, of which nothing was written
-pub said-unwritten : (m : Machine) (lines : List ReportLine) (i : ℕ) (w : Option (List ℕ)) (k n : List ReportLine) (c e : List ℕ) → n ≡ k ++ without_pulses (take i lines) → e ≡ with_pulses (take i lines) c → Said m lines w w k c n e
+pub said-unwritten : (m : Machine) (lines : List ReportLine) (i : ℕ) (w : Option (List ℕ)) (k n : List ReportLine) (c e : List ℕ) → n ≡ k ++ without_pulses (take i lines) → e ≡ with_pulses (take i lines) c → WereTold m lines w w k c n e
 said-unwritten m lines i w k n c e keeps counts = record {
   said = take i lines;
   rest = drop i lines;
@@ -107,7 +107,7 @@ said-unwritten m lines i w k n c e keeps counts = record {
 }
 
 -- all lines were told, whose text or its front was written
-pub said-all : (m : Machine) (lines : List ReportLine) (old new : Option (List ℕ)) (text : List ℕ) (k n : List ReportLine) (c e : List ℕ) → text ≡ report_text m lines → WritesFront old new text → n ≡ k ++ without_pulses lines → e ≡ with_pulses lines c → Said m lines old new k c n e
+pub said-all : (m : Machine) (lines : List ReportLine) (old new : Option (List ℕ)) (text : List ℕ) (k n : List ReportLine) (c e : List ℕ) → text ≡ report_text m lines → WritesFront old new text → n ≡ k ++ without_pulses lines → e ≡ with_pulses lines c → WereTold m lines old new k c n e
 said-all m lines old new text k n c e is front keeps counts = record {
   said = lines;
   rest = [];

@@ -20,7 +20,7 @@ use Rattle.session_run.specs.declared.desk.Desk.{Desk}
 use Rattle.session_run.specs.declared.read.ReadStop.{ReadStop}
 use Rattle.session_run.specs.declared.read.ReadStop.TheVariants as stop
 use Rattle.session_run.specs.declared.tell.Kept.{Kept}
-use Rattle.session_run.specs.Reads.{CountsReads, IsNext}
+use Rattle.session_run.specs.Reads.{CountsReads, IsNextPiece}
 use Rattle.session_run.specs.Tells.{Tells}
 
 -- the references are the same, and the machine and the file's name
@@ -52,7 +52,7 @@ cause_of stop.Failed = cause.ReadFault
 -- a piece that a desk gives, or why there is none
 abbrev pub Serves : {F S : Type 0} → Files F → Desk F S → Result Piece Cause → Desk F S → Type 0
 Serves f x (Ok p) y =
-    IsNext f x.name.now x.files.now x.kept.now.at p y.kept.now.at × (y.kept.now.unread ≡ x.kept.now.unread)
+    IsNextPiece f x.name.now x.files.now x.kept.now.at p y.kept.now.at × (y.kept.now.unread ≡ x.kept.now.unread)
     × (p.stop ≡ false)
 Serves f x (Err c) y =
     (s : ReadStop) × (y.kept.now.unread ≡ Some s) × (c ≡ cause_of s) × (y.kept.now.at ≡ x.kept.now.at)
@@ -74,8 +74,8 @@ abbrev pub Has : {F S : Type 0} → Desk F S → List ℕ → F → S → Kept �
 Has x name files out kept = (x.files.now ≡ files) × (x.out.now ≡ out) × (x.kept.now ≡ kept) × (x.name.now ≡ name)
 
 -- the lines of the reactor's turns
-abbrev pub lines_of : List ReactorTurn → List ReportLine
-lines_of ts = gather (λ t. t.lines) ts
+abbrev pub reported_lines : List ReactorTurn → List ReportLine
+reported_lines ts = gather (λ t. t.lines) ts
 
 module _ {M L A F S : Type 0} (m : Motion M) (l : Link L) (a : Reactor A) (f : Files F) (s : Sink S) where
   -- A run of these machines, of turns of the motion worker and of the reactor, over the file of a name and an
@@ -85,5 +85,5 @@ module _ {M L A F S : Type 0} (m : Motion M) (l : Link L) (a : Reactor A) (f : F
       (ts : List MotionTurn) × (rs : List ReactorTurn) × (end : ReactorTurn) × (n : ℕ) × (x : Desk F S) × (y : Desk F S)
       × Met m l a (desk_out f s) ts rs end n (length links) start (head_at machine x) (ran_at t y)
       × AreLogs m l a (desk_out f s) ts rs end n 0 links t.links.items
-      × Happened f s names (lines_of (rs ++ end ∷ [])) files out kept files' out' kept'
+      × Happened f s names (reported_lines (rs ++ end ∷ [])) files out kept files' out' kept'
       × Has x name files out kept × Has y name files' out' kept'

@@ -1,7 +1,7 @@
 -- The planner, a link and the reactor as machines of a run.
 use Rattle.std.specs.Prelude.{◌≡◌, length}
 use Rattle.host_reactor.specs.Reactor.{Run}
-use Rattle.link_work.specs.Stands.{Seen}
+use Rattle.link_work.specs.Stands.{SeenLink}
 use Rattle.motion_stream.specs.Motions as motion
 use Rattle.session_work.specs.declared.machines.LinkMachine.{Ghosts as Link}
 use Rattle.session_work.specs.declared.machines.MotionMachine.{Ghosts as Motion}
@@ -16,22 +16,22 @@ planner = record {
   boards = λ p. length p.motion.machine.boards;
   wants = λ p k. motion.wants p.motion k;
   hungry = λ p k. motion.hungry p.motion k;
-  can = λ p k. motion.Can p.motion k;
+  can = λ p k. motion.CanTurnPlanner p.motion k;
   hears = λ p w q. motion.Hears p.motion w q.motion;
-  reads = λ p piece q. motion.Reads p.motion piece.bytes piece.end q.motion;
-  turns = λ p k batches note q. motion.Can p.motion k × motion.Makes p.motion k batches note q.motion;
+  reads = λ p piece q. motion.TakesText p.motion piece.bytes piece.end q.motion;
+  turns = λ p k batches note q. motion.CanTurnPlanner p.motion k × motion.Makes p.motion k batches note q.motion;
 }
 
 -- a link, as a machine
-abbrev pub link : Link Seen
-link = record { can = links.Can; turns = links.Turns }
+abbrev pub link : Link SeenLink
+link = record { can = links.CanTurnLink; turns = links.TurnsLink }
 
 -- the reactor, as a machine
 abbrev pub reactor : Reactor Run
 reactor = record {
   boards = λ h. length h.machine.boards;
-  can = reactors.Can;
-  turns = reactors.Turns;
+  can = reactors.CanTurnReactor;
+  turns = reactors.TurnsReactor;
   stops = reactors.Stops;
   free = reactors.IsFree;
 }

@@ -8,18 +8,19 @@ use Rattle.plan_types.specs.declared.cause.Cause.{Cause}
 use Rattle.report_text.specs.declared.line.ReportLine.{ReportLine}
 use Rattle.host_reactor.specs.Free.{free_turns, IsAtRest}
 use Rattle.host_reactor.specs.Reactor.{Run, Reacted, reacts, stopped_by}
-use Rattle.host_reactor.specs.Rows.{IsWhole}
+use Rattle.host_reactor.specs.Rows.{HasEachBoard}
 
 -- a turn is a reactor's next one, there are not too many, and the reactor has what it needs for each board
-abbrev pub Can : Run → ℕ → Type 0
-Can x k = (k ≡ x.next) × (k < 2 ^ 59) × IsWhole x.machine x.known
+abbrev pub CanTurnReactor : Run → ℕ → Type 0
+CanTurnReactor x k = (k ≡ x.next) × (k < 2 ^ 59) × HasEachBoard x.machine x.known
 
 -- what a turn makes of a reactor, and what it gives
 abbrev pub reacted : Run → ℕ → List State → Option Note → Reacted
 reacted x k states note = reacts x.machine x.switches x.known k states note
 
 -- a turn of a reactor: what it orders is what its function gives for the states and the note
-pub record Turns (x : Run) (k : ℕ) (states : List State) (note : Option Note) (controls : List Control) (word : WordMsg)
+pub record TurnsReactor (x : Run) (k : ℕ) (states : List State) (note : Option Note) (controls : List Control)
+    (word : WordMsg)
     (lines : List ReportLine) (end : Option Cause) (y : Run) : Type 0 where
   pub controls_are : controls ≡ (reacted x k states note).ordered.controls
   pub word_is : word ≡ (reacted x k states note).ordered.word

@@ -27,7 +27,7 @@ CountsReads None before None after = after ≡ before
 CountsReads None before (Some s) after = StopsReading s before after
 
 -- the next piece of a file from a place on
-abbrev pub IsNext : {F : Type 0} → Files F → List ℕ → F → ℕ → Piece → ℕ → Type 0
-IsNext f name files at p after =
+abbrev pub IsNextPiece : {F : Type 0} → Files F → List ℕ → F → ℕ → Piece → ℕ → Type 0
+IsNextPiece f name files at p after =
     (after ≡ at + length p.bytes) × (length p.bytes ≤ piece_size)
     × ((bytes : List ℕ) → f.told files name ≡ Some bytes → IsPieceAt bytes at p)

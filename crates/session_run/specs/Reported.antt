@@ -18,7 +18,7 @@ use Rattle.session_lanes.specs.declared.near.LinkLog.{LinkLog}
 use Rattle.session_lanes.specs.declared.near.Told.{Told}
 use Rattle.session_run.specs.declared.tell.Kept.{Kept}
 use Rattle.session_run.specs.Counts.{pulse_counts}
-use Rattle.session_run.specs.Desks.{lines_of}
+use Rattle.session_run.specs.Desks.{reported_lines}
 use Rattle.session_run.specs.Tells.{without_pulses}
 use Rattle.host_reactor.specs.Reactor.{Run}
 use Rattle.session_run.specs.declared.ended.Ended.{Ended}
@@ -61,7 +61,7 @@ IsOfRun _ = Unit {0}
 abbrev pub run_lines : {F S : Type 0} → (f : Files F) → (o : Sink S) → (m : Machine) → (s : Scene) → (name : List ℕ) →
     (files : F) → (out : S) → (kept : Kept) → (t : Told Run) → (files' : F) → (out' : S) → (kept' : Kept) →
     RunsOver f o m s name files out kept t files' out' kept' → List ReportLine
-run_lines f o m s name files out kept t files' out' kept' r = lines_of (r.runs.1 ++ r.runs.2 ∷ [])
+run_lines f o m s name files out kept t files' out' kept' r = reported_lines (r.runs.1 ++ r.runs.2 ∷ [])
 
 -- The text of a report's lines is written: a front of it, and the whole where the run ends neither for want
 -- of memory nor for a write that failed.

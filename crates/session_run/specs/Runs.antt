@@ -7,7 +7,7 @@ use Rattle.plan_types.specs.declared.machine.BoardDef.{BoardDef}
 use Rattle.plan_types.specs.Clock.{clock_of}
 use Rattle.wire_scene.specs.declared.scene.Scene.{Scene}
 use Rattle.link_work.specs.Ends.{spoiled_turns}
-use Rattle.link_work.specs.Stands.{Seen, StandsFor, first_state}
+use Rattle.link_work.specs.Stands.{SeenLink, StandsFor, first_state}
 use Rattle.link_work.specs.Switches.{pins_of}
 use Rattle.host_reactor.specs.Reactor.{Run, first_run}
 use Rattle.motion_stream.specs.Motions.{IsPlannerOf}
@@ -19,7 +19,7 @@ use Rattle.session_run.specs.declared.motion.Planning.{Planning}
 use Rattle.session_run.specs.Machines.{planner, link, reactor}
 
 -- a link on which nothing has happened, of the board with this number
-pub record IsFirstLink (s : Scene) (i : ℕ) (b : BoardDef) (l : Seen) : Type 0 where
+pub record IsFirstLink (s : Scene) (i : ℕ) (b : BoardDef) (l : SeenLink) : Type 0 where
   pub stands : StandsFor l (first_state b (pins_of b i s.switches) i s.entries)
   pub clock : l.clock ≡ clock_of b
   pub turn : l.turn ≡ 0
@@ -27,7 +27,7 @@ pub record IsFirstLink (s : Scene) (i : ℕ) (b : BoardDef) (l : Seen) : Type 0 
   pub held : l.held ≡ []
 
 -- one for each of these boards, of which the first has a number
-abbrev pub AreFirstLinks : Scene → ℕ → List BoardDef → List Seen → Type 0
+abbrev pub AreFirstLinks : Scene → ℕ → List BoardDef → List SeenLink → Type 0
 AreFirstLinks s i [] [] = Unit {0}
 AreFirstLinks s i [] (l ∷ links) = ⊥
 AreFirstLinks s i (b ∷ boards) [] = ⊥
@@ -40,7 +40,7 @@ pub record RunsOver {F S : Type 0} (f : Files F) (o : Sink S) (m : Machine) (s :
   pub planning : Planning
   pub fresh : IsPlannerOf planning.motion nothing_seen
   pub printer : planning.motion.machine ≡ m
-  pub links : List Seen
+  pub links : List SeenLink
   pub first : AreFirstLinks s 0 m.boards links
   pub runs : IsToldRun planner link reactor f o m name planning links (first_run m s.switches) files out kept t files'
       out' kept'

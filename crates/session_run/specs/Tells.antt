@@ -33,7 +33,7 @@ StopsWriting stop.Memory before after = after ≡ before
 -- Lines were told, the first ones of some, which are all of them where nothing stopped the writing: they are
 -- kept but for those of pulses, which are counted, and their text was written, or its front where that was
 -- stopped.
-pub record Said (m : Machine) (lines : List ReportLine) (old new : Option (List ℕ)) (kept : List ReportLine)
+pub record WereTold (m : Machine) (lines : List ReportLine) (old new : Option (List ℕ)) (kept : List ReportLine)
     (counts : List ℕ) (after : List ReportLine) (counts' : List ℕ) : Type 0 where
   pub said : List ReportLine
   pub rest : List ReportLine
@@ -51,4 +51,4 @@ Tells m lines None old before kept counts None new after kept' counts' =
     WritesAll old new (report_text m lines) × (after ≡ before) × (kept' ≡ kept ++ without_pulses lines)
     × (counts' ≡ with_pulses lines counts)
 Tells m lines None old before kept counts (Some s) new after kept' counts' =
-    Said m lines old new kept counts kept' counts' × StopsWriting s before after
+    WereTold m lines old new kept counts kept' counts' × StopsWriting s before after

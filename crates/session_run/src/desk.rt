@@ -1,7 +1,7 @@
 //! Borrowed files and a borrowed output as what a run reaches outside.
 ghost use Rattle.std.specs.Prelude.{◌≡◌, ◌≤◌, ℕ, List, [], Some, None, false, vec_len, IfSome, IfOk, IfErr, IfNone, OnOk};
 ghost use Rattle.session_run.specs.Desks.{IsToldRun, cause_of};
-ghost use Rattle.session_run.specs.Reads.{CountsReads, IsNext};
+ghost use Rattle.session_run.specs.Reads.{CountsReads, IsNextPiece};
 
 use crate::read::{ReadStop, read_piece};
 use crate::tell::{Kept, tell_lines};
@@ -64,7 +64,7 @@ fn next_piece<F: Files>(
     number: u64,
     turn: u64,
 ) -> Result<Piece, ReadStop>
-    ensures next { IfOk result (λ p. IsNext F.Files name.now files.old kept.old.at p kept.new.at) }
+    ensures next { IfOk result (λ p. IsNextPiece F.Files name.now files.old kept.old.at p kept.new.at) }
     ensures number { IfOk result (λ p. (p.number ≡ number) × (p.turn ≡ turn) × (p.stop ≡ false)) }
     ensures unread { OnOk result (kept.new.unread ≡ kept.old.unread) }
     ensures stopped { IfErr result (λ stop. (kept.new.unread ≡ Some stop) × (kept.new.at ≡ kept.old.at)) }

@@ -1,6 +1,6 @@
 //! The whole run: from a machine, a scene and a file of G-code to the report's lines.
 ghost use Rattle.std.specs.Prelude.{◌≡◌, ◌+◌, ◌≤◌, ◌++◌, List, length, OnOk, IfOk, IfSome, IfNone};
-ghost use Rattle.link_work.specs.Stands.{Seen};
+ghost use Rattle.link_work.specs.Stands.{SeenLink};
 ghost use Rattle.plan_types.specs.Machines.{IsValidMachine};
 ghost use Rattle.session_run.specs.Runs.{AreFirstLinks, RunsOver};
 ghost use Rattle.wire_scene.specs.Scenes.{NumbersRise, SwitchesRise};
@@ -29,7 +29,7 @@ fn add_links(
     requires few { index + length boards.now ≤ 8 }
     requires numbers { NumbersRise scene.now.entries }
     requires ticks { SwitchesRise scene.now.switches }
-    ensures { OnOk result ((more : List Seen) × (links.new.items ≡ links.old.items ++ more)
+    ensures { OnOk result ((more : List SeenLink) × (links.new.items ≡ links.old.items ++ more)
         × AreFirstLinks scene.now index boards.now more) }
 {
     match boards {

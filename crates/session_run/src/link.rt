@@ -4,7 +4,7 @@ ghost use Rattle.link_work.specs.Stands.{CanTurn, IsKnown, StandsFor, first_stat
 ghost use Rattle.link_work.specs.Ends.{spoiled_turns};
 ghost use Rattle.link_work.specs.Switches.{pins_of};
 ghost use Rattle.plan_types.specs.Clock.{clock_of};
-ghost use Rattle.session_run.specs.Links.{Turns};
+ghost use Rattle.session_run.specs.Links.{TurnsLink};
 ghost use Rattle.wire_scene.specs.Scenes.{NumbersRise, SwitchesRise};
 
 use link_work::Link;
@@ -24,9 +24,9 @@ pub struct BoardLink {
 
 impl Model for BoardLink {
     ghost use Rattle.std.specs.Prelude.{◌≡◌, true};
-    ghost use Rattle.link_work.specs.Stands.{IsKnown, Seen};
+    ghost use Rattle.link_work.specs.Stands.{IsKnown, SeenLink};
 
-    ghost Value = { Seen };
+    ghost Value = { SeenLink };
 
     ghost view = { λ b. b.link };
 
@@ -53,11 +53,11 @@ impl BoardLink {
 }
 
 impl LinkMachine for BoardLink {
-    ghost use Rattle.session_run.specs.Links.{Can, Turns};
+    ghost use Rattle.session_run.specs.Links.{CanTurnLink, TurnsLink};
 
-    ghost can = { Can };
+    ghost can = { CanTurnLink };
 
-    ghost turns = { Turns };
+    ghost turns = { TurnsLink };
 
     fn can_turn(&self, k: u64) -> bool {
         self.live && self.link.can_turn(k)

@@ -31,7 +31,7 @@ impl<'a> Planning<'a> {
 
 impl<'a> MotionMachine for Planning<'a> {
     ghost use Rattle.std.specs.Prelude.{length};
-    ghost use Rattle.motion_stream.specs.Motions.{Can, Hears, Makes, Reads, hungry, wants};
+    ghost use Rattle.motion_stream.specs.Motions.{CanTurnPlanner, Hears, Makes, TakesText, hungry, wants};
 
     ghost boards = { λ p. length p.motion.machine.boards };
 
@@ -39,13 +39,13 @@ impl<'a> MotionMachine for Planning<'a> {
 
     ghost hungry = { λ p k. hungry p.motion k };
 
-    ghost can = { λ p k. Can p.motion k };
+    ghost can = { λ p k. CanTurnPlanner p.motion k };
 
     ghost hears = { λ p w q. Hears p.motion w q.motion };
 
-    ghost reads = { λ p piece q. Reads p.motion piece.bytes piece.end q.motion };
+    ghost reads = { λ p piece q. TakesText p.motion piece.bytes piece.end q.motion };
 
-    ghost turns = { λ p k batches note q. Can p.motion k × Makes p.motion k batches note q.motion };
+    ghost turns = { λ p k batches note q. CanTurnPlanner p.motion k × Makes p.motion k batches note q.motion };
 
     fn wants(&self, k: u64) -> Option<u64> {
         self.motion.wants(k)

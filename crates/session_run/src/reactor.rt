@@ -26,7 +26,7 @@ impl<'a> Model for Host<'a> {
     ghost use Rattle.std.specs.Prelude.{◌≡◌, true};
     ghost use Rattle.std.specs.Prelude.{IfSome};
     ghost use Rattle.host_reactor.specs.Reactor.{Run};
-    ghost use Rattle.host_reactor.specs.Rows.{IsWhole};
+    ghost use Rattle.host_reactor.specs.Rows.{HasEachBoard};
     ghost use Rattle.session_run.specs.Reactors.{IsFreeFor};
 
     ghost Value = { Run };
@@ -34,7 +34,7 @@ impl<'a> Model for Host<'a> {
     ghost view = { λ h. h.reactor };
 
     ghost invariant = { λ h.
-        (h.live ≡ true → IsWhole h.reactor.machine h.reactor.known) × IfSome h.free (λ n. IsFreeFor h.reactor n) };
+        (h.live ≡ true → HasEachBoard h.reactor.machine h.reactor.known) × IfSome h.free (λ n. IsFreeFor h.reactor n) };
 }
 
 impl<'a> Host<'a> {
@@ -94,13 +94,13 @@ fn stays_free(end: &Option<Cause>, calm: bool, before: u64, behind: u64) -> bool
 
 impl<'a> ReactorMachine for Host<'a> {
     ghost use Rattle.std.specs.Prelude.{◌≡◌, length};
-    ghost use Rattle.session_run.specs.Reactors.{Can, IsFree, Stops, Turns};
+    ghost use Rattle.session_run.specs.Reactors.{CanTurnReactor, IsFree, Stops, TurnsReactor};
 
     ghost boards = { λ h. length h.machine.boards };
 
-    ghost can = { Can };
+    ghost can = { CanTurnReactor };
 
-    ghost turns = { Turns };
+    ghost turns = { TurnsReactor };
 
     ghost stops = { Stops };
 

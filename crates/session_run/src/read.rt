@@ -1,7 +1,7 @@
 //! The pieces of a text.
 ghost use Rattle.std.specs.Prelude.{◌≡◌, ◌+◌, ◌-◌, ◌<◌, ◌≤◌, ◌^◌, ◌++◌, ℕ, List, Some, true, false, take, drop, length, IfOk, IfErr, OnOk, OnErr};
 ghost use Rattle.io_core.specs.Faults.{Rose};
-ghost use Rattle.session_run.specs.Reads.{IsNext, IsPieceAt, StopsReading};
+ghost use Rattle.session_run.specs.Reads.{IsNextPiece, IsPieceAt, StopsReading};
 
 use io_core::Files;
 use msg_code::Piece;
@@ -61,7 +61,7 @@ pub fn read_piece<F: Files>(
     at: &mut u64,
 ) -> Result<Piece, ReadStop>
     ensures same { OnErr result (at.new ≡ at.old) }
-    ensures next { IfOk result (λ p. IsNext F.Files name.now files.old at.old p at.new) }
+    ensures next { IfOk result (λ p. IsNextPiece F.Files name.now files.old at.old p at.new) }
     ensures number { IfOk result (λ p. (p.number ≡ number) × (p.turn ≡ turn) × (p.stop ≡ false)) }
     ensures steady { OnOk result (F.faults files.new ≡ F.faults files.old) }
     ensures stopped { IfErr result (λ stop. StopsReading stop (F.faults files.old) (F.faults files.new)) }

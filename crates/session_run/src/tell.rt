@@ -4,7 +4,7 @@ ghost use Rattle.io_core.specs.Faults.{Rose};
 ghost use Rattle.report_text.specs.Text.{line_text, report_text};
 ghost use Rattle.report_text.specs.Written.{WritesAll, WritesFront};
 ghost use Rattle.session_run.specs.Counts.{one_more, with_pulse, with_pulses};
-ghost use Rattle.session_run.specs.Tells.{Said, StopsWriting, Tells, without_pulses};
+ghost use Rattle.session_run.specs.Tells.{WereTold, StopsWriting, Tells, without_pulses};
 
 use crate::read::ReadStop;
 use io_core::Sink;
@@ -83,7 +83,7 @@ fn gather(
     ensures kept { OnOk result (kept.new ≡ kept.old ++ without_pulses lines.now) }
     ensures counted { OnOk result (counts.new.items ≡ with_pulses lines.now counts.old.items) }
     ensures said { (written : Option (List ℕ)) →
-        Said machine.now lines.now written written kept.old counts.old.items kept.new counts.new.items }
+        WereTold machine.now lines.now written written kept.old counts.old.items kept.new counts.new.items }
     ensures memory { IfErr result (λ stop. stop ≡ WriteStop.Memory) }
 {
     for line in lines {
@@ -108,7 +108,8 @@ fn say<S: Sink>(
     ensures steady { OnOk result (S.faults out.new ≡ S.faults out.old) }
     ensures kept { OnOk result (kept.new ≡ kept.old ++ without_pulses lines.now) }
     ensures counted { OnOk result (counts.new.items ≡ with_pulses lines.now counts.old.items) }
-    ensures said { Said machine.now lines.now (S.written out.old) (S.written out.new) kept.old counts.old.items kept.new
+    ensures said { WereTold machine.now lines.now (S.written out.old) (S.written out.new) kept.old
+        counts.old.items kept.new
         counts.new.items }
     ensures stopped { IfErr result (λ stop. StopsWriting stop (S.faults out.old) (S.faults out.new)) }
 {

@@ -24,7 +24,7 @@ use Rattle.session_work.specs.declared.table.ReactorTurn.{ReactorTurn}
 use Rattle.session_work.specs.Heads.{IsRow, Ordering, ServeStep, ReactorStep, Served, Wrote}
 use Rattle.session_work.specs.Rows.{gather, item, option_items, Each, CanPut, CanTake, HasPut, HasTaken, HavePut, HaveTaken, PutMore, RowPut, RowTaken, copies}
 use Rattle.session_work.specs.Turns.{Goes}
-use Rattle.session_work.specs.Reactors.{ends, with_pieces, ReactorWent, IsReactorAt, IsServing, IsReactorDone}
+use Rattle.session_work.specs.Reactors.{answered_ends, with_pieces, ReactorWent, IsReactorAt, IsServing, IsReactorDone}
 use Rattle.session_work.specs.Bares.{bare_control, bare_word, stop_piece}
 use Rattle.session_work.specs.Leads.{each_turn, still_control, still_word, HasEnded, HasSaid, HasLed}
 use Rattle.session_work.proofs.Leads.{length_each, first_said, still_said, more_said, last_said, put_as, put_same, rows_put, copies_put}
@@ -80,16 +80,16 @@ module _ {A O : Type 0} (a : Reactor A) (o : Out O) where
 
   -- each turn but the first takes one
   module _ {B : Type 0} (n : ℕ) (f : ReactorTurn → List B) (one : (k : ℕ) (t : ReactorTurn) → 0 < k → Row n t k → length (f t) ≡ 1) (none : (t : ReactorTurn) → Row n t 0 → length (f t) ≡ 0) where
-    later_each : (k : ℕ) (s e : Head A O) (ts : List ReactorTurn) → 0 < k → ends ts ≡ [] → Goes (ReactorStep a o n) k s ts e → length (gather f ts) ≡ length ts
+    later_each : (k : ℕ) (s e : Head A O) (ts : List ReactorTurn) → 0 < k → answered_ends ts ≡ [] → Goes (ReactorStep a o n) k s ts e → length (gather f ts) ≡ length ts
     later_each k s e [] some calm g = refl
     later_each k s e (t ∷ ts) some calm g =
-        let p = no_items t.end (ends ts) calm in let h = later_each (k + 1) g.0 e ts (omega (arith, some)) p.1 g.2 in
+        let p = no_items t.end (answered_ends ts) calm in let h = later_each (k + 1) g.0 e ts (omega (arith, some)) p.1 g.2 in
         let u = one k t some (row_of n k s t g.0 g.1 p.0) in let l = length-append (f t) (gather f ts) in omega arith
 
-    pub but_first : (j : ℕ) (s e : Head A O) (ts : List ReactorTurn) → length ts ≡ j + 1 → ends ts ≡ [] → Goes (ReactorStep a o n) 0 s ts e → length (gather f ts) ≡ j
+    pub but_first : (j : ℕ) (s e : Head A O) (ts : List ReactorTurn) → length ts ≡ j + 1 → answered_ends ts ≡ [] → Goes (ReactorStep a o n) 0 s ts e → length (gather f ts) ≡ j
     but_first j s e [] long calm g = absurd (omega (arith, long))
     but_first j s e (t ∷ ts) long calm g =
-        let p = no_items t.end (ends ts) calm in let h = later_each 1 g.0 e ts (omega arith) p.1 g.2 in
+        let p = no_items t.end (answered_ends ts) calm in let h = later_each 1 g.0 e ts (omega arith) p.1 g.2 in
         let u = none t (row_of n 0 s t g.0 g.1 p.0) in let l = length-append (f t) (gather f ts) in omega arith
 
   one_control : (n j : ℕ) → j < n → (k : ℕ) (x : Head A O) (t : ReactorTurn) (y : Head A O) → ReactorStep a o n k x t y → length (item j t.controls) ≡ 1

@@ -17,8 +17,8 @@ use Rattle.session_work.specs.Leads.{each_turn, still_control, still_word, last_
 use Rattle.session_work.specs.Turns.{Goes}
 
 -- the ends that turns answered
-abbrev pub ends : List ReactorTurn → List Cause
-ends ts = gather (λ t. option_items t.end) ts
+abbrev pub answered_ends : List ReactorTurn → List Cause
+answered_ends ts = gather (λ t. option_items t.end) ts
 
 -- a turn behind whose word these pieces were read so far
 abbrev pub with_pieces : ReactorTurn → List Piece → ReactorTurn
@@ -58,14 +58,14 @@ module _ {A O : Type 0} (a : Reactor A) (o : Out O) where
     -- so many turns were made, and none of them ended the run
     abbrev pub IsReactorAt : ℕ → Head A O → ReactorDone A O → Type 0
     IsReactorAt k s d =
-        (ts : List ReactorTurn) × (length ts ≡ k) × (ends ts ≡ [])
+        (ts : List ReactorTurn) × (length ts ≡ k) × (answered_ends ts ≡ [])
         × Goes (ReactorStep a o (length lanes.controls.now)) 0 s ts d.head × Ahead k ts d
 
     -- turn k orders no end, and these pieces were read behind it so far
     abbrev pub IsServing : ℕ → Head A O → ReactorDone A O → Type 0
     IsServing k s d =
         (ts : List ReactorTurn) × (t : ReactorTurn) × (ps : List Piece) × (x : Head A O) × (b : Head A O)
-        × (length ts ≡ k) × (ends ts ≡ []) × Goes (ReactorStep a o (length lanes.controls.now)) 0 s ts x
+        × (length ts ≡ k) × (answered_ends ts ≡ []) × Goes (ReactorStep a o (length lanes.controls.now)) 0 s ts x
         × (t.end ≡ None) × Ordering a o (length lanes.controls.now) k x t b
         × Goes (λ _. ServeStep a.stops o.serves k) 0 b ps d.head
         × Ahead (k + 1) (ts ++ with_pieces t ps ∷ []) d
@@ -73,6 +73,6 @@ module _ {A O : Type 0} (a : Reactor A) (o : Out O) where
     -- these turns were made, and then one that ended the run
     abbrev pub IsReactorDone : Cause → Head A O → ReactorDone A O → Type 0
     IsReactorDone c s d =
-        (ts : List ReactorTurn) × (last : ReactorTurn) × (n : ℕ) × (ends ts ≡ []) × (last.end ≡ Some c)
+        (ts : List ReactorTurn) × (last : ReactorTurn) × (n : ℕ) × (answered_ends ts ≡ []) × (last.end ≡ Some c)
         × Goes (ReactorStep a o (length lanes.controls.now)) 0 s (ts ++ last ∷ []) d.head
         × ReactorWent (ts ++ last ∷ []) ts (last_controls (length ts) n) (last_words (length ts) n) d

@@ -11,21 +11,21 @@ use Rattle.step_feed.specs.Pacing.{Release, ArePaced, HasRoom, IsReleased, at_tu
 use Rattle.step_feed.specs.Rings.{count_from, made_before, not_over, one_from}
 use Rattle.clock_line.specs.Kept.{AreKept}
 use Rattle.step_feed.proofs.Rings.{made-mono, not_over-same, one-same}
-use Rattle.step_feed.specs.Fed.{AreGrown, AreRings, IsFed, IsFitting, IsNoSooner, IsStuck, behind, last_turn, lasts_from}
+use Rattle.step_feed.specs.Fed.{AreGrown, AreRings, IsFed, IsFitting, IsNoSooner, IsStuck, releases_behind, last_release, lasts_from}
 
 units-append : (rs : List Release) (u : StepUnit) (turn : ℕ) (us : List StepUnit) → units_of (rs ++ record { unit = u; turn = turn } ∷ []) ++ us ≡ units_of rs ++ u ∷ us
 units-append [] u turn us = refl
 units-append (r ∷ rs) u turn us = ap (λ vs. r.unit ∷ vs) (units-append rs u turn us)
 
-last-append : (from : ℕ) (rs : List Release) (r : Release) → last_turn from (rs ++ r ∷ []) ≡ r.turn
+last-append : (from : ℕ) (rs : List Release) (r : Release) → last_release from (rs ++ r ∷ []) ≡ r.turn
 last-append from [] r = refl
 last-append from (s ∷ rs) r = last-append s.turn rs r
 
-behind-append : (before rs : List Release) (r : Release) → behind before (rs ++ r ∷ []) ≡ r ∷ behind before rs
+behind-append : (before rs : List Release) (r : Release) → releases_behind before (rs ++ r ∷ []) ≡ r ∷ releases_behind before rs
 behind-append before [] r = refl
 behind-append before (s ∷ rs) r = behind-append (s ∷ before) rs r
 
-paced-append : (clocks : Clocks) (slots from : ℕ) (before rs : List Release) (r : Release) → ArePaced clocks slots from before rs → IsReleased clocks slots (last_turn from rs) (behind before rs) r → ArePaced clocks slots from before (rs ++ r ∷ [])
+paced-append : (clocks : Clocks) (slots from : ℕ) (before rs : List Release) (r : Release) → ArePaced clocks slots from before rs → IsReleased clocks slots (last_release from rs) (releases_behind before rs) r → ArePaced clocks slots from before (rs ++ r ∷ [])
 paced-append clocks slots from before [] r paced is = (is, tt)
 paced-append clocks slots from before (s ∷ rs) r paced is = (paced.0, paced-append clocks slots s.turn (s ∷ before) rs r paced.1 is)
 
@@ -61,35 +61,35 @@ held-pending clocks next rings before s k ring kept are inside is later =
     ∙ sym (pending-same clocks s k before kept)
 
 -- where the last release was in a turn, no unit behind it comes sooner
-later-sooner : (clocks : Clocks) (slots next from : ℕ) (released : List Release) (us : List StepUnit) → next ≤ last_turn from released → IsNoSooner clocks slots next (last_turn from released) (behind [] released) us
+later-sooner : (clocks : Clocks) (slots next from : ℕ) (released : List Release) (us : List StepUnit) → next ≤ last_release from released → IsNoSooner clocks slots next (last_release from released) (releases_behind [] released) us
 later-sooner clocks slots next from released [] past = tt
 later-sooner clocks slots next from released (u ∷ us) past = λ k after room. omega arith
 
-pub fed-release : (clocks : Clocks) (slots next used : ℕ) (old new : List Ring) (u : StepUnit) (all rest : List StepUnit) (from : ℕ) (pushed : List StepUnit) (released : List Release) → IsFed clocks slots next used old all from pushed released → all ≡ u ∷ rest → HasRoom clocks slots (behind [] released) u next → length new ≡ length old → u.stepper < length old → ((s x : ℕ) (d : Ring) → s < length old → made_before clocks next ≤ x → count_from x (slice_index_or new s d).ends.items ≡ cond (nat_eq u.stepper s) (one_from x u.last) 0 + count_from x (slice_index_or old s d).ends.items) → IsFed clocks slots next (used + unit_bytes u) new rest from pushed (released ++ record { unit = u; turn = next } ∷ [])
+pub fed-release : (clocks : Clocks) (slots next used : ℕ) (old new : List Ring) (u : StepUnit) (all rest : List StepUnit) (from : ℕ) (pushed : List StepUnit) (released : List Release) → IsFed clocks slots next used old all from pushed released → all ≡ u ∷ rest → HasRoom clocks slots (releases_behind [] released) u next → length new ≡ length old → u.stepper < length old → ((s x : ℕ) (d : Ring) → s < length old → made_before clocks next ≤ x → count_from x (slice_index_or new s d).ends.items ≡ cond (nat_eq u.stepper s) (one_from x u.last) 0 + count_from x (slice_index_or old s d).ends.items) → IsFed clocks slots next (used + unit_bytes u) new rest from pushed (released ++ record { unit = u; turn = next } ∷ [])
 fed-release clocks slots next used old new u all rest from pushed released fed is room len known counts =
     let r : Release = record { unit = u; turn = next } in
     let b = behind-append [] released r in
     let l = last-append from released r in
-    let sooner : IsNoSooner clocks slots next (last_turn from released) (behind [] released) (u ∷ rest) = subst (λ us. IsNoSooner clocks slots next (last_turn from released) (behind [] released) us) is fed.no_sooner in
+    let sooner : IsNoSooner clocks slots next (last_release from released) (releases_behind [] released) (u ∷ rest) = subst (λ us. IsNoSooner clocks slots next (last_release from released) (releases_behind [] released) us) is fed.no_sooner in
     record {
       pushed_is = fed.pushed_is ∙ ap (λ us. units_of released ++ us) is ∙ sym (units-append released u next rest);
       paced = paced-append clocks slots from [] released r fed.paced (record { after = fed.past; room = room; first = sooner });
       past = rw l (omega arith);
-      used_is = let o = own-bytes next u (behind [] released) in let w = fed.used_is in rw b (omega arith);
-      later = λ k after. let o = other-bytes k next u (behind [] released) after in let w = fed.later k after in rw b (o ∙ w);
-      rings_are = rw b (rings-release clocks next u old new (behind [] released) len known counts fed.rings_are);
+      used_is = let o = own-bytes next u (releases_behind [] released) in let w = fed.used_is in rw b (omega arith);
+      later = λ k after. let o = other-bytes k next u (releases_behind [] released) after in let w = fed.later k after in rw b (o ∙ w);
+      rings_are = rw b (rings-release clocks next u old new (releases_behind [] released) len known counts fed.rings_are);
       no_sooner = later-sooner clocks slots next from (released ++ r ∷ []) rest (rw l (omega arith));
     }
 
 -- the tests of a stream are those of the definition
-pub fed-room : (clocks : Clocks) (slots next used : ℕ) (rings : List Ring) (waiting : List StepUnit) (from : ℕ) (pushed : List StepUnit) (released : List Release) (u : StepUnit) (ring : Ring) (free : ℕ) → AreKept clocks → IsFed clocks slots next used rings waiting from pushed released → u.due ≤ next + lead → used + unit_bytes u ≤ turn_bytes → u.stepper < length rings → ring ≡ slice_index_or rings u.stepper ring → ring.slots ≡ slots → ((not_over clocks next ring.ends.items < ring.slots → free ≤ next) × (free ≤ next → not_over clocks next ring.ends.items < ring.slots)) → (IsTrue (leb free next) → HasRoom clocks slots (behind [] released) u next) × (HasRoom clocks slots (behind [] released) u next → IsTrue (leb free next))
+pub fed-room : (clocks : Clocks) (slots next used : ℕ) (rings : List Ring) (waiting : List StepUnit) (from : ℕ) (pushed : List StepUnit) (released : List Release) (u : StepUnit) (ring : Ring) (free : ℕ) → AreKept clocks → IsFed clocks slots next used rings waiting from pushed released → u.due ≤ next + lead → used + unit_bytes u ≤ turn_bytes → u.stepper < length rings → ring ≡ slice_index_or rings u.stepper ring → ring.slots ≡ slots → ((not_over clocks next ring.ends.items < ring.slots → free ≤ next) × (free ≤ next → not_over clocks next ring.ends.items < ring.slots)) → (IsTrue (leb free next) → HasRoom clocks slots (releases_behind [] released) u next) × (HasRoom clocks slots (releases_behind [] released) u next → IsTrue (leb free next))
 fed-room clocks slots next used rings waiting from pushed released u ring free kept fed due bytes known is slots_are free_is =
-    let same = held-pending clocks next rings (behind [] released) u.stepper next ring kept fed.rings_are known is (omega arith) in
+    let same = held-pending clocks next rings (releases_behind [] released) u.stepper next ring kept fed.rings_are known is (omega arith) in
     let w = fed.used_is in
     ((λ true_is. let steps = free_is.1 (leb-true free next true_is) in record { due = due; bytes = omega arith; steps = omega arith }), (λ room. let s = room.steps in le-leb free next (free_is.0 (omega arith))))
 
 -- a unit behind those that wait
-pub last-from : (clocks : Clocks) (slots from : ℕ) (before rs : List Release) → ArePaced clocks slots from before rs → from ≤ last_turn from rs
+pub last-from : (clocks : Clocks) (slots from : ℕ) (before rs : List Release) → ArePaced clocks slots from before rs → from ≤ last_release from rs
 last-from clocks slots from before [] paced = omega arith
 last-from clocks slots from before (r ∷ rs) paced =
     let l = last-from clocks slots r.turn (r ∷ before) rs paced.1 in
@@ -109,7 +109,7 @@ fed-push clocks slots next used rings waiting from pushed released u in_time fed
   later = fed.later;
   rings_are = fed.rings_are;
   pushed_is = ap (λ us. us ++ u ∷ []) fed.pushed_is ∙ append_assoc (units_of released) waiting (u ∷ []);
-  no_sooner = push-sooner clocks slots next from (last_turn from released) (behind [] released) waiting u (last-from clocks slots from [] released fed.paced) in_time fed.no_sooner;
+  no_sooner = push-sooner clocks slots next from (last_release from released) (releases_behind [] released) waiting u (last-from clocks slots from [] released fed.paced) in_time fed.no_sooner;
 }
 
 -- empty rings behind the others
@@ -129,7 +129,7 @@ fed-grow clocks slots next used old new waiting from pushed released grown fed =
   past = fed.past;
   used_is = fed.used_is;
   later = fed.later;
-  rings_are = rings-grow clocks slots next old new (behind [] released) grown fed.rings_are;
+  rings_are = rings-grow clocks slots next old new (releases_behind [] released) grown fed.rings_are;
   no_sooner = fed.no_sooner;
 }
 
@@ -138,14 +138,14 @@ first-rest [] rest u some is dropped = absurd (omega arith)
 first-rest (w ∷ us) rest u some is dropped = rw (is, dropped) refl
 
 -- a later turn, before which there is no room for what waits first
-pub fed-skip : (clocks : Clocks) (slots next used : ℕ) (rings : List Ring) (waiting : List StepUnit) (from : ℕ) (pushed : List StepUnit) (released : List Release) (k rest : ℕ) → next ≤ k → (k ≡ next → rest ≡ used) → (next < k → rest ≡ 0) → IsNoSooner clocks slots k (last_turn from released) (behind [] released) waiting → IsFed clocks slots next used rings waiting from pushed released → IsFed clocks slots k rest rings waiting from pushed released
+pub fed-skip : (clocks : Clocks) (slots next used : ℕ) (rings : List Ring) (waiting : List StepUnit) (from : ℕ) (pushed : List StepUnit) (released : List Release) (k rest : ℕ) → next ≤ k → (k ≡ next → rest ≡ used) → (next < k → rest ≡ 0) → IsNoSooner clocks slots k (last_release from released) (releases_behind [] released) waiting → IsFed clocks slots next used rings waiting from pushed released → IsFed clocks slots k rest rings waiting from pushed released
 fed-skip clocks slots next used rings waiting from pushed released k rest order same fresh sooner fed = record {
   pushed_is = fed.pushed_is;
   paced = fed.paced;
   past = let p = fed.past in omega arith;
   used_is = elim (cases_lt next k) [
     | inl after ↦ (fresh after ∙ sym (fed.later k after))
-    | inr here ↦ (let e : k ≡ next = omega arith in same e ∙ fed.used_is ∙ ap (λ t. bytes_in t (behind [] released)) (sym e))
+    | inr here ↦ (let e : k ≡ next = omega arith in same e ∙ fed.used_is ∙ ap (λ t. bytes_in t (releases_behind [] released)) (sym e))
   ];
   later = λ j after. fed.later j (omega arith);
   rings_are = let m = made-mono clocks next k order in record { held = λ s x d inside after. fed.rings_are.held s x d inside (omega arith); others = λ s x outside after. fed.rings_are.others s x outside (omega arith) };
@@ -162,9 +162,9 @@ stuck-sooner clocks slots next from before (u ∷ us) stuck sooner = λ k after 
       | inr here ↦ (let e : k ≡ next = omega arith in absurd (stuck (subst (λ j. HasRoom clocks slots before u j) e room)))
     ]
 
-pub fed-turn : (clocks : Clocks) (slots next used : ℕ) (rings : List Ring) (waiting : List StepUnit) (from : ℕ) (pushed : List StepUnit) (released : List Release) → IsStuck clocks slots next (behind [] released) waiting → IsFed clocks slots next used rings waiting from pushed released → IsFed clocks slots (next + 1) 0 rings waiting from pushed released
+pub fed-turn : (clocks : Clocks) (slots next used : ℕ) (rings : List Ring) (waiting : List StepUnit) (from : ℕ) (pushed : List StepUnit) (released : List Release) → IsStuck clocks slots next (releases_behind [] released) waiting → IsFed clocks slots next used rings waiting from pushed released → IsFed clocks slots (next + 1) 0 rings waiting from pushed released
 fed-turn clocks slots next used rings waiting from pushed released stuck fed =
-    fed-skip clocks slots next used rings waiting from pushed released (next + 1) 0 (omega arith) (λ e. absurd (omega arith)) (λ l. refl) (stuck-sooner clocks slots next (last_turn from released) (behind [] released) waiting stuck fed.no_sooner) fed
+    fed-skip clocks slots next used rings waiting from pushed released (next + 1) 0 (omega arith) (λ e. absurd (omega arith)) (λ l. refl) (stuck-sooner clocks slots next (last_release from released) (releases_behind [] released) waiting stuck fed.no_sooner) fed
 
 -- no turn before the first fitting one has room
 place-sooner : (next turn used bytes k rest due free j in_next : ℕ) → ((turn ≡ next) ⊎ ((turn + lead ≡ due) ⊎ (turn ≡ free))) → IsFitting next turn used bytes k rest → used ≡ in_next → next ≤ j → due ≤ j + lead → free ≤ j → (j ≡ next → in_next + bytes ≤ turn_bytes) → k ≤ j
@@ -183,10 +183,10 @@ place-sooner next turn used bytes k rest due free j in_next why fits used_is lat
     ]
 
 -- a unit behind others, of which none waits, in its first turn
-pub fed-place : (clocks : Clocks) (slots next used : ℕ) (old new : List Ring) (from : ℕ) (pushed : List StepUnit) (released : List Release) (u : StepUnit) (ring : Ring) (free turn k rest : ℕ) → AreKept clocks → IsFed clocks slots next used old [] from pushed released → next ≤ last_turn from released → u.stepper < length old → ring ≡ slice_index_or old u.stepper ring → ring.slots ≡ slots → ((j : ℕ) → (not_over clocks j ring.ends.items < ring.slots → free ≤ j) × (free ≤ j → not_over clocks j ring.ends.items < ring.slots)) → next ≤ turn → u.due ≤ turn + lead → free ≤ turn → ((turn ≡ next) ⊎ ((turn + lead ≡ u.due) ⊎ (turn ≡ free))) → IsFitting next turn used (unit_bytes u) k rest → length new ≡ length old → ((s x : ℕ) (d : Ring) → s < length old → made_before clocks k ≤ x → count_from x (slice_index_or new s d).ends.items ≡ cond (nat_eq u.stepper s) (one_from x u.last) 0 + count_from x (slice_index_or old s d).ends.items) → IsFed clocks slots k (rest + unit_bytes u) new [] from (pushed ++ u ∷ []) (released ++ record { unit = u; turn = k } ∷ [])
+pub fed-place : (clocks : Clocks) (slots next used : ℕ) (old new : List Ring) (from : ℕ) (pushed : List StepUnit) (released : List Release) (u : StepUnit) (ring : Ring) (free turn k rest : ℕ) → AreKept clocks → IsFed clocks slots next used old [] from pushed released → next ≤ last_release from released → u.stepper < length old → ring ≡ slice_index_or old u.stepper ring → ring.slots ≡ slots → ((j : ℕ) → (not_over clocks j ring.ends.items < ring.slots → free ≤ j) × (free ≤ j → not_over clocks j ring.ends.items < ring.slots)) → next ≤ turn → u.due ≤ turn + lead → free ≤ turn → ((turn ≡ next) ⊎ ((turn + lead ≡ u.due) ⊎ (turn ≡ free))) → IsFitting next turn used (unit_bytes u) k rest → length new ≡ length old → ((s x : ℕ) (d : Ring) → s < length old → made_before clocks k ≤ x → count_from x (slice_index_or new s d).ends.items ≡ cond (nat_eq u.stepper s) (one_from x u.last) 0 + count_from x (slice_index_or old s d).ends.items) → IsFed clocks slots k (rest + unit_bytes u) new [] from (pushed ++ u ∷ []) (released ++ record { unit = u; turn = k } ∷ [])
 fed-place clocks slots next used old new from pushed released u ring free turn k rest kept fed at_last known is slots_are free_is order due open_is why fits len counts =
-    let last = last_turn from released in
-    let before = behind [] released in
+    let last = last_release from released in
+    let before = releases_behind [] released in
     let after = fits.after in
     let p = fed.past in
     let same : (j : ℕ) → next ≤ j → not_over clocks j ring.ends.items ≡ pending clocks u.stepper j before =
@@ -232,13 +232,13 @@ releases-append [] (t ∷ turns) u k same = absurd (omega arith)
 releases-append (w ∷ us) [] u k same = absurd (omega arith)
 releases-append (w ∷ us) (t ∷ turns) u k same = ap (λ rs. record { unit = w; turn = t } ∷ rs) (releases-append us turns u k (omega arith))
 
-pub last-of-one-more : (from : ℕ) (rs : List Release) (r : Release) → last_turn from (rs ++ r ∷ []) ≡ r.turn
+pub last-of-one-more : (from : ℕ) (rs : List Release) (r : Release) → last_release from (rs ++ r ∷ []) ≡ r.turn
 last-of-one-more = last-append
 
 -- what feeding one unit more keeps
 pub record FeedsTo (clocks : Clocks) (slots first next used : ℕ) (rings : List Ring) (done : List StepUnit) (turns : List ℕ) : Type 0 where
   pub fed : IsFed clocks slots next used rings [] first done (releases done turns)
-  pub at_last : next ≤ last_turn first (releases done turns)
+  pub at_last : next ≤ last_release first (releases done turns)
 
 pub feeds-more : (clocks : Clocks) (slots first next used : ℕ) (rings : List Ring) (done more : List StepUnit) (turns longer : List ℕ) (u : StepUnit) → length done ≡ length turns → more ≡ done ++ u ∷ [] → longer ≡ turns ++ next ∷ [] → IsFed clocks slots next used rings [] first (done ++ u ∷ []) (releases done turns ++ record { unit = u; turn = next } ∷ []) → FeedsTo clocks slots first next used rings more longer
 feeds-more clocks slots first next used rings done more turns longer u same is_more is_longer fed =

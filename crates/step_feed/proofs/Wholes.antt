@@ -10,7 +10,7 @@ use Rattle.clock_line.specs.Kept.{AreKept}
 use Rattle.step_feed.specs.Units.{StepUnit}
 use Rattle.step_feed.specs.Pacing.{ArePaced, HasRoom, IsReleased, Release, batch_at, one_pending, pending, units_of}
 use Rattle.step_feed.specs.Rings.{made_before, one_from}
-use Rattle.step_feed.specs.Fed.{IsFed, IsNoSooner, behind, last_turn}
+use Rattle.step_feed.specs.Fed.{IsFed, IsNoSooner, releases_behind, last_release}
 use Rattle.step_feed.specs.Streams.{AreLater, Extends}
 use Rattle.step_feed.specs.declared.ring.Ring.{Ring}
 use Rattle.step_feed.proofs.Feds.{last-from}
@@ -31,7 +31,7 @@ same-release clocks slots from before r s a b e =
 pub record HasFront (clocks : Clocks) (slots from : ℕ) (before rs all : List Release) (us : List StepUnit) : Type 0 where
   pub rest : List Release
   pub joined : all ≡ rs ++ rest
-  pub paced : ArePaced clocks slots (last_turn from rs) (behind before rs) rest
+  pub paced : ArePaced clocks slots (last_release from rs) (releases_behind before rs) rest
   pub units : units_of rest ≡ us
 
 has-front : (clocks : Clocks) (slots from : ℕ) (before rs all : List Release) (us : List StepUnit) → ArePaced clocks slots from before rs → ArePaced clocks slots from before all → units_of all ≡ units_of rs ++ us → HasFront clocks slots from before rs all us
@@ -84,7 +84,7 @@ pub as-whole : (clocks : Clocks) (slots next : ℕ) (rings : List Ring) (waiting
 as-whole clocks slots next rings waiting from pushed more released all fed later paced e = λ k early.
     let units : units_of all ≡ units_of released ++ (waiting ++ more) = e ∙ ap (λ us. us ++ more) fed.pushed_is ∙ append_assoc (units_of released) waiting more in
     let f = has-front clocks slots from [] released all (waiting ++ more) fed.paced paced units in
-    let none = none-sooner clocks slots (last_turn from released) next k (behind [] released) f.rest waiting more f.paced f.units fed.no_sooner later early in
+    let none = none-sooner clocks slots (last_release from released) next k (releases_behind [] released) f.rest waiting more f.paced f.units fed.no_sooner later early in
     sym (ap (batch_at k) f.joined ∙ batch-append k released f.rest none)
 
 -- ticks up to a time, where lines are added that hold later
@@ -142,7 +142,7 @@ released-kept old new slots turn from before r are will ext order is = record {
   ];
 }
 
-paced-kept : (old new : Clocks) (slots turn from : ℕ) (before rs : List Release) → AreKept old → AreKept new → Extends old new turn → last_turn from rs ≤ turn → ArePaced old slots from before rs → ArePaced new slots from before rs
+paced-kept : (old new : Clocks) (slots turn from : ℕ) (before rs : List Release) → AreKept old → AreKept new → Extends old new turn → last_release from rs ≤ turn → ArePaced old slots from before rs → ArePaced new slots from before rs
 paced-kept old new slots turn from before [] are will ext order paced = tt
 paced-kept old new slots turn from before (r ∷ rs) are will ext order paced =
     let l = last-from old slots r.turn (r ∷ before) rs paced.1 in
@@ -163,5 +163,5 @@ fed-kept old new slots next rings waiting from pushed released are will ext fed 
   used_is = fed.used_is;
   later = fed.later;
   rings_are = let b = bound-same old new next next ext (omega arith) in record { held = λ s x d inside later. fed.rings_are.held s x d inside (omega arith); others = λ s x outside later. fed.rings_are.others s x outside (omega arith) };
-  no_sooner = sooner-kept old new slots next (last_turn from released) (behind [] released) waiting are will ext fed.no_sooner;
+  no_sooner = sooner-kept old new slots next (last_release from released) (releases_behind [] released) waiting are will ext fed.no_sooner;
 }

@@ -7,14 +7,14 @@ use Rattle.step_feed.specs.Pacing.{Release, ArePaced, HasRoom, bytes_in, turn_by
 use Rattle.step_feed.specs.Rings.{count_from, made_before, one_from}
 
 -- releases behind others, the last one first
-abbrev pub behind : List Release → List Release → List Release
-behind before [] = before
-behind before (r ∷ rs) = behind (r ∷ before) rs
+abbrev pub releases_behind : List Release → List Release → List Release
+releases_behind before [] = before
+releases_behind before (r ∷ rs) = releases_behind (r ∷ before) rs
 
 -- the turn of the last release, or one before them all
-abbrev pub last_turn : ℕ → List Release → ℕ
-last_turn from [] = from
-last_turn from (r ∷ rs) = last_turn r.turn rs
+abbrev pub last_release : ℕ → List Release → ℕ
+last_release from [] = from
+last_release from (r ∷ rs) = last_release r.turn rs
 
 -- empty rings were added behind others, and all have so many slots
 pub record AreGrown (slots : ℕ) (old new : List Ring) : Type 0 where
@@ -50,11 +50,11 @@ pub record IsFed (clocks : Clocks) (slots next used : ℕ) (rings : List Ring) (
     (pushed : List StepUnit) (released : List Release) : Type 0 where
   pub pushed_is : pushed ≡ units_of released ++ waiting
   pub paced : ArePaced clocks slots from [] released
-  pub past : last_turn from released ≤ next
-  pub used_is : used ≡ bytes_in next (behind [] released)
-  pub later : (k : ℕ) → next < k → bytes_in k (behind [] released) ≡ 0
-  pub rings_are : AreRings clocks next rings (behind [] released)
-  pub no_sooner : IsNoSooner clocks slots next (last_turn from released) (behind [] released) waiting
+  pub past : last_release from released ≤ next
+  pub used_is : used ≡ bytes_in next (releases_behind [] released)
+  pub later : (k : ℕ) → next < k → bytes_in k (releases_behind [] released) ≡ 0
+  pub rings_are : AreRings clocks next rings (releases_behind [] released)
+  pub no_sooner : IsNoSooner clocks slots next (last_release from released) (releases_behind [] released) waiting
 
 -- the first turn, from one on, that has room for some bytes, where so many are used in the turn next and none
 -- in a later one

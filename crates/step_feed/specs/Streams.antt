@@ -22,8 +22,8 @@ abbrev pub next_turn : FeedStream → ℕ
 next_turn s = s.next
 
 -- the first turn of a stream
-abbrev pub first_turn : FeedStream → ℕ
-first_turn s = s.first
+abbrev pub stream_start : FeedStream → ℕ
+stream_start s = s.first
 
 -- how many slots each stepper's queue has
 abbrev pub slots_of : FeedStream → ℕ

@@ -7,7 +7,7 @@ ghost use Rattle.step_feed.specs.declared.stream.FeedStream.{FeedStream};
 ghost use Rattle.msg_code.specs.Units.{unit_text};
 ghost use Rattle.step_feed.specs.Units.{StepUnit, unit_bytes};
 ghost use Rattle.step_feed.specs.Pacing.{ArePaced, Release, batch_at, lead, units_of};
-ghost use Rattle.step_feed.specs.Streams.{AreLater, Extends, IsFedOf, first_turn, next_turn, slots_of};
+ghost use Rattle.step_feed.specs.Streams.{AreLater, Extends, IsFedOf, stream_start, next_turn, slots_of};
 
 /// Units have one pacing.
 pub fn one_pacing()
@@ -20,7 +20,8 @@ pub fn one_pacing()
 pub fn streams_give_the_whole()
     ensures { (s : FeedStream) → (clocks : Clocks) → (pushed more : List StepUnit) → (released all : List Release) →
         IsFedOf s clocks pushed released → AreLater (next_turn s) more →
-        ArePaced clocks (slots_of s) (first_turn s) [] all → units_of all ≡ pushed ++ more → (k : ℕ) → k < next_turn s →
+        ArePaced clocks (slots_of s) (stream_start s) [] all → units_of all ≡ pushed ++ more → (k : ℕ) →
+        k < next_turn s →
         batch_at k released ≡ batch_at k all }
 {}
 

@@ -8,7 +8,7 @@ ghost use Rattle.step_feed.specs.declared.ring.Ring.{Ring};
 ghost use Rattle.step_feed.specs.Units.{StepUnit, unit_bytes};
 ghost use Rattle.step_feed.specs.Pacing.{HasRoom, Release, at_turn, lead, turn_bytes, turn_limit};
 ghost use Rattle.step_feed.specs.Rings.{count_from, made_before, not_over, one_from};
-ghost use Rattle.step_feed.specs.Fed.{AreGrown, IsFitting, IsStuck, behind, last_turn};
+ghost use Rattle.step_feed.specs.Fed.{AreGrown, IsFitting, IsStuck, releases_behind, last_release};
 
 use crate::OutOfMemory;
 use crate::bytes::unit_bytes;
@@ -134,15 +134,15 @@ impl FeedStream {
     ghost use Rattle.step_feed.specs.Units.{StepUnit, unit_bytes};
     ghost use Rattle.step_feed.specs.Pacing.{HasRoom, Release, at_turn, lead, turn_bytes, turn_limit};
     ghost use Rattle.step_feed.specs.Rings.{count_from, made_before, not_over, one_from};
-    ghost use Rattle.step_feed.specs.Fed.{AreGrown, IsFitting, IsStuck, behind, last_turn};
-    ghost use Rattle.step_feed.specs.Streams.{IsFedBy, IsFedOf, first_turn, next_turn, slots_of};
+    ghost use Rattle.step_feed.specs.Fed.{AreGrown, IsFitting, IsStuck, releases_behind, last_release};
+    ghost use Rattle.step_feed.specs.Streams.{IsFedBy, IsFedOf, stream_start, next_turn, slots_of};
 
     /// A stream for a section of a board with so many slots for each stepper, whose first turn is `first`.
     pub fn new(alloc: Global, slots: u32, first: u64) -> FeedStream
         requires { 1 ≤ slots }
         ensures fed { (clocks : Clocks) → IsFedOf result clocks [] [] }
         ensures next { next_turn result ≡ first }
-        ensures first { first_turn result ≡ first }
+        ensures first { stream_start result ≡ first }
         ensures slots { slots_of result ≡ slots }
         ensures none_waits { result.waiting.items ≡ [] }
     {
@@ -163,7 +163,7 @@ impl FeedStream {
         ensures known { OnOk result (stepper < length self.new.rings.items) }
         ensures waiting { self.new.waiting.items ≡ self.old.waiting.items }
         ensures next { next_turn self.new ≡ next_turn self.old }
-        ensures first { first_turn self.new ≡ first_turn self.old }
+        ensures first { stream_start self.new ≡ stream_start self.old }
         ensures slots { slots_of self.new ≡ slots_of self.old }
     {
         grow(self.alloc, &mut self.rings, self.slots, stepper)
@@ -173,13 +173,13 @@ impl FeedStream {
     pub fn push(&mut self, unit: Unit) -> Result<(), OutOfMemory>
         requires small { unit.last < tick_limit }
         requires due_small { unit.due < turn_limit }
-        requires in_time { (next_turn self.old ≤ first_turn self.old) ⊎ (next_turn self.old + lead ≤ unit.due) }
+        requires in_time { (next_turn self.old ≤ stream_start self.old) ⊎ (next_turn self.old + lead ≤ unit.due) }
         ensures pushed { OnOk result ((clocks : Clocks) → (pushed : List StepUnit) → (released : List Release) →
             IsFedOf self.old clocks pushed released → IsFedOf self.new clocks (pushed ++ unit ∷ []) released) }
         ensures unchanged { OnErr result ((clocks : Clocks) → (pushed : List StepUnit) → (released : List Release) →
             IsFedOf self.old clocks pushed released → IsFedOf self.new clocks pushed released) }
         ensures next { next_turn self.new ≡ next_turn self.old }
-        ensures first { first_turn self.new ≡ first_turn self.old }
+        ensures first { stream_start self.new ≡ stream_start self.old }
         ensures slots { slots_of self.new ≡ slots_of self.old }
     {
         self.make_rings(usize::from(unit.stepper))?;
@@ -190,7 +190,7 @@ impl FeedStream {
     /// Whether a unit that is due in a turn comes in time: the first turn wasn't given yet, or the unit is
     /// due 250 turns after the next one or later.
     pub fn takes(&self, due: u64) -> bool
-        ensures { IsTrue result ↔ (next_turn self.now ≤ first_turn self.now) ⊎ (next_turn self.now + lead ≤ due) }
+        ensures { IsTrue result ↔ (next_turn self.now ≤ stream_start self.now) ⊎ (next_turn self.now + lead ≤ due) }
     {
         self.next <= self.first || due.saturating_sub(self.next) >= LEAD
     }
@@ -209,7 +209,8 @@ impl FeedStream {
         requires known { unit.now.stepper < length self.now.rings.items }
         ensures room { (pushed : List StepUnit) → (released : List Release) →
             IsFedBy self.now lines.now used pushed released →
-            (IsTrue result ↔ HasRoom lines.now self.now.slots (behind [] released) unit.now (next_turn self.now)) }
+            (IsTrue result ↔ HasRoom lines.now self.now.slots (releases_behind [] released) unit.now
+            (next_turn self.now)) }
         ensures bytes { IsTrue result → used + unit_bytes unit.now ≤ turn_bytes }
         ensures slot { IsTrue result → (d : Ring) →
             not_over lines.now (next_turn self.now) (slice_index_or self.now.rings.items unit.now.stepper d).ends.items
@@ -235,12 +236,13 @@ impl FeedStream {
             (released ++ record { unit = u; turn = next_turn self.old } ∷ [])) }
         ensures stuck { IfNone result ((pushed : List StepUnit) → (released : List Release) →
             IsFedBy self.old lines.now used pushed released →
-            IsStuck lines.now self.old.slots (next_turn self.old) (behind [] released) self.old.waiting.items) }
+            IsStuck lines.now self.old.slots (next_turn self.old) (releases_behind [] released)
+            self.old.waiting.items) }
         ensures unchanged { IfNone result (self.new ≡ self.old) }
         ensures bytes { IfSome result (λ u. used + unit_bytes u ≤ turn_bytes) }
         ensures fewer { IsSome result → length self.new.waiting.items + 1 ≡ length self.old.waiting.items }
         ensures next { next_turn self.new ≡ next_turn self.old }
-        ensures first { first_turn self.new ≡ first_turn self.old }
+        ensures first { stream_start self.new ≡ stream_start self.old }
         ensures slots { slots_of self.new ≡ slots_of self.old }
     {
         if self.waiting.is_empty() {
@@ -278,7 +280,7 @@ impl FeedStream {
             IsFedOf self.old lines.now pushed released →
             IsFedOf self.new lines.now pushed (released ++ at_turn turn units.items)) }
         ensures next { OnOk result (next_turn self.new ≡ turn + 1) }
-        ensures first { first_turn self.new ≡ first_turn self.old }
+        ensures first { stream_start self.new ≡ stream_start self.old }
         ensures slots { slots_of self.new ≡ slots_of self.old }
         ensures unchanged { OnErr result (self.new ≡ self.old) }
     {
@@ -307,14 +309,14 @@ impl FeedStream {
         requires none { self.old.waiting.items ≡ [] }
         requires next_small { next_turn self.old + 1 < 2 ^ 64 }
         ensures placed { IfOk result (λ bytes. (pushed : List StepUnit) → (released : List Release) →
-            next_turn self.old ≤ last_turn (first_turn self.old) released →
+            next_turn self.old ≤ last_release (stream_start self.old) released →
             IsFedBy self.old lines.now used pushed released →
             IsFedBy self.new lines.now bytes (pushed ++ unit.now ∷ [])
             (released ++ record { unit = unit.now; turn = next_turn self.new } ∷ [])) }
         ensures bytes { IfOk result (λ bytes. bytes ≤ turn_bytes) }
         ensures none_waits { OnOk result (self.new.waiting.items ≡ []) }
         ensures next { OnOk result ((next_turn self.new ≤ next_turn self.old + 1) ⊎ (next_turn self.new < turn_limit)) }
-        ensures first { first_turn self.new ≡ first_turn self.old }
+        ensures first { stream_start self.new ≡ stream_start self.old }
         ensures slots { slots_of self.new ≡ slots_of self.old }
     {
         lines.is_kept();

@@ -17,7 +17,7 @@ use Rattle.wire_scene.specs.declared.scene.Scene.{Scene}
 use Rattle.wire_scene.specs.declared.line.Item.{Item}
 use Rattle.wire_scene.specs.declared.line.Item.TheVariants.{Nothing, OnLine, AtPin, Wrong}
 use Rattle.wire_scene.specs.Scenes.{is_on, is_of, way_number, last_number, last_tick}
-use Rattle.wire_scene.specs.Reading.{items, entry_of, switch_of, entries_among, switches_among, refusal, fault_of, or_later, first_fault, scene_of, unless, reading}
+use Rattle.wire_scene.specs.Reading.{items, line_entry, switch_of, entries_among, switches_among, refusal, fault_of, or_later, first_fault, scene_of, scene_unless, scene_of_text}
 use Rattle.wire_scene.specs.Valid.{IsValidEntry, IsValidSwitch, IsValidScene}
 use Rattle.wire_scene.proofs.Rising.{AreTopped, IsBelow, Rise, IsAbove, last_mark, topped_none, topped_more, rise_more}
 use Rattle.wire_scene.proofs.Fitting.{IsFit, AreFit, items_fit}
@@ -79,7 +79,7 @@ with_switch m es ss s fit over room good = let size : length (ss ++ s ∷ []) �
 }
 
 -- one more line
-line_more : (m : Machine) (es : List Entry) (ss : List Switch) (item : Item) → IsFit m item → fault_of es ss item ≡ None → AreGood m es ss → AreGood m (es ++ entry_of item) (ss ++ switch_of item)
+line_more : (m : Machine) (es : List Entry) (ss : List Switch) (item : Item) → IsFit m item → fault_of es ss item ≡ None → AreGood m es ss → AreGood m (es ++ line_entry item) (ss ++ switch_of item)
 line_more m es ss Nothing fit none good = rw (append-nil es, append-nil ss) good
 line_more m es ss (Wrong kind) fit none good = cc
 line_more m es ss (OnLine e) fit none good = let parts = none_refused (is_above e.number (last_number e.board (way_number e.connecting e.way) es)) (length es + length ss) none in
@@ -93,11 +93,11 @@ no_fault number (Some kind) later none = cc
 
 lines_more : (m : Machine) (es : List Entry) (ss : List Switch) (number : ℕ) (its : List Item) → AreFit m its → first_fault es ss number its ≡ None → AreGood m es ss → AreGood m (es ++ entries_among its) (ss ++ switches_among its)
 lines_more m es ss number [] fit none good = rw (append-nil es, append-nil ss) good
-lines_more m es ss number (item ∷ its) fit none good = let parts = no_fault number (fault_of es ss item) (first_fault (es ++ entry_of item) (ss ++ switch_of item) (number + 1) its) none in
-    let later : AreGood m ((es ++ entry_of item) ++ entries_among its) ((ss ++ switch_of item) ++ switches_among its)
-    = lines_more m (es ++ entry_of item) (ss ++ switch_of item) (number + 1) its fit.1 parts.1 (line_more m es ss item fit.0 parts.0 good) in
-    subst (λ (xs : List Entry). AreGood m xs (ss ++ (switch_of item ++ switches_among its))) (append_assoc es (entry_of item) (entries_among its))
-    (subst (λ (xs : List Switch). AreGood m ((es ++ entry_of item) ++ entries_among its) xs) (append_assoc ss (switch_of item) (switches_among its)) later)
+lines_more m es ss number (item ∷ its) fit none good = let parts = no_fault number (fault_of es ss item) (first_fault (es ++ line_entry item) (ss ++ switch_of item) (number + 1) its) none in
+    let later : AreGood m ((es ++ line_entry item) ++ entries_among its) ((ss ++ switch_of item) ++ switches_among its)
+    = lines_more m (es ++ line_entry item) (ss ++ switch_of item) (number + 1) its fit.1 parts.1 (line_more m es ss item fit.0 parts.0 good) in
+    subst (λ (xs : List Entry). AreGood m xs (ss ++ (switch_of item ++ switches_among its))) (append_assoc es (line_entry item) (entries_among its))
+    (subst (λ (xs : List Switch). AreGood m ((es ++ line_entry item) ++ entries_among its) xs) (append_assoc ss (switch_of item) (switches_among its)) later)
 
 none_good : (m : Machine) → AreGood m [] []
 none_good m = record {
@@ -139,14 +139,14 @@ abbrev scene_in : Scene → Result Scene SceneFault → Scene
 scene_in other (Ok scene) = scene
 scene_in other (Err fault) = other
 
-of_answer : (large : Bool) (first : Option SceneFault) (all scene : Scene) → cond large (Err (At 0 TooLarge)) (unless first all) ≡ Ok scene → (first ≡ None) × (all ≡ scene)
+of_answer : (large : Bool) (first : Option SceneFault) (all scene : Scene) → cond large (Err (At 0 TooLarge)) (scene_unless first all) ≡ Ok scene → (first ≡ None) × (all ≡ scene)
 of_answer true first all scene is = cc
 of_answer false None all scene is = (refl, ap (scene_in all) is)
 of_answer false (Some fault) all scene is = cc
 
 -- every scene that is read is valid
-pub valid : (m : Machine) (text : List ℕ) (scene : Scene) → reading m text ≡ Ok scene → IsValidScene m scene
-unfolding reading
+pub valid : (m : Machine) (text : List ℕ) (scene : Scene) → scene_of_text m text ≡ Ok scene → IsValidScene m scene
+unfolding scene_of_text
 valid m text scene is = let lines : List (List ℕ) = lines_of text in
     let parts : (first_fault [] [] 1 (items m.boards 1 lines) ≡ None) × (scene_of (items m.boards 1 lines) ≡ scene)
     = of_answer (nat_lt 16_777_216 (length text)) (first_fault [] [] 1 (items m.boards 1 lines)) (scene_of (items m.boards 1 lines)) scene is in

@@ -9,8 +9,8 @@ use Rattle.wire_scene.specs.declared.scene.Deed.{Deed}
 use Rattle.wire_scene.specs.declared.scene.Deed.TheVariants.{Drop, Repeat, Delay, Garble}
 use Rattle.wire_scene.specs.declared.wire.Fate.{Fate}
 use Rattle.wire_scene.specs.declared.wire.Fate.TheVariants.{Lost, Last, Stays, Garbled}
-use Rattle.wire_scene.specs.Wire.{Copy, Line, after_due, behind, calm_from, changed, comes_of, connect, connect_if, counted, deed_of, delay_of, empty_line, fate_of, is_due, left, left_by, put_on}
-use Rattle.wire_scene.specs.WireRuns.{AreOver, IsInOrder, Step, arrivals, arrives, blocks_put, deeds, deeds_later, greatest_up_to, oldest, own_turns, run, so_often, times, times_left, to_come, turn_used, turns_put, turns_used, visits}
+use Rattle.wire_scene.specs.Wire.{Copy, Line, after_due, entries_behind, calm_from, changed, comes_of, connect, connect_if, number_behind, deed_of, delay_of, empty_line, fate_of, is_oldest_due, copies_left, copies_left_by, put_on}
+use Rattle.wire_scene.specs.WireRuns.{AreOver, IsInOrder, Step, arrivals, arrives, blocks_put, deeds, deeds_later, greatest_up_to, oldest, own_turns, run_line, so_often, times, times_left, to_come, turn_used, turns_put, turns_used, visits}
 use Rattle.block_frame.specs.Spoils.{is_found_out}
 use Rattle.wire_scene.specs.WireRuns.Step.{Put, Due, Connect}
 
@@ -28,7 +28,7 @@ next_deed : (all : List Entry) (n number : ℕ) (es : List Entry) → ((m : ℕ)
 next_deed all n number [] same next = sym (same n (omega arith))
 next_deed all n number (e ∷ es) same next = ap (λ k. deed_of k (e ∷ es)) next ∙ sym (same n (omega arith))
 
-deed_behind : (n m : ℕ) (es : List Entry) → n < m → deed_of m (behind n es) ≡ deed_of m es
+deed_behind : (n m : ℕ) (es : List Entry) → n < m → deed_of m (entries_behind n es) ≡ deed_of m es
 deed_behind n m [] h = refl
 deed_behind n m (e ∷ es) h =
     let rest = deed_behind n m es h in
@@ -38,36 +38,36 @@ deed_behind n m (e ∷ es) h =
     ]
 
 same_behind : (all : List Entry) (n number : ℕ) (es : List Entry) → ((m : ℕ) → n ≤ m → deed_of m all ≡ deed_of m es) → IsNext n number es
-    → (m : ℕ) → n + 1 ≤ m → deed_of m all ≡ deed_of m (behind number es)
+    → (m : ℕ) → n + 1 ≤ m → deed_of m all ≡ deed_of m (entries_behind number es)
 same_behind all n number [] same next m h = same m (omega arith)
 same_behind all n number (e ∷ es) same next m h = same m (omega arith) ∙ sym (deed_behind number m (e ∷ es) (omega (arith, next)))
 
-counted_next : (n number : ℕ) (es : List Entry) → number ≡ n → IsNext (n + 1) (counted number es) es
+counted_next : (n number : ℕ) (es : List Entry) → number ≡ n → IsNext (n + 1) (number_behind number es) es
 counted_next n number [] e = tt
 counted_next n number (f ∷ es) e = ap (λ k. k + 1) e
 
-next_behind : (n number : ℕ) (es : List Entry) → IsNext n number es → IsNext (n + 1) (counted number (behind number es)) (behind number es)
+next_behind : (n number : ℕ) (es : List Entry) → IsNext n number es → IsNext (n + 1) (number_behind number (entries_behind number es)) (entries_behind number es)
 next_behind n number [] next = tt
-next_behind n number (e ∷ es) next = counted_next n number (behind number (e ∷ es)) next
+next_behind n number (e ∷ es) next = counted_next n number (entries_behind number (e ∷ es)) next
 
 follows_put : (all : List Entry) (n turn : ℕ) (bytes : List ℕ) (l : Line) → Follows all n l → Follows all (n + 1) (put_on l turn bytes)
 follows_put all n turn bytes l f = record { same = same_behind all n l.number l.entries f.same f.next; next = next_behind n l.number l.entries f.next }
 
 abbrev after_if : Bool → Line → Line
-after_if due l = if due then record l { copies = left l.copies } else l
+after_if due l = if due then record l { copies = copies_left l.copies } else l
 
 follows_if : (all : List Entry) (n : ℕ) (due : Bool) (l : Line) → Follows all n l → Follows all n (after_if due l)
 follows_if all n true l f = record { same = f.same; next = f.next }
 follows_if all n false l f = f
 
 -- what comes from the oldest block now, and what is still to come
-by_fate : (fate : Fate) (c : Copy) (cs : List Copy) → arrives fate c.bytes ++ to_come (left_by fate c cs) ≡ so_often (times_left fate) c.bytes ++ to_come cs
+by_fate : (fate : Fate) (c : Copy) (cs : List Copy) → arrives fate c.bytes ++ to_come (copies_left_by fate c cs) ≡ so_often (times_left fate) c.bytes ++ to_come cs
 by_fate Lost c cs = refl
 by_fate Last c cs = refl
 by_fate Stays c cs = refl
 by_fate Garbled c cs = refl
 
-oldest_comes : (cs : List Copy) → oldest cs ++ to_come (left cs) ≡ to_come cs
+oldest_comes : (cs : List Copy) → oldest cs ++ to_come (copies_left cs) ≡ to_come cs
 oldest_comes [] = refl
 oldest_comes (c ∷ cs) = by_fate c.fate c cs
 
@@ -113,7 +113,7 @@ tells_later entries [] n l f over = refl
 tells_later entries (Put turn bytes ∷ steps) n l f over =
     (next_deed entries n l.number l.entries f.same f.next, tells_later entries steps (n + 1) (put_on l turn bytes) (follows_put entries n turn bytes l f) over)
 tells_later entries (Due turn ∷ steps) n l f over =
-    let due = is_due turn l.copies in
+    let due = is_oldest_due turn l.copies in
     tells_later entries steps n (after_if due l) (follows_if entries n due l f) ((same_phase due l).0 ∙ over)
 tells_later entries (Connect ∷ steps) n l f over =
     let same : connect l ≡ l = ap (λ b. connect_if b l) over in
@@ -124,7 +124,7 @@ tells_first connecting entries [] n l f yet later = refl
 tells_first connecting entries (Put turn bytes ∷ steps) n l f yet later =
     (next_deed connecting n l.number l.entries f.same f.next, tells_first connecting entries steps (n + 1) (put_on l turn bytes) (follows_put connecting n turn bytes l f) yet later)
 tells_first connecting entries (Due turn ∷ steps) n l f yet later =
-    let due = is_due turn l.copies in
+    let due = is_oldest_due turn l.copies in
     let phase = same_phase due l in
     tells_first connecting entries steps n (after_if due l) (follows_if connecting n due l f) (phase.0 ∙ yet) (phase.1 ∙ later)
 tells_first connecting entries (Connect ∷ steps) n l f yet later =
@@ -162,7 +162,7 @@ to_come_put turn bytes l e same =
     ∙ ap (λ t. to_come l.copies ++ t) (append-nil (so_often (times_left (fate_of d bytes)) bytes) ∙ ap (λ k. so_often k bytes) (fate_times d bytes) ∙ ap (λ x. so_often (times x) bytes) same)
 
 pub all_come : (steps : List Step) (ds : List (Option Deed)) (l : Line) → Tells l steps ds
-    → arrivals steps l ++ to_come (run steps l).copies ≡ to_come l.copies ++ visits (blocks_put steps) (map times ds)
+    → arrivals steps l ++ to_come (run_line steps l).copies ≡ to_come l.copies ++ visits (blocks_put steps) (map times ds)
 all_come [] ds l told = sym (append-nil (to_come l.copies))
 all_come (Put turn bytes ∷ steps) [] l told = absurd told
 all_come (Put turn bytes ∷ steps) (d ∷ ds) l told =
@@ -171,11 +171,11 @@ all_come (Put turn bytes ∷ steps) (d ∷ ds) l told =
     let often = so_often (times d) bytes in
     all_come steps ds l' told.1 ∙ ap (λ t. t ++ rest) (to_come_put turn bytes l d told.0) ∙ append_assoc (to_come l.copies) often rest
 all_come (Due turn ∷ steps) ds l told =
-    let due = is_due turn l.copies in
+    let due = is_oldest_due turn l.copies in
     let l' = after_if due l in
     let rest = visits (blocks_put steps) (map times ds) in
     let now = if due then oldest l.copies else [] in
-    append_assoc now (arrivals steps l') (to_come (run steps l').copies)
+    append_assoc now (arrivals steps l') (to_come (run_line steps l').copies)
     ∙ ap (λ t. now ++ t) (all_come steps ds l' told)
     ∙ sym (append_assoc now (to_come l'.copies) rest)
     ∙ ap (λ t. t ++ rest) (comes_if due l)
@@ -245,14 +245,14 @@ dues_put (Due turn ∷ steps) ds last = dues_put steps ds last
 dues_put (Connect ∷ steps) ds last = dues_put steps ds last
 
 gone_by : {X : Type 0} (f : Copy → X) → ((c : Copy) → f (record { bytes = c.bytes; comes = c.comes; due = c.due; fate = Last }) ≡ f c) → (fate : Fate) (c : Copy) (cs : List Copy)
-    → (gone : List X) × gone ++ map f (left_by fate c cs) ≡ f c ∷ map f cs
+    → (gone : List X) × gone ++ map f (copies_left_by fate c cs) ≡ f c ∷ map f cs
 gone_by f same Lost c cs = (f c ∷ [], refl)
 gone_by f same Last c cs = (f c ∷ [], refl)
 gone_by f same Stays c cs = ([], ap (λ x. x ∷ map f cs) (same c))
 gone_by f same Garbled c cs = (f c ∷ [], refl)
 
 gone_left : {X : Type 0} (f : Copy → X) → ((c : Copy) → f (record { bytes = c.bytes; comes = c.comes; due = c.due; fate = Last }) ≡ f c) → (cs : List Copy)
-    → (gone : List X) × gone ++ map f (left cs) ≡ map f cs
+    → (gone : List X) × gone ++ map f (copies_left cs) ≡ map f cs
 gone_left f same [] = ([], refl)
 gone_left f same (c ∷ cs) = gone_by f same c.fate c cs
 
@@ -269,7 +269,7 @@ same_last f false l steps ds = refl
 -- what is under way are the last blocks that were put
 pub last_put : {X : Type 0} (f : Copy → X) → ((c : Copy) → f (record { bytes = c.bytes; comes = c.comes; due = c.due; fate = Last }) ≡ f c)
     → (steps : List Step) (ds : List (Option Deed)) (l : Line) → Tells l steps ds
-    → (gone : List X) × gone ++ map f (run steps l).copies ≡ map f l.copies ++ map f (copies_put l.last steps ds)
+    → (gone : List X) × gone ++ map f (run_line steps l).copies ≡ map f l.copies ++ map f (copies_put l.last steps ds)
 last_put f same [] ds l told = ([], sym (append-nil (map f l.copies)))
 last_put f same (Put turn bytes ∷ steps) [] l told = absurd told
 last_put f same (Put turn bytes ∷ steps) (e ∷ ds) l told =
@@ -280,12 +280,12 @@ last_put f same (Put turn bytes ∷ steps) (e ∷ ds) l told =
     let behind_it = map f (copies_put (max l.last (turn + delay_of d)) steps ds) in
     (more.0, more.1 ∙ ap (λ t. t ++ behind_it) (map-append f l.copies (one d ∷ [])) ∙ append_assoc (map f l.copies) (f (one d) ∷ []) behind_it ∙ ap (λ x. map f l.copies ++ map f (rest x)) told.0)
 last_put f same (Due turn ∷ steps) ds l told =
-    let due = is_due turn l.copies in
+    let due = is_oldest_due turn l.copies in
     let l' = after_if due l in
     let more = last_put f same steps ds l' told in
     let one = gone_if f same due l in
     let rest = map f (copies_put l.last steps ds) in
-    (one.0 ++ more.0, append_assoc one.0 more.0 (map f (run steps l').copies) ∙ ap (λ t. one.0 ++ t) (more.1 ∙ same_last f due l steps ds) ∙ sym (append_assoc one.0 (map f l'.copies) rest) ∙ ap (λ t. t ++ rest) one.1)
+    (one.0 ++ more.0, append_assoc one.0 more.0 (map f (run_line steps l').copies) ∙ ap (λ t. one.0 ++ t) (more.1 ∙ same_last f due l steps ds) ∙ sym (append_assoc one.0 (map f l'.copies) rest) ∙ ap (λ t. t ++ rest) one.1)
 last_put f same (Connect ∷ steps) ds l told =
     let more = last_put f same steps ds (connect l) told in
     (more.0, more.1 ∙ ap (λ cs. map f cs ++ map f (copies_put (connect l).last steps ds)) (same_copies l.connected l) ∙ ap (λ k. map f l.copies ++ map f (copies_put k steps ds)) (same_last_due l.connected l))
@@ -303,7 +303,7 @@ same_calm : (due : Bool) (l : Line) → (after_if due l).calm ≡ l.calm
 same_calm true l = refl
 same_calm false l = refl
 
-pub calm_over : (turn : ℕ) (steps : List Step) (ds : List (Option Deed)) (l : Line) → Tells l steps ds → (run steps l).calm ≤ turn → (l.calm ≤ turn) × AreOver turn (turns_used (turns_put steps) ds)
+pub calm_over : (turn : ℕ) (steps : List Step) (ds : List (Option Deed)) (l : Line) → Tells l steps ds → (run_line steps l).calm ≤ turn → (l.calm ≤ turn) × AreOver turn (turns_used (turns_put steps) ds)
 calm_over turn [] ds l told h = (h, tt)
 calm_over turn (Put k bytes ∷ steps) [] l told h = absurd told
 calm_over turn (Put k bytes ∷ steps) (d ∷ ds) l told h =
@@ -311,7 +311,7 @@ calm_over turn (Put k bytes ∷ steps) (d ∷ ds) l told h =
     let Calm : Option Deed → Type 0 = λ d. calm_from l.calm k d ≤ turn in
     over_used turn l.calm k d (turns_used (turns_put steps) ds) (subst Calm told.0 rest.0) rest.1
 calm_over turn (Due k ∷ steps) ds l told h =
-    let due = is_due k l.copies in
+    let due = is_oldest_due k l.copies in
     let rest = calm_over turn steps ds (after_if due l) told h in
     let e = same_calm due l in
     (omega (arith, rest.0, e), rest.1)
@@ -320,7 +320,7 @@ calm_over turn (Connect ∷ steps) ds l told h =
     let e = connect_calm l.connected l in
     (omega (arith, rest.0, e), rest.1)
 
-pub over_calm : (turn : ℕ) (steps : List Step) (ds : List (Option Deed)) (l : Line) → Tells l steps ds → l.calm ≤ turn → AreOver turn (turns_used (turns_put steps) ds) → (run steps l).calm ≤ turn
+pub over_calm : (turn : ℕ) (steps : List Step) (ds : List (Option Deed)) (l : Line) → Tells l steps ds → l.calm ≤ turn → AreOver turn (turns_used (turns_put steps) ds) → (run_line steps l).calm ≤ turn
 over_calm turn [] ds l told h over = h
 over_calm turn (Put k bytes ∷ steps) [] l told h over = absurd told
 over_calm turn (Put k bytes ∷ steps) (d ∷ ds) l told h over =
@@ -328,7 +328,7 @@ over_calm turn (Put k bytes ∷ steps) (d ∷ ds) l told h over =
     let rest = used_over turn l.calm k d (turns_used (turns_put steps) ds) h over in
     over_calm turn steps ds (put_on l k bytes) told.1 (subst Calm (sym told.0) rest.0) rest.1
 over_calm turn (Due k ∷ steps) ds l told h over =
-    let due = is_due k l.copies in
+    let due = is_oldest_due k l.copies in
     let e = same_calm due l in
     over_calm turn steps ds (after_if due l) told (omega (arith, h, e)) over
 over_calm turn (Connect ∷ steps) ds l told h over =

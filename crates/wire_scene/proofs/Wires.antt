@@ -12,7 +12,7 @@ use Rattle.wire_scene.specs.declared.wire.Underway.{Underway}
 use Rattle.wire_scene.specs.declared.wire.Fate.{Fate}
 use Rattle.wire_scene.specs.declared.wire.Fate.TheVariants.{Lost, Last, Stays, Garbled}
 use Rattle.wire_scene.specs.Scenes.{NumbersRise}
-use Rattle.wire_scene.specs.Wire.{AreFoundOut, Copy, IsOldest, RiseFrom, behind, changed, comes_of, deed_of, fate_of, dues_left, dues_of, entries_of, is_due, left, left_by, same_time, same_way}
+use Rattle.wire_scene.specs.Wire.{AreFoundOut, Copy, IsOldest, RiseFrom, entries_behind, changed, comes_of, deed_of, fate_of, dues_left, dues_of, entries_of, is_oldest_due, copies_left, copies_left_by, same_time, same_way}
 use Rattle.wire_scene.specs.declared.scene.Deed.{Deed}
 use Rattle.block_frame.specs.Spoils.{is_found_out}
 use Rattle.wire_scene.specs.WireViews.{copies_of}
@@ -27,7 +27,7 @@ none_before n m (e ∷ es) h r =
     ]
 
 -- and all are for blocks behind it
-pub all_behind : (n m : ℕ) (es : List Entry) → n < m → RiseFrom m es → behind n es ≡ es
+pub all_behind : (n m : ℕ) (es : List Entry) → n < m → RiseFrom m es → entries_behind n es ≡ es
 all_behind n m [] h r = refl
 all_behind n m (e ∷ es) h r =
     elim (leb_tells (suc n) e.number) [
@@ -44,7 +44,7 @@ not_first n (f ∷ es) x r h e isnt =
       | inr p ↦ rw p.0 (none_before n (f.number + 1) es (omega arith) r.1)
     ]
 
-pub first_dropped : (n : ℕ) (es : List Entry) (x : Entry) → RiseFrom n es → 0 < length es → x ≡ get_or es 0 x → x.number ≡ n → drop 1 es ≡ behind n es
+pub first_dropped : (n : ℕ) (es : List Entry) (x : Entry) → RiseFrom n es → 0 < length es → x ≡ get_or es 0 x → x.number ≡ n → drop 1 es ≡ entries_behind n es
 first_dropped n [] x r h e same = refl
 first_dropped n (f ∷ es) x r h e same =
     let is : f.number ≡ n = sym (ap (λ (y : Entry). y.number) e) ∙ same in
@@ -53,7 +53,7 @@ first_dropped n (f ∷ es) x r h e same =
       | inr p ↦ rw p.0 (sym (all_behind n (f.number + 1) es (omega arith) r.1))
     ]
 
-pub first_kept : (n : ℕ) (es : List Entry) (x : Entry) → RiseFrom n es → 0 < length es → x ≡ get_or es 0 x → (x.number ≡ n → ⊥) → es ≡ behind n es
+pub first_kept : (n : ℕ) (es : List Entry) (x : Entry) → RiseFrom n es → 0 < length es → x ≡ get_or es 0 x → (x.number ≡ n → ⊥) → es ≡ entries_behind n es
 first_kept n [] x r h e isnt = refl
 first_kept n (f ∷ es) x r h e isnt =
     elim (eqb_tells f.number n) [
@@ -132,13 +132,13 @@ pub copies_push : (us : List Underway) (u : Underway) → copies_of (us ++ u ∷
 copies_push [] u = refl
 copies_push (v ∷ us) u = ap (λ cs. record { bytes = v.block.items; comes = comes_of v.deed v.block.items; due = v.due; fate = v.fate } ∷ cs) (copies_push us u)
 
-fewer_by : (fate : Fate) (c : Copy) (cs : List Copy) → dues_left (left_by fate c cs) + 1 ≡ dues_of fate + dues_left cs
+fewer_by : (fate : Fate) (c : Copy) (cs : List Copy) → dues_left (copies_left_by fate c cs) + 1 ≡ dues_of fate + dues_left cs
 fewer_by Lost c cs = omega arith
 fewer_by Last c cs = omega arith
 fewer_by Stays c cs = omega arith
 fewer_by Garbled c cs = omega arith
 
-pub one_fewer : (turn : ℕ) (cs : List Copy) → is_due turn cs ≡ true → dues_left (left cs) + 1 ≡ dues_left cs
+pub one_fewer : (turn : ℕ) (cs : List Copy) → is_oldest_due turn cs ≡ true → dues_left (copies_left cs) + 1 ≡ dues_left cs
 one_fewer turn [] due = absurd (false≢true due)
 one_fewer turn (c ∷ cs) due = fewer_by c.fate c cs
 
@@ -147,13 +147,13 @@ pub found_push : (cs : List Copy) (c : Copy) → AreFoundOut cs → (c.fate ≡ 
 found_push [] c all one = (one, tt)
 found_push (d ∷ cs) c all one = (all.0, found_push cs c all.1 one)
 
-found_by : (fate : Fate) (c : Copy) (cs : List Copy) → AreFoundOut cs → AreFoundOut (left_by fate c cs)
+found_by : (fate : Fate) (c : Copy) (cs : List Copy) → AreFoundOut cs → AreFoundOut (copies_left_by fate c cs)
 found_by Lost c cs all = all
 found_by Last c cs all = all
 found_by Stays c cs all = (λ e. cc, all)
 found_by Garbled c cs all = all
 
-pub found_left : (cs : List Copy) → AreFoundOut cs → AreFoundOut (left cs)
+pub found_left : (cs : List Copy) → AreFoundOut cs → AreFoundOut (copies_left cs)
 found_left [] all = tt
 found_left (c ∷ cs) all = found_by c.fate c cs all.1
 

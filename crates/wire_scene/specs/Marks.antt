@@ -3,20 +3,20 @@ use Rattle.std.specs.Prelude.{◌≡◌, ℕ, ◌+◌, ◌*◌, ◌<◌, ◌==�
 use Rattle.wire_scene.specs.Scenes.{last_where}
 
 -- the place of a board's mark in the table
-abbrev pub place_of : ℕ → ℕ → ℕ
-place_of board place = 256 * board + place
+abbrev pub mark_place : ℕ → ℕ → ℕ
+mark_place board place = 256 * board + place
 
 -- the mark of a place on a board
 abbrev pub marked : List (Option ℕ) → ℕ → ℕ → Option ℕ
-marked marks board place = get_or marks (place_of board place) None
+marked marks board place = get_or marks (mark_place board place) None
 
 -- the table without a mark
 unfoldable pub no_marks : List (Option ℕ)
 no_marks = replicate 2048 None
 
 -- one mark is set, and the others stay
-abbrev pub Sets : List (Option ℕ) → List (Option ℕ) → ℕ → ℕ → ℕ → Type 0
-Sets old new board place mark =
+abbrev pub SetsMark : List (Option ℕ) → List (Option ℕ) → ℕ → ℕ → ℕ → Type 0
+SetsMark old new board place mark =
     (b p : ℕ) → p < 256 → marked new b p ≡ (if (board == b) && (place == p) then Some mark else marked old b p)
 
 -- Each place has the mark of the last element that is there.

@@ -22,9 +22,9 @@ items boards number [] = []
 items boards number (line ∷ lines) = meant boards number line ∷ items boards (number + 1) lines
 
 -- the entry of a line, where it is one of a block
-abbrev pub entry_of : Item → List Entry
-entry_of (OnLine e) = e ∷ []
-entry_of item = []
+abbrev pub line_entry : Item → List Entry
+line_entry (OnLine e) = e ∷ []
+line_entry item = []
 
 -- the switch of a line, where it is one of a switch
 abbrev pub switch_of : Item → List Switch
@@ -34,7 +34,7 @@ switch_of item = []
 -- the entries of lines among them, in order
 abbrev pub entries_among : List Item → List Entry
 entries_among [] = []
-entries_among (item ∷ items) = entry_of item ++ entries_among items
+entries_among (item ∷ items) = line_entry item ++ entries_among items
 
 -- the entries of pins among them, in order
 abbrev pub switches_among : List Item → List Switch
@@ -65,28 +65,28 @@ abbrev pub first_fault : List Entry → List Switch → ℕ → List Item → Op
 first_fault entries switches number [] = None
 first_fault entries switches number (item ∷ items) =
     or_later number (fault_of entries switches item)
-    (first_fault (entries ++ entry_of item) (switches ++ switch_of item) (number + 1) items)
+    (first_fault (entries ++ line_entry item) (switches ++ switch_of item) (number + 1) items)
 
 -- the scene that lines say
 abbrev pub scene_of : List Item → Scene
 scene_of items = record { entries = entries_among items; switches = switches_among items }
 
 -- a scene, unless there is a fault
-abbrev pub unless : Option SceneFault → Scene → Result Scene SceneFault
-unless None scene = Ok scene
-unless (Some fault) scene = Err fault
+abbrev pub scene_unless : Option SceneFault → Scene → Result Scene SceneFault
+scene_unless None scene = Ok scene
+scene_unless (Some fault) scene = Err fault
 
 -- the scene that lines say, or their first fault
 abbrev pub reading_of : List Item → Result Scene SceneFault
-reading_of items = unless (first_fault [] [] 1 items) (scene_of items)
+reading_of items = scene_unless (first_fault [] [] 1 items) (scene_of items)
 
 -- the scene of a text, or its first fault
-unfoldable pub reading : Machine → List ℕ → Result Scene SceneFault
-reading m text =
+unfoldable pub scene_of_text : Machine → List ℕ → Result Scene SceneFault
+scene_of_text m text =
     if nat_lt 16_777_216 (length text) then Err (At 0 TooLarge) else reading_of (items m.boards 1 (lines_of text))
 
 -- a reader's answer is this, but for want of memory
-abbrev pub Answers : Result Scene SceneFault → Result Scene SceneFault → Type 0
-Answers (Ok scene) wanted = wanted ≡ Ok scene
-Answers (Err (Memory error)) wanted = ⊤
-Answers (Err (At line kind)) wanted = wanted ≡ Err (At line kind)
+abbrev pub AnswersScene : Result Scene SceneFault → Result Scene SceneFault → Type 0
+AnswersScene (Ok scene) wanted = wanted ≡ Ok scene
+AnswersScene (Err (Memory error)) wanted = ⊤
+AnswersScene (Err (At line kind)) wanted = wanted ≡ Err (At line kind)

@@ -65,14 +65,14 @@ deed_of n [] = None
 deed_of n (e ∷ es) = if e.number == n then Some e.deed else deed_of n es
 
 -- the entries for the blocks behind one
-abbrev pub behind : ℕ → List Entry → List Entry
-behind n [] = []
-behind n (e ∷ es) = if nat_lt n e.number then e ∷ behind n es else behind n es
+abbrev pub entries_behind : ℕ → List Entry → List Entry
+entries_behind n [] = []
+entries_behind n (e ∷ es) = if nat_lt n e.number then e ∷ entries_behind n es else entries_behind n es
 
 -- the number behind another, where there are entries
-abbrev pub counted : ℕ → List Entry → ℕ
-counted n [] = n
-counted n (e ∷ es) = n + 1
+abbrev pub number_behind : ℕ → List Entry → ℕ
+number_behind n [] = n
+number_behind n (e ∷ es) = n + 1
 
 -- by how many turns a block comes later
 abbrev pub delay_of : Option Deed → ℕ
@@ -131,10 +131,10 @@ connect l = connect_if l.connected l
 -- a block is put on a line, to which this happens: it isn't due before the blocks in front of it
 abbrev pub put_with : Line → ℕ → List ℕ → Option Deed → Line
 put_with l turn bytes deed = record {
-  entries = behind l.number l.entries;
+  entries = entries_behind l.number l.entries;
   later = l.later;
   connected = l.connected;
-  number = counted l.number (behind l.number l.entries);
+  number = number_behind l.number (entries_behind l.number l.entries);
   last = max l.last (turn + delay_of deed);
   calm = calm_from l.calm turn deed;
   copies =
@@ -152,25 +152,25 @@ abbrev pub put_on : Line → ℕ → List ℕ → Line
 put_on l turn bytes = put_with l turn bytes (deed_of l.number l.entries)
 
 -- whether the oldest block is due in a turn
-abbrev pub is_due : ℕ → List Copy → Bool
-is_due turn [] = false
-is_due turn (c ∷ cs) = nat_le c.due turn
+abbrev pub is_oldest_due : ℕ → List Copy → Bool
+is_oldest_due turn [] = false
+is_oldest_due turn (c ∷ cs) = nat_le c.due turn
 
 -- what is under way after a block was due: one that arrives twice stays, and arrives once more
-abbrev pub left_by : Fate → Copy → List Copy → List Copy
-left_by Lost c cs = cs
-left_by Last c cs = cs
-left_by Stays c cs = record { bytes = c.bytes; comes = c.comes; due = c.due; fate = Last } ∷ cs
-left_by Garbled c cs = cs
+abbrev pub copies_left_by : Fate → Copy → List Copy → List Copy
+copies_left_by Lost c cs = cs
+copies_left_by Last c cs = cs
+copies_left_by Stays c cs = record { bytes = c.bytes; comes = c.comes; due = c.due; fate = Last } ∷ cs
+copies_left_by Garbled c cs = cs
 
 -- the same, of the oldest block
-abbrev pub left : List Copy → List Copy
-left [] = []
-left (c ∷ cs) = left_by c.fate c cs
+abbrev pub copies_left : List Copy → List Copy
+copies_left [] = []
+copies_left (c ∷ cs) = copies_left_by c.fate c cs
 
 -- what is due in a turn next has happened, where something is
 abbrev pub after_due : Line → ℕ → Line
-after_due l turn = if is_due turn l.copies then record l { copies = left l.copies } else l
+after_due l turn = if is_oldest_due turn l.copies then record l { copies = copies_left l.copies } else l
 
 -- how often a block is due
 abbrev pub dues_of : Fate → ℕ

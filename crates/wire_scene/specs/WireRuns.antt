@@ -5,7 +5,7 @@ use Rattle.wire_scene.specs.declared.scene.Deed.{Deed}
 use Rattle.wire_scene.specs.declared.scene.Deed.TheVariants.{Drop, Repeat, Delay, Garble}
 use Rattle.wire_scene.specs.declared.wire.Fate.{Fate}
 use Rattle.wire_scene.specs.declared.wire.Fate.TheVariants.{Lost, Last, Stays, Garbled}
-use Rattle.wire_scene.specs.Wire.{Copy, Line, connect, deed_of, delay_of, put_on, is_due, after_due}
+use Rattle.wire_scene.specs.Wire.{Copy, Line, connect, deed_of, delay_of, put_on, is_oldest_due, after_due}
 
 -- a block is put in a turn, what is due next in a turn happens, or connecting has ended
 pub data Step : Type 0 where
@@ -14,15 +14,15 @@ pub data Step : Type 0 where
   Connect : Step
 
 -- the line after a step
-abbrev pub happens : Line → Step → Line
-happens l (Put turn bytes) = put_on l turn bytes
-happens l (Due turn) = after_due l turn
-happens l Connect = connect l
+abbrev pub after_step : Line → Step → Line
+after_step l (Put turn bytes) = put_on l turn bytes
+after_step l (Due turn) = after_due l turn
+after_step l Connect = connect l
 
 -- the line after a list of steps
-abbrev pub run : List Step → Line → Line
-run [] l = l
-run (s ∷ steps) l = run steps (happens l s)
+abbrev pub run_line : List Step → Line → Line
+run_line [] l = l
+run_line (s ∷ steps) l = run_line steps (after_step l s)
 
 -- the block arrives, unless it is lost
 abbrev pub arrives : Fate → List ℕ → List (List ℕ)
@@ -39,13 +39,13 @@ oldest (c ∷ cs) = arrives c.fate c.bytes
 -- the block that arrives in a step
 abbrev pub arrival : Line → Step → List (List ℕ)
 arrival l (Put turn bytes) = []
-arrival l (Due turn) = if is_due turn l.copies then oldest l.copies else []
+arrival l (Due turn) = if is_oldest_due turn l.copies then oldest l.copies else []
 arrival l Connect = []
 
 -- the blocks that arrive, in order
 abbrev pub arrivals : List Step → Line → List (List ℕ)
 arrivals [] l = []
-arrivals (s ∷ steps) l = arrival l s ++ arrivals steps (happens l s)
+arrivals (s ∷ steps) l = arrival l s ++ arrivals steps (after_step l s)
 
 -- the blocks that are put, in order
 abbrev pub blocks_put : List Step → List (List ℕ)

@@ -1,7 +1,7 @@
 //! The last number on each line, or the last tick of each pin.
 
 ghost use Rattle.std.specs.Prelude.{◌≡◌, ◌<◌, IfOk};
-ghost use Rattle.wire_scene.specs.Marks.{Sets, marked, no_marks, place_of};
+ghost use Rattle.wire_scene.specs.Marks.{SetsMark, marked, no_marks, mark_place};
 
 use std::alloc::{AllocError, Global};
 use std::marker::Model;
@@ -44,7 +44,7 @@ impl Marks {
     /// Sets the mark of a place on a board.
     pub fn set(&mut self, board: u8, place: u8, mark: u64)
         requires { board < 8 }
-        ensures { Sets self.old self.new board place mark }
+        ensures { SetsMark self.old self.new board place mark }
     {
         self.marks[place_of(board, place)] = Some(mark);
     }
@@ -52,7 +52,7 @@ impl Marks {
 
 /// Where the mark of a place on a board stands.
 fn place_of(board: u8, place: u8) -> usize
-    ensures { result ≡ place_of board place }
+    ensures { result ≡ mark_place board place }
 {
     256 * board as usize + place as usize
 }

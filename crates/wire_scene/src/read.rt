@@ -5,7 +5,7 @@ ghost use Rattle.plan_types.specs.Numbers.{is_above};
 ghost use Rattle.plan_types.specs.Machines.{IsValidMachine};
 ghost use Rattle.wire_scene.specs.Entries.{is_on_boards};
 ghost use Rattle.wire_scene.specs.Scenes as specs;
-ghost use Rattle.wire_scene.specs.Reading.{Answers, reading, fault_of, refusal, entry_of, switch_of};
+ghost use Rattle.wire_scene.specs.Reading.{AnswersScene, scene_of_text, fault_of, refusal, line_entry, switch_of};
 ghost use Rattle.wire_scene.specs.Steps.{IsInStep};
 ghost use Rattle.wire_scene.specs.Valid.{IsValidScene};
 
@@ -73,7 +73,7 @@ fn fault(reader: &Reader, item: &Item) -> Option<SceneKind>
     requires boards { IsTrue (is_on_boards 8 item.now) }
     ensures value { result ≡ fault_of reader.now.scene.entries reader.now.scene.switches item.now }
     ensures room { IfNone result (length reader.now.scene.entries + length reader.now.scene.switches
-        + length (entry_of item.now) + length (switch_of item.now) ≤ 100000) }
+        + length (line_entry item.now) + length (switch_of item.now) ≤ 100000) }
 {
     let count = reader.scene.entries.len() + reader.scene.switches.len();
     match item {
@@ -130,9 +130,9 @@ fn keep_switch(reader: &mut Reader, switch: Switch) -> Result<(), AllocError>
 fn keep(reader: &mut Reader, item: Item) -> Result<(), AllocError>
     requires in_step { IsInStep reader.old }
     requires boards { IsTrue (is_on_boards 8 item) }
-    requires room { length reader.old.scene.entries + length reader.old.scene.switches + length (entry_of item)
+    requires room { length reader.old.scene.entries + length reader.old.scene.switches + length (line_entry item)
         + length (switch_of item) ≤ 100000 }
-    ensures entries { OnOk result (reader.new.scene.entries ≡ reader.old.scene.entries ++ entry_of item) }
+    ensures entries { OnOk result (reader.new.scene.entries ≡ reader.old.scene.entries ++ line_entry item) }
     ensures switches { OnOk result (reader.new.scene.switches ≡ reader.old.scene.switches ++ switch_of item) }
     ensures in_step { OnOk result (IsInStep reader.new) }
 {
@@ -144,10 +144,10 @@ fn keep(reader: &mut Reader, item: Item) -> Result<(), AllocError>
 }
 
 /// Reads a scene for a machine: the scene, or the fault that comes first.
-#[tactic(auto, unfolding(crate::specs::Reading::reading))]
+#[tactic(auto, unfolding(crate::specs::Reading::scene_of_text))]
 pub fn read_scene(alloc: Global, text: &[u8], machine: &Machine) -> Result<Scene, SceneFault>
     requires { IsValidMachine machine.now }
-    ensures reading { Answers result (reading machine.now text.now) }
+    ensures reading { AnswersScene result (scene_of_text machine.now text.now) }
     ensures valid { IfOk result (λ scene. IsValidScene machine.now scene) }
 {
     if text.len() > LIMIT {

@@ -2,7 +2,7 @@
 
 ghost use Rattle.std.specs.Prelude.{◌≡◌, ◌↔◌, ℕ, ◌+◌, ◌^◌, ◌<◌, ◌≤◌, [], ◌∷◌, ◌++◌, length, max, slice_index_or, ◌==◌, ◌&&◌, IsTrue, IsSome, IfOk, IfSome, IfNone, OnOk, OnErr, true};
 ghost use Rattle.wire_scene.specs.Scenes.{NumbersRise};
-ghost use Rattle.wire_scene.specs.Wire.{Line, AreFoundOut, IsOldest, IsQuiet, RiseFrom, after_due, behind, calm_from, changed, comes_of, connect, counted, deed_of, delay_of, dues_left, entries_of, fate_of, is_due, new_line, put_on, same_time, same_way};
+ghost use Rattle.wire_scene.specs.Wire.{Line, AreFoundOut, IsOldest, IsQuiet, RiseFrom, after_due, entries_behind, calm_from, changed, comes_of, connect, number_behind, deed_of, delay_of, dues_left, entries_of, fate_of, is_oldest_due, new_line, put_on, same_time, same_way};
 ghost use Rattle.block_frame.specs.Spoils.{is_found_out};
 ghost use Rattle.wire_scene.specs.declared.wire.Fate.TheVariants.{Garbled, Lost};
 ghost use Rattle.std.specs.Prelude.{bit_xor, slice_index, slice_set, if◌then◌else◌};
@@ -132,7 +132,7 @@ impl Wire {
     /// What happens next to the oldest block, where it is due in this turn. It takes no memory.
     #[tactic(auto, using(crate::proofs::Wires::one_fewer))]
     pub fn due(&mut self, turn: u64) -> Option<Came>
-        ensures some { IsSome result ↔ (is_due turn self.old.copies ≡ true) }
+        ensures some { IsSome result ↔ (is_oldest_due turn self.old.copies ≡ true) }
         ensures came { IfSome result (λ c. IsOldest self.old.copies c.block.items c.fate) }
         ensures garbled { IfSome result (λ c. c.fate ≡ Garbled → is_found_out c.block.items ≡ true) }
         ensures after { self.new ≡ after_due self.old turn }
@@ -163,7 +163,7 @@ impl Wire {
     }
 }
 
-ghost use Rattle.wire_scene.specs.Wire.{left};
+ghost use Rattle.wire_scene.specs.Wire.{copies_left};
 ghost use Rattle.wire_scene.specs.declared.wire.Underway.{Underway};
 ghost use Rattle.wire_scene.specs.declared.wire.Fate.TheVariants.{Stays};
 ghost use Rattle.wire_scene.specs.WireViews.{copies_of};
@@ -237,8 +237,8 @@ fn deed_of(entries: &VecDeque<Entry>, number: u64) -> Option<Deed>
 /// Drops the entry of the block of this number, where there is one, and counts the block while others are left.
 fn count(entries: &mut VecDeque<Entry>, number: u64) -> u64
     requires { RiseFrom number entries.old.items }
-    ensures entries { entries.new.items ≡ behind number entries.old.items }
-    ensures number { result ≡ counted number entries.new.items }
+    ensures entries { entries.new.items ≡ entries_behind number entries.old.items }
+    ensures number { result ≡ number_behind number entries.new.items }
     ensures rise { RiseFrom result entries.new.items }
 {
     drop_entry(entries, number);
@@ -260,7 +260,7 @@ fn number_after(number: u64, next: &Entry) -> u64
 #[tactic(auto, using(crate::proofs::Wires::first_dropped, crate::proofs::Wires::first_kept))]
 fn drop_entry(entries: &mut VecDeque<Entry>, number: u64)
     requires { RiseFrom number entries.old.items }
-    ensures entries { entries.new.items ≡ behind number entries.old.items }
+    ensures entries { entries.new.items ≡ entries_behind number entries.old.items }
     ensures rise { RiseFrom (number + 1) entries.new.items }
 {
     if let Some(first) = entries.front() {
@@ -360,7 +360,7 @@ fn arrive_once(under_way: &mut VecDeque<Underway>) -> Came
     requires some { 0 < length under_way.old.items }
     requires stays { (d : Underway) → (slice_index_or under_way.old.items 0 d).fate ≡ Stays }
     ensures came { IsOldest (copies_of under_way.old.items) result.block.items result.fate }
-    ensures left { copies_of under_way.new.items ≡ left (copies_of under_way.old.items) }
+    ensures left { copies_of under_way.new.items ≡ copies_left (copies_of under_way.old.items) }
 {
     let first = &mut under_way[0];
     first.fate = Fate::Last;
@@ -372,9 +372,9 @@ fn arrive_once(under_way: &mut VecDeque<Underway>) -> Came
 
 /// What happens next to the oldest block, where it is due in this turn.
 fn next_due(under_way: &mut VecDeque<Underway>, turn: u64) -> Option<Came>
-    ensures some { IsSome result ↔ (is_due turn (copies_of under_way.old.items) ≡ true) }
+    ensures some { IsSome result ↔ (is_oldest_due turn (copies_of under_way.old.items) ≡ true) }
     ensures came { IfSome result (λ c. IsOldest (copies_of under_way.old.items) c.block.items c.fate) }
-    ensures left { IsSome result → copies_of under_way.new.items ≡ left (copies_of under_way.old.items) }
+    ensures left { IsSome result → copies_of under_way.new.items ≡ copies_left (copies_of under_way.old.items) }
     ensures unchanged { IfNone result (under_way.new.items ≡ under_way.old.items) }
 {
     let first = under_way.front()?;

@@ -35,7 +35,7 @@ use Rattle.host_reactor.specs.Notes.{is_out as note_out, news_of, noted}
 use Rattle.host_reactor.specs.Reactor.{by_phase, homed, homing_commands, reacts, unless_ended, unless_stale}
 use Rattle.host_reactor.specs.Report.{first_lines}
 use Rattle.host_reactor.specs.Running.{first_cause}
-use Rattle.host_reactor.specs.Runs.{Came, known_by, last_turn}
+use Rattle.host_reactor.specs.Runs.{Came, known_by, last_reacted}
 use Rattle.laws_board.specs.turns.Turns.{BoardTurn, latest_state}
 use Rattle.laws_board.specs.clocks.Runs.{IsInRun}
 use Rattle.laws_board.specs.clocks.Samples.{further_lines}
@@ -43,7 +43,7 @@ use Rattle.laws_board.proofs.clocks.Clocked.{own_clocks}
 use Rattle.laws_board.proofs.clocks.Lines.{as_long, noted_askings, noted_phase, run_before, stands, turn_of}
 use Rattle.laws_board.proofs.clocks.Turning.{Asks, BoardRuns, BoardTurned, Ends, Runs, asking_at, clocks_at, heard_now, new_at}
 use Rattle.laws_board.specs.causes.Causes.{came_by_turn}
-use Rattle.host_reactor.specs.Room.{HasRoom, HaveRoom}
+use Rattle.host_reactor.specs.Room.{HasOrderRoom, HaveRoom}
 use Rattle.laws_board.specs.causes.Again.{TellsLineFrom}
 use Rattle.laws_board.proofs.causes.Chain.{in_time_none, late_state, none_asked, not_four, one_of, running_not, still_running, unanswered_four, waits_four, waits_out}
 use Rattle.laws_board.proofs.causes.Running.{IsSettled, Rests, Stays, heard_either, heard_late, heard_waits, settled_asks, settled_now, settled_ready}
@@ -53,7 +53,7 @@ use Rattle.laws_board.proofs.causes.Turns.{came_all, came_less}
 abbrev Dry : Machine → List Switch → ℕ → ℕ → List Came → Type 0
 Dry m switches b zero came = Unit {0}
 Dry m switches b (suc n) [] = ⊥
-Dry m switches b (suc n) (c ∷ before) = (HasRoom m switches b c before → ⊥) × Dry m switches b n before
+Dry m switches b (suc n) (c ∷ before) = (HasOrderRoom m switches b c before → ⊥) × Dry m switches b n before
 
 dry_few : (m : Machine) (switches : List Switch) (b n : ℕ) (came : List Came) → HaveRoom m switches b came → Dry m switches b n came → n ≤ 2
 dry_few m switches b zero came h d = omega arith
@@ -127,7 +127,7 @@ StandsTo m switches b due came y = IdleTo due (length came) y ⊎ (OutTo due (le
 record Turned (m : Machine) (switches : List Switch) (b : ℕ) (c : Came) (before : List Came) (a y : Asking) : Type 0 where
   pub homing : List Cmd
   pub is : after_question (length before) homing (waits_in true (length before) a) ≡ y
-  pub room : HasRoom m switches b c before → bytes_of homing < control_bytes
+  pub room : HasOrderRoom m switches b c before → bytes_of homing < control_bytes
   pub rooms : HaveRoom m switches b before
   pub goes : gives_up (length before) a ≡ false
 
@@ -156,7 +156,7 @@ not_so : (k : ℕ) (homing : List Cmd) (w : Asking) → asks_now homing w ≡ fa
 not_so k homing w e = asked_not (asks_now homing w) (record w { since = Some k; first = cond (w.missed == 0) k w.first; owed = more w.owed; waits = false }) w e
 
 from_waiting : (m : Machine) (switches : List Switch) (b due : ℕ) (c : Came) (before : List Came) (w y : Asking) (homing : List Cmd) → after_question (length before) homing w ≡ y
-    → (HasRoom m switches b c before → bytes_of homing < control_bytes) → HaveRoom m switches b before → WaitsTo m switches b due (suc (length before)) before w → StandsTo m switches b due (c ∷ before) y
+    → (HasOrderRoom m switches b c before → bytes_of homing < control_bytes) → HaveRoom m switches b before → WaitsTo m switches b due (suc (length before)) before w → StandsTo m switches b due (c ∷ before) y
 from_waiting m switches b due c before w y homing is room rooms o =
     let k = length before in
     let dry = o.dry in
@@ -359,7 +359,7 @@ out_then x y s e f = ap (λ (o : Option ℕ). is_out o && not (is_out y)) e ∙ 
 
 from_state : (m : Machine) (switches : List Switch) (b from due : ℕ) (c : Came) (before : List Came) (turns : List BoardTurn) (z a y : Asking) → due % 1_000 ≡ 0 → from ≤ due
     → ((s : State) (rest : List State) → latest_state turns ≡ s ∷ rest → s.turn + 1 ≡ length before) → a ≡ heard_now z (latest_state turns)
-    → ((is_out z.since && not (is_out a.since)) ≡ true → 1 ≤ length (further_lines b (last_turn m switches c before).ordered.word.news)) → Turned m switches b c before a y
+    → ((is_out z.since && not (is_out a.since)) ≡ true → 1 ≤ length (further_lines b (last_reacted m switches c before).ordered.word.news)) → Turned m switches b c before a y
     → StandsTo m switches b due before z → TellsLineFrom m switches b from (c ∷ before) ⊎ StandsTo m switches b due (c ∷ before) y
 from_state m switches b from due c before turns z a y thousand low latest is told x (inl o) =
     let r = o.rests in
@@ -391,9 +391,9 @@ own_section : (b : ℕ) (clocks : List Clocks) (own : Clocks) → clocks_at b cl
 own_section b clocks own e = sym (own_clocks b clocks own _ e)
 
 runs_turned : (m : Machine) (switches : List Switch) (b : ℕ) (c : Came) (before : List Came) (a y : Asking) (t : Control) → drifts (board_at m b).drift ≡ true → HaveRoom m switches b before
-    → (noted m c.note (known_by m switches before)).phase ≡ Running → (last_turn m switches c before).ordered.end ≡ None
-    → asking_at b (last_turn m switches c before).known.askings.items ≡ y ∷ []
-    → BoardRuns m (noted m c.note (known_by m switches before)) b (length before) c.states a (last_turn m switches c before) t → Turned m switches b c before a y
+    → (noted m c.note (known_by m switches before)).phase ≡ Running → (last_reacted m switches c before).ordered.end ≡ None
+    → asking_at b (last_reacted m switches c before).known.askings.items ≡ y ∷ []
+    → BoardRuns m (noted m c.note (known_by m switches before)) b (length before) c.states a (last_reacted m switches c before) t → Turned m switches b c before a y
 runs_turned m switches b c before a y t d rooms p h at g =
     let r = noted m c.note (known_by m switches before) in
     let k = length before in
@@ -431,15 +431,15 @@ record Begins (m : Machine) (switches : List Switch) (b from due : ℕ) (c : Cam
   pub low : from ≤ due
   pub drifting : drifts (board_at m b).drift ≡ true
   pub rooms : HaveRoom m switches b before
-  pub goes : (last_turn m switches c before).ordered.end ≡ None
+  pub goes : (last_reacted m switches c before).ordered.end ≡ None
   pub late : IsLate m switches from (c ∷ before)
   pub latest : (s : State) (rest : List State) → latest_state turns ≡ s ∷ rest → s.turn + 1 ≡ length before
   pub was : asking_at b (known_by m switches before).askings.items ≡ z ∷ []
   pub hears : a ≡ heard_now z (latest_state turns)
 
 again_turn : (m : Machine) (switches : List Switch) (b from due : ℕ) (c : Came) (before : List Came) (t : Control) (turns : List BoardTurn) (z a y : Asking) → Begins m switches b from due c before turns z a
-    → Again m switches b from due before z → asking_at b (last_turn m switches c before).known.askings.items ≡ y ∷ []
-    → BoardTurned m (noted m c.note (known_by m switches before)) b (length before) c.states a (last_turn m switches c before) t → Again m switches b from due (c ∷ before) y
+    → Again m switches b from due before z → asking_at b (last_reacted m switches c before).known.askings.items ≡ y ∷ []
+    → BoardTurned m (noted m c.note (known_by m switches before)) b (length before) c.states a (last_reacted m switches c before) t → Again m switches b from due (c ∷ before) y
 again_turn m switches b from due c before t turns z a y x (inl old) at (Asks p g) =
     let setups = configuration m b in
     let early = old.2 in
@@ -462,7 +462,7 @@ again_turn m switches b from due c before t turns z a y x (inr old) at (Runs p g
     let turned = runs_turned m switches b c before a y t x.drifting x.rooms p x.goes at g in
     let cut = (homing_turn r.clocks (length before) c.states r.homing).cut in
     let was : asking_at b r.askings.items ≡ z ∷ [] = ap (λ q. asking_at b q.items) (noted_askings m c.note (known_by m switches before)) ∙ x.was in
-    let told : (is_out z.since && not (is_out a.since)) ≡ true → 1 ≤ length (further_lines b (last_turn m switches c before).ordered.word.news) = λ out.
+    let told : (is_out z.since && not (is_out a.since)) ≡ true → 1 ≤ length (further_lines b (last_reacted m switches c before).ordered.word.news) = λ out.
     subst (λ (l : List WordNews). 1 ≤ length (further_lines b l)) (sym g.news)
     (lines_behind b (homed cut) (new_lines m 0 r.askings.items after) (line_told m 0 b b r.askings.items after z a (omega arith) was g.heard out)) in
     inr (

@@ -27,7 +27,7 @@ use Rattle.host_reactor.specs.declared.ordered.Phase.{Phase}
 use Rattle.host_reactor.specs.declared.ordered.Phase.TheVariants.{Connecting, Running, Stopping}
 use Rattle.host_reactor.specs.Notes.{noted}
 use Rattle.host_reactor.specs.Reactor.{Reacted}
-use Rattle.host_reactor.specs.Runs.{Came, known_by, last_turn}
+use Rattle.host_reactor.specs.Runs.{Came, known_by, last_reacted}
 use Rattle.laws_board.specs.turns.Turns.{AreBoardTurns, BoardTurn, stands_after}
 use Rattle.laws_board.specs.clocks.Runs.{IsInRun, UnitsFit, orders_in}
 use Rattle.laws_board.proofs.clocks.Lines.{noted_phase, run_before, turn_of}
@@ -80,7 +80,7 @@ limits_at m switches pins entries b (c ∷ before) (t ∷ turns) k v r u h =
           let x = turn_of m switches pins entries b c before t turns r in
           let known = noted m c.note (known_by m switches before) in
           let not = λ (line : ℕ). λ (e : (known_by m switches before).phase ≡ Stopping line).
-          goes_on m known b (length before) c.states x.a (last_turn m switches c before) t.control x.turned line (noted_phase m c.note (known_by m switches before) ∙ e) in
+          goes_on m known b (length before) c.states x.a (last_reacted m switches c before) t.control x.turned line (noted_phase m c.note (known_by m switches before) ∙ e) in
           subst LimitsIn (sym (before_less (k + 1) t turns (omega arith) ∙ before_all (k + 1) turns (omega arith)))
           (latest_limits turns (all_limits m switches pins entries b before turns v rest not u.1))
     ]

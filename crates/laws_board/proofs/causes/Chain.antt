@@ -23,7 +23,7 @@ use Rattle.host_reactor.specs.declared.ordered.Phase.TheVariants.{Connecting, Ru
 use Rattle.host_reactor.specs.Laws.{uptimes}
 use Rattle.host_reactor.specs.Notes.{noted}
 use Rattle.host_reactor.specs.Reactor.{Reacted, homing_commands, phase_after, stop_command, stops}
-use Rattle.host_reactor.specs.Runs.{Came, known_by, last_turn}
+use Rattle.host_reactor.specs.Runs.{Came, known_by, last_reacted}
 use Rattle.host_reactor.proofs.Uptimes.{append as uptimes_append, commands-none}
 use Rattle.plan_types.specs.declared.clock.BoardClock.{BoardClock}
 use Rattle.link_work.specs.Stands.{first_state}
@@ -577,7 +577,7 @@ stands_turn : (m : Machine) (switches : List Switch) (pins : List (List Level)) 
     → length turns < 2 ^ 59
     → IsBoardOf m switches b before turns → (((known_by m switches before).phase ≡ Connecting → ⊥) → Behind m switches pins entries b all turns z) → a ≡ heard_now z (latest_state turns)
     → Stands m switches pins entries b all before turns z → asking_at b (known_by m switches (c ∷ before)).askings.items ≡ y ∷ []
-    → BoardTurned m (noted m c.note (known_by m switches before)) b k c.states a (last_turn m switches c before) t.control → Stands m switches pins entries b all (c ∷ before) (t ∷ turns) y
+    → BoardTurned m (noted m c.note (known_by m switches before)) b k c.states a (last_reacted m switches c before) t.control → Stands m switches pins entries b all (c ∷ before) (t ∷ turns) y
 stands_turn m switches pins entries b all c before t turns z a y k e small both behind is (inl old) at (Asks p g) =
     let setups = configuration m b in
     let heard : IsSettled a = subst IsSettled (sym is) (settled_now z (latest_state turns) old.1) in
@@ -596,7 +596,7 @@ stands_turn m switches pins entries b all c before t turns z a y k e small both 
 stands_turn m switches pins entries b all c before t turns z a y k e small both behind is (inr old) at (Asks p g) = absurd (old.0 (sym (noted_phase m c.note (known_by m switches before)) ∙ p))
 stands_turn m switches pins entries b all c before t turns z a y k e small both behind is (inr old) at (Ends p g) = absurd (old.0 (sym (noted_phase m c.note (known_by m switches before)) ∙ p))
 stands_turn m switches pins entries b all c before t turns z a y k e small both behind is (inr old) at (Runs p g) =
-    let x = runs_so m (noted m c.note (known_by m switches before)) b k c.states a (last_turn m switches c before) t.control y g at in
+    let x = runs_so m (noted m c.note (known_by m switches before)) b k c.states a (last_reacted m switches c before) t.control y g at in
     inr (still_running g.stop _ g.phase, chain_turn m switches pins entries b all t turns z a y (not_first m switches b before turns both old.0) small (behind old.0) is old.1 (subst (λ (n : ℕ). Turn m b n a y t.control.commands) e x))
 
 pub stands_so : (m : Machine) (switches : List Switch) (pins : List (List Level)) (entries : List Entry) (b : ℕ) (all : List Came) (came : List Came) (turns : List BoardTurn) → came ≡ came_by_turn (length came) all → IsInRun m switches pins entries b came turns → length turns < 2 ^ 59

@@ -21,7 +21,7 @@ use Rattle.board_sim.specs.Rig.{Rig, takes, takes_all}
 use Rattle.board_world.specs.declared.event.Event.TheVariants as event
 use Rattle.board_world.specs.Orders.{plain}
 use Rattle.board_world.specs.Stands.{IsOrdered}
-use Rattle.board_world.specs.World.{Core, Step, Do, Turn, after, block_of, does, on_wire, run, text_of}
+use Rattle.board_world.specs.World.{Core, Step, Do, Turn, world_after, block_of, does, on_wire, run_world, wire_text}
 use Rattle.board_world.proofs.Runs.{all_orders, ordered, wired}
 use Rattle.link_work.specs.Answers.{IsAmong}
 use Rattle.link_work.specs.Told.{AreNews, heard_in, news_of}
@@ -44,7 +44,7 @@ configured moves = cmd.Config 1 0 0 (moves % 2 ^ 16)
 pub record SaysSo (more : List Reply) : Type 0 where
   pub number : ℕ
   pub moves : ℕ
-  pub among : IsAmong (record { number = number; answer = text_of (configured moves) }) more
+  pub among : IsAmong (record { number = number; answer = wire_text (configured moves) }) more
 
 says_left : (xs ys : List Reply) → SaysSo xs → SaysSo (xs ++ ys)
 says_left xs ys s = record { number = s.number; moves = s.moves; among = among_left _ xs ys s.among }
@@ -52,9 +52,9 @@ says_left xs ys s = record { number = s.number; moves = s.moves; among = among_l
 says_right : (xs ys : List Reply) → SaysSo ys → SaysSo (xs ++ ys)
 says_right xs ys s = record { number = s.number; moves = s.moves; among = among_right _ xs ys s.among }
 
-among_replies : (n : ℕ) (c : Cmd) (cs : List Cmd) → IsAmong c cs → IsAmong (record { number = n; answer = text_of c }) (numbered n (map text_of cs))
+among_replies : (n : ℕ) (c : Cmd) (cs : List Cmd) → IsAmong c cs → IsAmong (record { number = n; answer = wire_text c }) (numbered n (map wire_text cs))
 among_replies n c [] k = absurd k
-among_replies n c (d ∷ cs) (inl e) = inl (ap (λ (x : Cmd). record { number = n; answer = text_of x }) e)
+among_replies n c (d ∷ cs) (inl e) = inl (ap (λ (x : Cmd). record { number = n; answer = wire_text x }) e)
 among_replies n c (d ∷ cs) (inr k) = inr (among_replies n c cs k)
 
 all_answers : (b : Rig) (before : List Meant) (m : Meant) (behind : List Meant) (a : Cmd) → IsAmong a (takes (takes_all b (commands_of before)).rig m.command).answers
@@ -102,7 +102,7 @@ block_rest h o n =
     sym (take-append-drop t h.queued) ∙ ap (λ (x : List Meant). x ++ drop t h.queued) (sym o.first) ∙ ap (λ (x : List Meant). h.taken ++ x) (sym (take-append-drop n (drop t h.queued)))
 
 repeats : (h : Core) (front rest : List Meant) (ds : List ℕ) → IsOrdered h → Waits front rest h
-    → Comes h (length front) (length h.taken + length (block_of h ds)) (link.repeat h.link ds (map text_of (takes_all h.board (commands_of (block_of h ds))).answers))
+    → Comes h (length front) (length h.taken + length (block_of h ds)) (link.repeat h.link ds (map wire_text (takes_all h.board (commands_of (block_of h ds))).answers))
 repeats h front rest [] o w = record { more = []; up = sym (append-nil h.link.up); says = λ low high. absurd (omega arith) }
 repeats h front rest (n ∷ ns) o w =
     let l = h.link in
@@ -112,11 +112,11 @@ repeats h front rest (n ∷ ns) o w =
     let empty : List Reply = record { number = n + 1; answer = [] } ∷ [] in
     elim (eqb_tells n l.accepted) [
       | inl p ↦ rw p.0 (record {
-        more = numbered (n + 1) (map text_of (takes_all h.board (commands_of ms)).answers) ++ empty;
+        more = numbered (n + 1) (map wire_text (takes_all h.board (commands_of ms)).answers) ++ empty;
         up = refl;
         says = λ low high.
             let s = says_block h front rest ms left w (block_rest h o size) low high in
-            record { number = n + 1; moves = s.0; among = among_left _ (numbered (n + 1) (map text_of (takes_all h.board (commands_of ms)).answers)) empty (among_replies (n + 1) (configured s.0) _ s.1) };
+            record { number = n + 1; moves = s.0; among = among_left _ (numbered (n + 1) (map wire_text (takes_all h.board (commands_of ms)).answers)) empty (among_replies (n + 1) (configured s.0) _ s.1) };
       })
       | inr p ↦ rw p.0 (record { more = record { number = l.accepted; answer = [] } ∷ []; up = refl; says = λ low high. absurd (omega arith) })
     ]
@@ -143,7 +143,7 @@ come_by Last = (tt, tt)
 come_by Stays = (tt, (tt, tt))
 come_by Garbled = (tt, tt)
 
-one_comes : (h : Core) (front rest : List Meant) (s : Step) → IsComing s → IsOrdered h → Waits front rest h → Comes h (length front) (length (after h s).taken) (after h s).link
+one_comes : (h : Core) (front rest : List Meant) (s : Step) → IsComing s → IsOrdered h → Waits front rest h → Comes h (length front) (length (world_after h s).taken) (world_after h s).link
 one_comes h front rest (Do event.Arrive) k o w =
     let c = repeats h front rest h.link.down o w in
     record { more = c.more; up = lost_up _ h.link.down ∙ c.up; says = λ low high. c.says low (omega (arith, length-append h.taken (block_of h h.link.down))) }
@@ -182,7 +182,7 @@ block_may h (n ∷ ns) k = elim (eqb_tells n h.link.accepted) [
 none_taken : (h : Core) → Ready h.taken h.board.controller → Ready (h.taken ++ []) h.board.controller
 none_taken h r = subst (λ (l : List Meant). Ready l h.board.controller) (sym (append-nil h.taken)) r
 
-ready_after : (h : Core) (s : Step) → AllMay h.queued → Ready h.taken h.board.controller → Ready (after h s).taken (after h s).board.controller
+ready_after : (h : Core) (s : Step) → AllMay h.queued → Ready h.taken h.board.controller → Ready (world_after h s).taken (world_after h s).board.controller
 ready_after h (Do event.Arrive) k r = ready_all h.taken h.board (block_of h h.link.down) (block_may h h.link.down k) r
 ready_after h (Do event.Repeat) k r = ready_all h.taken h.board (block_of h h.link.down) (block_may h h.link.down k) r
 ready_after h (Do event.Lose) k r = none_taken h r
@@ -196,14 +196,14 @@ ready_after h (Do (event.Control c)) k r = none_taken h r
 ready_after h (Do (event.Pass t)) k r = ready_passes (h.taken ++ []) h.board t (none_taken h r)
 ready_after h (Turn turn) k r = r
 
-pub ready_along : (steps : List Step) (h : Core) → AllMay (run steps h).queued → Ready h.taken h.board.controller → Ready (run steps h).taken (run steps h).board.controller
+pub ready_along : (steps : List Step) (h : Core) → AllMay (run_world steps h).queued → Ready h.taken h.board.controller → Ready (run_world steps h).taken (run_world steps h).board.controller
 ready_along [] h k r = r
 ready_along (s ∷ steps) h k r =
     let mine : AllMay h.queued = may_first h.queued _ (subst (λ (l : List Meant). AllMay l) (all_orders (s ∷ steps) h) k) in
-    ready_along steps (after h s) k (ready_after h s mine r)
+    ready_along steps (world_after h s) k (ready_after h s mine r)
 
 -- the board's part of a turn
-come_queues : (h : Core) (s : Step) → IsComing s → (after h s).queued ≡ h.queued
+come_queues : (h : Core) (s : Step) → IsComing s → (world_after h s).queued ≡ h.queued
 come_queues h (Do event.Arrive) k = append-nil h.queued
 come_queues h (Do event.Repeat) k = append-nil h.queued
 come_queues h (Do event.Lose) k = append-nil h.queued
@@ -217,7 +217,7 @@ come_queues h (Do (event.Control c)) k = absurd k
 come_queues h (Do (event.Pass t)) k = absurd k
 come_queues h (Turn turn) k = absurd k
 
-waits_after : (h : Core) (front rest : List Meant) (s : Step) → IsComing s → Waits front rest h → Waits front rest (after h s)
+waits_after : (h : Core) (front rest : List Meant) (s : Step) → IsComing s → Waits front rest h → Waits front rest (world_after h s)
 waits_after h front rest s k w = record {
   queued = come_queues h s k ∙ w.queued;
   done = w.done;
@@ -225,10 +225,10 @@ waits_after h front rest s k w = record {
   ready = ready_after h s w.may w.ready;
 }
 
-all_come_by : (h : Core) (front rest : List Meant) (steps : List Step) → AllOf IsComing steps → IsOrdered h → Waits front rest h → Comes h (length front) (length (run steps h).taken) (run steps h).link
+all_come_by : (h : Core) (front rest : List Meant) (steps : List Step) → AllOf IsComing steps → IsOrdered h → Waits front rest h → Comes h (length front) (length (run_world steps h).taken) (run_world steps h).link
 all_come_by h front rest [] k o w = record { more = []; up = sym (append-nil h.link.up); says = λ low high. absurd (omega arith) }
 all_come_by h front rest (s ∷ steps) k o w =
-    let g = after h s in
+    let g = world_after h s in
     let one = one_comes h front rest s k.0 o w in
     let next = all_come_by g front rest steps k.1 (ordered (s ∷ []) h o) (waits_after h front rest s k.0 w) in
     record {
@@ -241,12 +241,12 @@ all_come_by h front rest (s ∷ steps) k o w =
     }
 
 pub board_comes : (clock : BoardClock) (turn : ℕ) (copies : List Copy) (h : Core) (front rest : List Meant) → IsOrdered h → Waits front rest h
-    → Comes h (length front) (length (run (board_steps clock turn copies) h).taken) (run (board_steps clock turn copies) h).link
+    → Comes h (length front) (length (run_world (board_steps clock turn copies) h).taken) (run_world (board_steps clock turn copies) h).link
 board_comes clock turn copies h front rest o w =
-    let g = run (come Down turn copies) h in
+    let g = run_world (come Down turn copies) h in
     let t = board_tick clock (turn + 1) in
     let c = all_come_by h front rest (come Down turn copies) (all_come IsComing Down (λ fate. come_by fate) turn copies) o w in
-    let last = numbered g.link.accepted (map text_of (does g (event.Pass t)).answers) in
+    let last = numbered g.link.accepted (map wire_text (does g (event.Pass t)).answers) in
     subst (λ (x : Core). Comes h (length front) (length x.taken) x.link) (sym (run_append (come Down turn copies) (Do (event.Pass t) ∷ []) h)) (record {
       more = c.more ++ last;
       up = ap (λ (rs : List Reply). rs ++ last) c.up ∙ append_assoc h.link.up c.more last;
@@ -265,7 +265,7 @@ first_heard Stays r rs h f e = cc
 first_heard Garbled r rs h f e = cc
 
 heard_both : (turn : ℕ) (c : Copy) (cs : List Copy) (h : Core) → nat_le c.due turn ≡ true
-    → heard_in (come Up turn (c ∷ cs)) h ≡ heard_in (comes Up c.fate) h ++ heard_in (come Up turn cs) (run (comes Up c.fate) h)
+    → heard_in (come Up turn (c ∷ cs)) h ≡ heard_in (comes Up c.fate) h ++ heard_in (come Up turn cs) (run_world (comes Up c.fate) h)
 heard_both turn c cs h due =
     ap (λ (b : Bool). heard_in (if b then comes Up c.fate ++ come Up turn cs else []) h) due ∙ heard_append (comes Up c.fate) (come Up turn cs) h
 
@@ -276,7 +276,7 @@ heard_here turn [] h (x ∷ more) r e many last none k = absurd (omega (arith, m
 heard_here turn (d ∷ ds) h [] r e many last none k = absurd k
 heard_here turn (d ∷ ds) h (x ∷ more) r e many last none k =
     let due = due_if (nat_le d.due turn) d ds (still turn ds) none in
-    let g = run (comes Up d.fate) h in
+    let g = run_world (comes Up d.fate) h in
     let rest = heard_in (come Up turn ds) g in
     subst (IsAmong r) (sym (heard_both turn d ds h due.0)) (elim k [
       | inl is ↦ among_left r (heard_in (comes Up d.fate) h) rest (subst (λ (y : Reply). IsAmong y (heard_in (comes Up d.fate) h)) is (first_heard d.fate x more h last.0 e))
@@ -290,7 +290,7 @@ heard_behind turn [] ds h (u ∷ us) more r e many as_many last none k = absurd 
 heard_behind turn (c ∷ cs) ds h [] more r e many as_many last none k = absurd (omega (arith, many))
 heard_behind turn (c ∷ cs) ds h (u ∷ us) more r e many as_many last none k =
     let due = due_if (nat_le c.due turn) c (cs ++ ds) (still turn (cs ++ ds)) none in
-    let g = run (comes Up c.fate) h in
+    let g = run_world (comes Up c.fate) h in
     subst (IsAmong r) (sym (heard_both turn c (cs ++ ds) h due.0))
     (among_right r (heard_in (comes Up c.fate) h) (heard_in (come Up turn (cs ++ ds)) g)
     (heard_behind turn cs ds g us more r (heard_as c.fate u (us ++ more) h e).up (omega (arith, many)) as_many last due.1 k))

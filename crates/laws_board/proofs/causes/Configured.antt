@@ -24,7 +24,7 @@ use Rattle.board_sim.specs.Board.{new_controller}
 use Rattle.board_sim.specs.Fair.{Meant}
 use Rattle.board_world.specs.Orders.{plain, units_orders}
 use Rattle.board_world.specs.Stands.{IsOrdered}
-use Rattle.board_world.specs.World.{Core, on_wire, run, start, text_of}
+use Rattle.board_world.specs.World.{Core, on_wire, run_world, new_world, wire_text}
 use Rattle.board_world.proofs.Runs.{all_orders, ordered, wired}
 use Rattle.link_work.specs.Answers.{IsAmong, IsCalm, IsClear}
 use Rattle.link_work.specs.Limits.{bytes_in, carried}
@@ -42,7 +42,7 @@ use Rattle.board_asking.specs.declared.asking.Stage.{Stage}
 use Rattle.board_asking.specs.declared.asking.Stage.TheVariants.{Identify, Uptime, Configure, Config, Connected}
 use Rattle.board_asking.specs.declared.setup.Setup.{Setup}
 use Rattle.board_asking.specs.declared.setup.Setup.TheVariants.{Oids, Stepper, Trsync, Endstop, Finish}
-use Rattle.board_asking.specs.Asking.{asks, is_due, question}
+use Rattle.board_asking.specs.Asking.{asks, is_question_due, question}
 use Rattle.board_asking.specs.Machine.{configuration, control_bytes, endstop_pins, fitting, setup_command, setup_endstops, setup_stepper, trigger_of}
 use Rattle.laws_board.specs.turns.Turns.{AreBoardTurns, BoardTurn, latest_state, stands_after}
 use Rattle.laws_board.specs.clocks.Ordered.{commands_in, configures}
@@ -64,11 +64,11 @@ abbrev SaysIn : List News → Type 0
 SaysIn news = (number moves : ℕ) × IsAmong (record { number = number; answer = configured moves }) news
 
 -- nothing is queued while blocks come
-replies_queue_none : (turn : ℕ) (copies : List Copy) (h : Core) → (run (come Up turn copies) h).queued ≡ h.queued
+replies_queue_none : (turn : ℕ) (copies : List Copy) (h : Core) → (run_world (come Up turn copies) h).queued ≡ h.queued
 replies_queue_none turn copies h =
     all_orders (come Up turn copies) h ∙ ap (λ x. h.queued ++ x) (none_queued (come Up turn copies) (all_come QueuesNone Up (λ fate. comes_queue_none Up fate) turn copies)) ∙ append-nil h.queued
 
-board_queues_none : (clock : BoardClock) (turn : ℕ) (copies : List Copy) (h : Core) → (run (board_steps clock turn copies) h).queued ≡ h.queued
+board_queues_none : (clock : BoardClock) (turn : ℕ) (copies : List Copy) (h : Core) → (run_world (board_steps clock turn copies) h).queued ≡ h.queued
 board_queues_none clock turn copies h =
     let steps = board_steps clock turn copies in
     all_orders steps h ∙ ap (λ x. h.queued ++ x) (none_queued steps (all_append QueuesNone (come Down turn copies) _ (all_come QueuesNone Down (λ fate. comes_queue_none Down fate) turn copies) (refl, tt)))
@@ -117,7 +117,7 @@ parts_say clock turn o resent l news front rest ord parts told a =
     let put = parts.put2 in
     let many : length c.more ≡ length put.copies =
     omega (arith, ap length c.up, ap length parts.came.did.up, length-append l1.core.link.up c.more, length-append l1.core.link.up parts.came.did.more, put.as_many) in
-    let r : Reply = record { number = said.number; answer = text_of (configured said.moves) } in
+    let r : Reply = record { number = said.number; answer = wire_text (configured said.moves) } in
     let due : still turn (l1.up.copies ++ put.copies) ≡ [] = sym (ap (still turn) put.behind) ∙ a.none in
     let here = heard_behind turn l1.up.copies put.copies l2.core l1.core.link.up c.more r c.up parts.many1.up many (put.clean a.calm) due said.among in (
       said.number,
@@ -165,7 +165,7 @@ begins_at b pins board entries turns are =
     let first = first_state b pins board entries in
     subst (λ (n : ℕ). Begins (clock_of b) n (stands_after first turns)) (order_length turns) (begins b pins board entries (orders_in turns) (stands_after first turns) (turns_in_order (clock_of b) first turns are))
 
-start_ready : (b : BoardDef) (pins : List (List Level)) → Ready [] (start b pins).board.controller
+start_ready : (b : BoardDef) (pins : List (List Level)) → Ready [] (new_world b pins).board.controller
 unfolding new_controller
 start_ready b pins = record { running = refl; crc = refl; complete = λ e. cc }
 
@@ -272,11 +272,11 @@ may_if true cs k = k
 may_if false cs k = tt
 
 may_asks : (setups : List Setup) (k : ℕ) (a : Asking) (stage : Stage) → AllMay (map plain (asks setups k a stage))
-may_asks setups k a (Identify offset) = may_if (is_due k a.since) (question (Identify offset)) (tt, tt)
-may_asks setups k a Uptime = may_if (is_due k a.since) (question Uptime) (tt, tt)
+may_asks setups k a (Identify offset) = may_if (is_question_due k a.since) (question (Identify offset)) (tt, tt)
+may_asks setups k a Uptime = may_if (is_question_due k a.since) (question Uptime) (tt, tt)
 may_asks setups k a (Configure n) = may_setups (fitting control_bytes (drop n setups))
-may_asks setups k a Config = may_if (is_due k a.since) (question Config) (tt, tt)
-may_asks setups k a Connected = may_if (is_due k a.since) (question Connected) tt
+may_asks setups k a Config = may_if (is_question_due k a.since) (question Config) (tt, tt)
+may_asks setups k a Connected = may_if (is_question_due k a.since) (question Connected) tt
 
 steps_none : (us : List StepUnit) → us ≡ [] → units_orders us ≡ []
 steps_none us e = ap units_orders e

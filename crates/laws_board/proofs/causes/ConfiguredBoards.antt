@@ -27,18 +27,18 @@ use Rattle.cfg_lines.specs.declared.item.Item.{Item}
 use Rattle.cfg_lines.specs.declared.item.Item.TheVariants.{Skipped, PassedOver, Opens, Holds, Wrong}
 use Rattle.cfg_lines.specs.declared.item.Place.{Place}
 use Rattle.cfg_lines.specs.declared.item.Entry.{Entry}
-use Rattle.cfg_lines.specs.Said.{Said, Nothing, Begins, Continues, Sets, Neither, said}
+use Rattle.cfg_lines.specs.Said.{ConfigurationLine, Nothing, Begins, Continues, Sets, Neither, said}
 use Rattle.cfg_lines.specs.Sections.{section_of, is_board_name}
-use Rattle.cfg_lines.specs.Table.{row_of, key_named}
+use Rattle.cfg_lines.specs.Table.{option_row, key_named}
 use Rattle.cfg_lines.specs.Values.{spelled, is_within, decimal, is_whole, whole_within, whole, offset_within, offset, is_microsteps, microsteps_of, microsteps, position, any_position, one_of, is_pin_sign, is_pin_name, inverts, pin_on, unsigned_pin, judged_as, judged, fits_kind}
-use Rattle.cfg_lines.specs.Items.{with_value, with_key, option_in, opened, meant, place_behind, start, items, has_name, has_motor, with_name, with_board, with_stepper, boards_behind, steppers_behind, crowded, fault_of, or_later, first_fault, passed_over, entry_of, entries, item_fits, entry_fits}
+use Rattle.cfg_lines.specs.Items.{with_value, with_key, option_in, opened, meant, place_behind, first_place, items, has_name, has_motor, with_name, with_board, with_stepper, boards_behind, steppers_behind, crowded, fault_of, or_later, first_fault, passed_over, entry_of, entries, item_fits, entry_fits}
 use Rattle.cfg_lines.specs.Faults.{◌>>=◌}
 use Rattle.cfg_text.specs.declared.wiring.Use.{Use}
 use Rattle.cfg_text.specs.Holding.{sets, or_earlier, last_set, amount}
 use Rattle.cfg_text.specs.Wiring.{use_in, use_of, wired, put, put_some, with_pins_of, uses_of, all_uses, wiring_fault}
 use Rattle.cfg_text.specs.Missing.{missing}
 use Rattle.cfg_text.specs.Building.{pins_on, board_def, board_defs, stepper_defs, fan_def, machine_of}
-use Rattle.cfg_text.specs.Reading.{unless, axes, assembled, reading_of_entries, reading_of_items, reading}
+use Rattle.cfg_text.specs.Reading.{machine_unless, axes, assembled, reading_of_entries, reading_of_items, machine_of_text}
 use Rattle.cfg_text.proofs.Fitting.{amount_fits}
 
 -- ---- values
@@ -136,9 +136,9 @@ kind_judges kinds.Truth text = words_judge kinds.Truth (codes "False") (codes "T
 kind_judges kinds.Pin text = pins_judge (inverts (front is_pin_sign text)) (behind is_pin_sign text)
 kind_judges kinds.Refused text = tt
 
-key_judges : (key : Key) (text : List ℕ) → Judges (row_of key).kind (judged key text)
+key_judges : (key : Key) (text : List ℕ) → Judges (option_row key).kind (judged key text)
 unfolding judged
-key_judges key text = kind_judges (row_of key).kind text
+key_judges key text = kind_judges (option_row key).kind text
 
 -- ---- lines
 
@@ -147,7 +147,7 @@ abbrev IsGood : Item → Type 0
 IsGood Skipped = Unit {0}
 IsGood PassedOver = Unit {0}
 IsGood (Opens section) = Unit {0}
-IsGood (Holds section key value) = IsOfKind (row_of key).kind value
+IsGood (Holds section key value) = IsOfKind (option_row key).kind value
 IsGood (Wrong kind) = Unit {0}
 
 abbrev AreGoodItems : List Item → Type 0
@@ -158,7 +158,7 @@ abbrev AreGood : List Entry → Type 0
 AreGood [] = Unit {0}
 AreGood (e ∷ es) = IsGood e.item × AreGood es
 
-value_good : (section : Section) (key : Key) (r : Result Value CfgKind) → Judges (row_of key).kind r → IsGood (with_value section key r)
+value_good : (section : Section) (key : Key) (r : Result Value CfgKind) → Judges (option_row key).kind r → IsGood (with_value section key r)
 value_good section key (Ok v) h = h
 value_good section key (Err fault) h = tt
 
@@ -184,7 +184,7 @@ continued_good : (lenient : Bool) → IsGood (cond lenient Skipped (Wrong BadLin
 continued_good true = tt
 continued_good false = tt
 
-meant_good : (place : Place) (line : Said) → IsGood (meant place line)
+meant_good : (place : Place) (line : ConfigurationLine) → IsGood (meant place line)
 meant_good place Nothing = tt
 meant_good place (Begins name) = opened_good (section_of name)
 meant_good place Continues = continued_good place.lenient
@@ -367,7 +367,7 @@ steppers_few names motors number (item ∷ all) e h =
 
 -- ---- the machine
 
-unless_ok : (o : Option CfgFault) (next : Result Machine CfgFault) (m : Machine) → unless o next ≡ Ok m → (o ≡ None) × (next ≡ Ok m)
+unless_ok : (o : Option CfgFault) (next : Result Machine CfgFault) (m : Machine) → machine_unless o next ≡ Ok m → (o ≡ None) × (next ≡ Ok m)
 unless_ok None next m e = (refl, e)
 unless_ok (Some fault) next m e = cc
 
@@ -404,7 +404,7 @@ items_built all m g e =
     let uses = all_uses es motors in
     let boards = board_defs es uses names in
     let lines = unless_ok (first_fault [] [] 1 all) (reading_of_entries es names motors (passed_over all)) m e in
-    let wiring = unless_ok (wiring_fault names es uses) (unless (missing es names motors) (assembled es motors (passed_over all) boards)) m lines.1 in
+    let wiring = unless_ok (wiring_fault names es uses) (machine_unless (missing es names motors) (assembled es motors (passed_over all) boards)) m lines.1 in
     let whole = unless_ok (missing es names motors) (assembled es motors (passed_over all) boards) m wiring.1 in
     record {
       es = es;
@@ -419,10 +419,10 @@ within : (b : Bool) (r : Result Machine CfgFault) (m : Machine) → cond b (Err 
 within true r m e = cc
 within false r m e = e
 
-built : (text : List ℕ) (m : Machine) → reading text ≡ Ok m → IsBuilt m
-unfolding reading
+built : (text : List ℕ) (m : Machine) → machine_of_text text ≡ Ok m → IsBuilt m
+unfolding machine_of_text
 built text m e =
-    items_built (items start (lines_of text)) m (items_good start (lines_of text)) (within (nat_lt 1_048_576 (length text)) (reading_of_items (items start (lines_of text))) m e)
+    items_built (items first_place (lines_of text)) m (items_good first_place (lines_of text)) (within (nat_lt 1_048_576 (length text)) (reading_of_items (items first_place (lines_of text))) m e)
 
 board_there : (es : List Entry) (uses : List Use) (names : List (List ℕ)) (b : ℕ) (d : BoardDef) → b < length (board_defs es uses names)
     → (name : List ℕ) × (get_or (board_defs es uses names) b d ≡ board_def es uses name)
@@ -442,7 +442,7 @@ def_small es motors name g few =
     let pins = pins_few name 0 [] (all_uses es motors) uses.short (record { few = omega arith; short = tt }) in
     record { freq = clock_small es name g; few = omega (arith, pins.few, uses.few); short = pins.short }
 
-pub boards_small : (text : List ℕ) (m : Machine) → reading text ≡ Ok m → (b : ℕ) → b < length m.boards → IsSmall (board_at m b)
+pub boards_small : (text : List ℕ) (m : Machine) → machine_of_text text ≡ Ok m → (b : ℕ) → b < length m.boards → IsSmall (board_at m b)
 boards_small text m e b below =
     let made = built text m e in
     let defs = board_defs made.es (all_uses made.es made.motors) made.names in

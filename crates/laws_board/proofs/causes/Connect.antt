@@ -11,11 +11,11 @@ use Rattle.msg_code.specs.declared.talk.State.{State}
 use Rattle.board_asking.specs.declared.asking.Stage.{Stage}
 use Rattle.board_asking.specs.Asking.{were_put}
 use Rattle.board_asking.specs.Machine.{configuration}
-use Rattle.board_asking.specs.Turns.{AreUnanswered, behind}
+use Rattle.board_asking.specs.Turns.{AreUnanswered, asking_in_turn}
 use Rattle.host_reactor.specs.declared.ordered.Phase.TheVariants.{Connecting}
 use Rattle.host_reactor.specs.Notes.{is_out, noted}
 use Rattle.host_reactor.specs.Running.{first_cause}
-use Rattle.host_reactor.specs.Runs.{Came, HaveStates, known_by, last_turn, state_at, told_by}
+use Rattle.host_reactor.specs.Runs.{Came, HaveStates, known_by, last_reacted, state_at, told_by}
 use Rattle.host_reactor.proofs.Connects.{silent-eight}
 use Rattle.laws_board.specs.turns.Turns.{BoardTurn, latest_state}
 use Rattle.laws_board.specs.clocks.Runs.{IsInRun, UnitsFit}
@@ -32,7 +32,7 @@ use Rattle.laws_board.proofs.causes.Row.{Asks, Out, hindered, out_of}
 -- the reactor's count of a board's askings, in each of its turns
 owes_at : (m : Machine) (switches : List Switch) (pins : List (List Level)) (entries : List Entry) (b : ℕ) (came : List Came) (turns : List BoardTurn) → IsValidMachine m
     → IsInRun m switches pins entries b came turns → (known_by m switches came).phase ≡ Connecting → UnitsFit turns → length turns < 2 ^ 59 → (k : ℕ) (n : Next k turns) → k < length turns
-    → Matches (were_put n.t.state.turn n.t.state.asked (behind (configuration m b) (length (states_of (before_turn k turns))) (asking_in (configuration m b) (before_turn k turns)))) n.t.after.core.link
+    → Matches (were_put n.t.state.turn n.t.state.asked (asking_in_turn (configuration m b) (length (states_of (before_turn k turns))) (asking_in (configuration m b) (before_turn k turns)))) n.t.after.core.link
 owes_at m switches pins entries b came turns v r p u small k n h =
     let setups = configuration m b in
     let before = before_turn k turns in
@@ -41,7 +41,7 @@ owes_at m switches pins entries b came turns v r p u small k n h =
     let size : length (n.t ∷ before) ≡ k + 1 = ap length (sym n.is) ∙ before_length (k + 1) turns (omega arith) in
     let so = connecting_so m switches pins entries b to.came (n.t ∷ before) to.run to.phase in
     let o = owes m switches pins entries b to.came (n.t ∷ before) v to.run fits (omega arith) (asking_behind setups (n.t ∷ before)) so.asking in
-    subst (λ (i : ℕ). Matches (were_put n.t.state.turn n.t.state.asked (behind setups i (asking_in setups before))) n.t.after.core.link) (sym (states_length before)) o.matches
+    subst (λ (i : ℕ). Matches (were_put n.t.state.turn n.t.state.asked (asking_in_turn setups i (asking_in setups before))) n.t.after.core.link) (sym (states_length before)) o.matches
 
 pub asks_in : (m : Machine) (switches : List Switch) (pins : List (List Level)) (entries : List Entry) (b : ℕ) (came : List Came) (turns : List BoardTurn) → IsValidMachine m
     → IsInRun m switches pins entries b came turns → (known_by m switches came).phase ≡ Connecting → UnitsFit turns → length turns < 2 ^ 59 → Asks m pins entries b (configuration m b) turns
@@ -55,7 +55,7 @@ asks_in m switches pins entries b came turns v r p u small = record {
 pub connect_cause : (m : Machine) (switches : List Switch) (pins : List (List Level)) (entries : List Entry) (b : ℕ) (c : Came) (before : List Came) (turns : List BoardTurn) (turn : ℕ) → IsValidMachine m
     → IsInRun m switches pins entries b before turns → HaveStates m (c ∷ before) → state_at b c.states ≡ latest_state turns → BringNoSteps turns → length before < 2 ^ 59
     → first_cause (is_out c.note) (noted m c.note (known_by m switches before)).stopped c.states ≡ None
-    → (last_turn m switches c before).ordered.end ≡ Some (cause.Connect b turn)
+    → (last_reacted m switches c before).ordered.end ≡ Some (cause.Connect b turn)
     → (count : ℕ) × (8 ≤ count) × AreUnanswered (configuration m b) (told_by b (c ∷ before)) turn count × AreHindered (first_state (board_at m b) pins b entries) turns turn count
 connect_cause m switches pins entries b c before turns turn v r h e none small first end =
     let setups = configuration m b in

@@ -5,7 +5,7 @@ use Rattle.wire_scene.specs.declared.scene.Entry.{Entry}
 use Rattle.wire_scene.specs.Wire.{Line}
 use Rattle.wire_scene.specs.WireRuns.{AreOver}
 use Rattle.link_work.specs.Answers.{IsAmong}
-use Rattle.link_work.specs.Used.{IsRun, used_in}
+use Rattle.link_work.specs.Used.{IsLineRun, used_in}
 use Rattle.link_work.proofs.Answered.{calm_is}
 
 later_or : (since : ℕ) (ks : List ℕ) → AreOver (since + 4) ks ⊎ ((k : ℕ) × (since ≤ k) × IsAmong k ks)
@@ -18,7 +18,7 @@ later_or since (k ∷ ks) = elim (leb_tells since k) [
   ]
 ]
 
-pub used_since : (connecting entries : List Entry) (turns since : ℕ) (l : Line) (r : IsRun connecting entries turns l) → since + 4 < l.calm → (k : ℕ) × (since ≤ k) × IsAmong k (used_in connecting entries r.dones)
+pub used_since : (connecting entries : List Entry) (turns since : ℕ) (l : Line) (r : IsLineRun connecting entries turns l) → since + 4 < l.calm → (k : ℕ) × (since ≤ k) × IsAmong k (used_in connecting entries r.dones)
 used_since connecting entries turns since l r h = elim (later_or since (used_in connecting entries r.dones)) [
   | inl over ↦ let calm = (calm_is connecting entries turns since l r).1 over in absurd (omega arith)
   | inr some ↦ some

@@ -10,8 +10,8 @@ use Rattle.board_asking.specs.declared.asking.Asking.{Asking}
 use Rattle.board_asking.specs.declared.asking.Stage.{Stage}
 use Rattle.board_asking.specs.declared.asking.Stage.TheVariants.{Identify, Uptime, Configure, Config, Connected}
 use Rattle.board_asking.specs.declared.setup.Setup.{Setup}
-use Rattle.board_asking.specs.Asking.{after_asks, after_clock, after_drift, after_piece, answered, asked, hears, is_due, is_in_time, is_over, listens, more, or_else, ready, ready_stage, sample_of, settled, tells_clock, was_put, were_put}
-use Rattle.board_asking.specs.Turns.{AsksOf, behind, heard}
+use Rattle.board_asking.specs.Asking.{after_asks, after_clock, after_drift, after_piece, answered, asked, hears_first, is_question_due, is_in_time, is_over, listens, more, or_asking, ready, ready_stage, sample_of, settled, tells_clock, was_put, were_put}
+use Rattle.board_asking.specs.Turns.{AsksOf, asking_in_turn, heard}
 use Rattle.board_asking.proofs.Configured.{Listens, listened}
 use Rattle.laws_board.proofs.clocks.Lines.{were_stage}
 use Rattle.link_work.specs.Answers.{IsAmong}
@@ -32,20 +32,20 @@ none_out turn a Config number (cmd.Config is_config crc is_shutdown move_count) 
 none_out turn a Connected number (cmd.Uptime high low) = out_if (tells_clock a number) (after_drift a (sample_of a turn high low)) refl
 none_out turn a stage number c = tt
 
-or_none : (o : Option Asking) (b : Asking) → NoneOut o → b.since ≡ None → (or_else o b).since ≡ None
+or_none : (o : Option Asking) (b : Asking) → NoneOut o → b.since ≡ None → (or_asking o b).since ≡ None
 or_none None b n e = e
 or_none (Some a) b n e = n
 
-some_none : (o : Option Asking) (b : Asking) → NoneOut o → (o ≡ None → ⊥) → (or_else o b).since ≡ None
+some_none : (o : Option Asking) (b : Asking) → NoneOut o → (o ≡ None → ⊥) → (or_asking o b).since ≡ None
 some_none None b n s = absurd (s refl)
 some_none (Some a) b n s = n
 
-hears_none : (turn : ℕ) (news : List News) (a : Asking) (n : News) → IsAmong n news → (answered turn a a.stage n.number n.answer ≡ None → ⊥) → (hears turn news a).since ≡ None
+hears_none : (turn : ℕ) (news : List News) (a : Asking) (n : News) → IsAmong n news → (answered turn a a.stage n.number n.answer ≡ None → ⊥) → (hears_first turn news a).since ≡ None
 hears_none turn [] a n k s = absurd k
 hears_none turn (x ∷ news) a n (inl e) s =
-    some_none (answered turn a a.stage x.number x.answer) (hears turn news a) (none_out turn a a.stage x.number x.answer) (λ none. s (ap (λ (y : News). answered turn a a.stage y.number y.answer) (sym e) ∙ none))
+    some_none (answered turn a a.stage x.number x.answer) (hears_first turn news a) (none_out turn a a.stage x.number x.answer) (λ none. s (ap (λ (y : News). answered turn a a.stage y.number y.answer) (sym e) ∙ none))
 hears_none turn (x ∷ news) a n (inr k) s =
-    or_none (answered turn a a.stage x.number x.answer) (hears turn news a) (none_out turn a a.stage x.number x.answer) (hears_none turn news a n k s)
+    or_none (answered turn a a.stage x.number x.answer) (hears_first turn news a) (none_out turn a a.stage x.number x.answer) (hears_none turn news a n k s)
 
 pub were_since : (turn : ℕ) (ns : List ℕ) (a : Asking) → (were_put turn ns a).since ≡ a.since
 were_since turn [] a = refl
@@ -59,7 +59,7 @@ answer_ends a s n k e l among some =
     let since : b.since ≡ Some k = were_since s.turn s.asked a ∙ e in
     let in_time : is_in_time s.turn b.since ≡ true = ap (is_in_time s.turn) since ∙ le-leb (s.turn - k) 3 (omega arith) in
     let stage : b.stage ≡ a.stage = were_stage s.turn s.asked a in
-    ap (λ (t : Bool). (cond t (hears s.turn s.news b) b).since) in_time
+    ap (λ (t : Bool). (cond t (hears_first s.turn s.news b) b).since) in_time
     ∙ hears_none s.turn s.news b n among (λ none. some (subst (λ (g : Stage). answered s.turn b g n.number n.answer ≡ None) stage none))
 
 -- an asking that stays out keeps its stage
@@ -78,10 +78,10 @@ either_same true x y g e f = e
 either_same false x y g e f = f
 
 behind_same : (setups : List Setup) (k : ℕ) (a : Asking) (stage : Stage) → a.stage ≡ stage → AsksOf stage → (after_asks setups k a stage).stage ≡ stage
-behind_same setups k a (Identify offset) e h = either_same (is_due k a.since) (asked k a) a (Identify offset) e e
-behind_same setups k a Uptime e h = either_same (is_due k a.since) (asked k a) a Uptime e e
+behind_same setups k a (Identify offset) e h = either_same (is_question_due k a.since) (asked k a) a (Identify offset) e e
+behind_same setups k a Uptime e h = either_same (is_question_due k a.since) (asked k a) a Uptime e e
 behind_same setups k a (Configure n) e h = absurd h
-behind_same setups k a Config e h = either_same (is_due k a.since) (asked k a) a Config e e
+behind_same setups k a Config e h = either_same (is_question_due k a.since) (asked k a) a Config e e
 behind_same setups k a Connected e h = absurd h
 
 -- an asking in a turn is out behind it, as long as it is in the next one
@@ -95,11 +95,11 @@ stays_out setups k a s stage g e out (inl p) =
     (record { stage = e; since = sym p.since ∙ out }, ap (ready_stage setups) (p.stage ∙ e) ∙ same_ready setups stage g)
 stays_out setups k a s stage g e out (inr none) = absurd (none_some _ k none.0 out)
 
-pub out_behind : (setups : List Setup) (n k : ℕ) (a : Asking) (s : State) (stage : Stage) → AsksOf stage → a.stage ≡ stage → (ready setups (listens (behind setups n a) s)).since ≡ Some k
-    → IsOut k stage (behind setups n a) × ((ready setups (listens (behind setups n a) s)).stage ≡ stage)
+pub out_behind : (setups : List Setup) (n k : ℕ) (a : Asking) (s : State) (stage : Stage) → AsksOf stage → a.stage ≡ stage → (ready setups (listens (asking_in_turn setups n a) s)).since ≡ Some k
+    → IsOut k stage (asking_in_turn setups n a) × ((ready setups (listens (asking_in_turn setups n a) s)).stage ≡ stage)
 out_behind setups n k a s stage g e out =
-    let same : (behind setups n a).stage ≡ stage = subst (λ (x : Stage). (after_asks setups n a x).stage ≡ stage) (sym e) (behind_same setups n a stage e g) in
-    stays_out setups k (behind setups n a) s stage g same out (listened (behind setups n a) s)
+    let same : (asking_in_turn setups n a).stage ≡ stage = subst (λ (x : Stage). (after_asks setups n a x).stage ≡ stage) (sym e) (behind_same setups n a stage e g) in
+    stays_out setups k (asking_in_turn setups n a) s stage g same out (listened (asking_in_turn setups n a) s)
 
 -- an offset has 32 bits
 abbrev pub SmallStage : Stage → Type 0
@@ -130,13 +130,13 @@ small_answer turn a Config number (cmd.Config is_config crc is_shutdown move_cou
 small_answer turn a Connected number (cmd.Uptime high low) = small_if (tells_clock a number) (after_drift a (sample_of a turn high low)) tt
 small_answer turn a stage number c = tt
 
-small_or : (o : Option Asking) (b : Asking) → SmallIn o → SmallStage b.stage → SmallStage (or_else o b).stage
+small_or : (o : Option Asking) (b : Asking) → SmallIn o → SmallStage b.stage → SmallStage (or_asking o b).stage
 small_or None b m h = h
 small_or (Some a) b m h = m
 
-small_hears : (turn : ℕ) (news : List News) (a : Asking) → SmallStage a.stage → SmallStage (hears turn news a).stage
+small_hears : (turn : ℕ) (news : List News) (a : Asking) → SmallStage a.stage → SmallStage (hears_first turn news a).stage
 small_hears turn [] a h = h
-small_hears turn (n ∷ news) a h = small_or (answered turn a a.stage n.number n.answer) (hears turn news a) (small_answer turn a a.stage n.number n.answer) (small_hears turn news a h)
+small_hears turn (n ∷ news) a h = small_or (answered turn a a.stage n.number n.answer) (hears_first turn news a) (small_answer turn a a.stage n.number n.answer) (small_hears turn news a h)
 
 small_asking : (b : Bool) (x y : Asking) → SmallStage x.stage → SmallStage y.stage → SmallStage (cond b x y).stage
 small_asking true x y h i = h
@@ -146,7 +146,7 @@ small_listens : (a : Asking) (s : State) → SmallStage a.stage → SmallStage (
 small_listens a s h =
     let b = were_put s.turn s.asked a in
     let i : SmallStage b.stage = subst SmallStage (sym (were_stage s.turn s.asked a)) h in
-    small_asking (is_in_time s.turn b.since) (hears s.turn s.news b) b (small_hears s.turn s.news b i) i
+    small_asking (is_in_time s.turn b.since) (hears_first s.turn s.news b) b (small_hears s.turn s.news b i) i
 
 small_ready : (setups : List Setup) (stage : Stage) → SmallStage stage → SmallStage (ready_stage setups stage)
 small_ready setups (Identify offset) h = h
@@ -156,14 +156,14 @@ small_ready setups Config h = tt
 small_ready setups Connected h = tt
 
 small_asks : (setups : List Setup) (k : ℕ) (a : Asking) (stage : Stage) → SmallStage a.stage → SmallStage (after_asks setups k a stage).stage
-small_asks setups k a (Identify offset) h = small_asking (is_due k a.since) (asked k a) a h h
-small_asks setups k a Uptime h = small_asking (is_due k a.since) (asked k a) a h h
+small_asks setups k a (Identify offset) h = small_asking (is_question_due k a.since) (asked k a) a h h
+small_asks setups k a Uptime h = small_asking (is_question_due k a.since) (asked k a) a h h
 small_asks setups k a (Configure n) h = tt
-small_asks setups k a Config h = small_asking (is_due k a.since) (asked k a) a h h
+small_asks setups k a Config h = small_asking (is_question_due k a.since) (asked k a) a h h
 small_asks setups k a Connected h = h
 
 pub small_heard : (setups : List Setup) (states : List State) → SmallStage (heard setups states).stage
 small_heard setups [] = omega arith
 small_heard setups (s ∷ states) =
     let a = heard setups states in
-    small_ready setups _ (small_listens (behind setups (length states) a) s (small_asks setups (length states) a a.stage (small_heard setups states)))
+    small_ready setups _ (small_listens (asking_in_turn setups (length states) a) s (small_asks setups (length states) a a.stage (small_heard setups states)))

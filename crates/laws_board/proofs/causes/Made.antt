@@ -12,7 +12,7 @@ use Rattle.msg_code.specs.declared.cmd.Cmd.TheVariants as cmd
 use Rattle.board_sim.specs.Board.{Controller, make_stepper, stepper_at}
 use Rattle.board_sim.specs.Board as board
 use Rattle.board_sim.specs.Fair.{Meant, commands_of}
-use Rattle.board_sim.specs.Rig.{Passed, Rig, Slot, acts, acts_running, all_left, at_of, earliest, goes_on, halts, happens, happens_to, levels_of, make_endstop, make_trigger, pass, passes, passes_by, rests_to, runs_to, slot_at, takes, takes_all}
+use Rattle.board_sim.specs.Rig.{Passed, Rig, Slot, acts, acts_running, all_left, at_of, earliest_moment, goes_on, halts, happens_at, happens_to, levels_of, make_endstop, make_trigger, pass, passes, passes_by, rests_to, runs_to, slot_at, takes, takes_all}
 use Rattle.board_sim.proofs.RigStates.{passes_state}
 
 -- what time and triggers keep of a board
@@ -39,19 +39,19 @@ happens_same : (r : Rig) (t oid : ℕ) (o : Option Slot) → Same (happens_to r 
 happens_same r t oid None = record { complete = refl; crc = refl; dictionary = refl }
 happens_same r t oid (Some s) = halts_same (s.trigger.can && not (trig.advanced (levels_of r s.pin) t s.trigger).trigger.can) s.bound r.controller
 
-goes_same : (o : Option (ℕ × ℕ)) (r : Rig) (t : ℕ) (rest : Passed) → Same rest.rig.controller (happens r t (at_of o)).rig.controller
-    → Same (goes_on o (rests_to r t) (passes_by (happens r t (at_of o)) rest)).rig.controller r.controller
+goes_same : (o : Option (ℕ × ℕ)) (r : Rig) (t : ℕ) (rest : Passed) → Same rest.rig.controller (happens_at r t (at_of o)).rig.controller
+    → Same (goes_on o (rests_to r t) (passes_by (happens_at r t (at_of o)) rest)).rig.controller r.controller
 goes_same None r t rest e = run_same r.controller t
 goes_same (Some at) r t rest e =
     let ran = (runs_to r (at.0 / 3)).rig in
-    same_both rest.rig.controller (happens r t at).rig.controller r.controller e
-    (same_both (happens r t at).rig.controller ran.controller r.controller (happens_same ran t at.1 (slot_at ran at.1)) (run_same r.controller (at.0 / 3)))
+    same_both rest.rig.controller (happens_at r t at).rig.controller r.controller e
+    (same_both (happens_at r t at).rig.controller ran.controller r.controller (happens_same ran t at.1 (slot_at ran at.1)) (run_same r.controller (at.0 / 3)))
 
 steps_same : (n : ℕ) (r : Rig) (t : ℕ) → Same (pass n r t).rig.controller r.controller
 steps_same zero r t = record { complete = refl; crc = refl; dictionary = refl }
 steps_same (suc n) r t =
-    let first = happens r t (at_of (earliest r t 0 r.triggers)) in
-    goes_same (earliest r t 0 r.triggers) r t (pass n first.rig t) (steps_same n first.rig t)
+    let first = happens_at r t (at_of (earliest_moment r t 0 r.triggers)) in
+    goes_same (earliest_moment r t 0 r.triggers) r t (pass n first.rig t) (steps_same n first.rig t)
 
 pub passes_same : (r : Rig) (t : ℕ) → Same (passes r t).rig.controller r.controller
 passes_same r t = elim (leb_tells r.controller.tick t) [ inl p ↦ rw p.0 (steps_same (all_left t r.triggers + 1) r t) | inr p ↦ rw p.0 (record { complete = refl; crc = refl; dictionary = refl }) ]

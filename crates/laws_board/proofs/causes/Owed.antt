@@ -11,7 +11,7 @@ use Rattle.board_asking.specs.declared.asking.Asking.{Asking}
 use Rattle.board_asking.specs.declared.asking.Put.{Put}
 use Rattle.board_asking.specs.Asking.{was_put, were_put}
 use Rattle.board_world.specs.declared.event.Event.TheVariants as event
-use Rattle.board_world.specs.World.{Core, Step, Do, Turn, happens, run}
+use Rattle.board_world.specs.World.{Core, Step, Do, Turn, after_event, run_world}
 use Rattle.link_work.specs.Answers.{IsInBlock}
 use Rattle.link_work.specs.Limits.{closing_in}
 use Rattle.link_work.specs.Told.{asked_by, asked_in}
@@ -134,13 +134,13 @@ sends_one turn a l (c ∷ cs) e m =
         → link.send l (c ∷ cs) ≡ record l { blocks = l.blocks ++ next_block 59 (c ∷ cs) ∷ []; waiting = drop (length (next_block 59 (c ∷ cs))) (c ∷ cs); down = l.down ++ sent l ∷ []; puts = l.puts ++ l.turn ∷ [] }
     sent_if h = rw h refl
 
-sends_many : (n turn : ℕ) (a : Asking) (h : Core) → Matches a h.link → Matches (were_put turn (asked_in (sends n) h) a) (run (sends n) h).link
+sends_many : (n turn : ℕ) (a : Asking) (h : Core) → Matches a h.link → Matches (were_put turn (asked_in (sends n) h) a) (run_world (sends n) h).link
 unfolding sends
 sends_many zero turn a h m = m
 sends_many (suc n) turn a h m =
-    let g = happens h event.Send in
+    let g = after_event h event.Send in
     let one = sends_one turn a h.link h.link.waiting refl m in
-    subst (λ (x : Asking). Matches x (run (sends n) g).link) (sym (put_append turn (asked_by h g) (asked_in (sends n) g) a)) (sends_many n turn (were_put turn (asked_by h g) a) g one)
+    subst (λ (x : Asking). Matches x (run_world (sends n) g).link) (sym (put_append turn (asked_by h g) (asked_in (sends n) g) a)) (sends_many n turn (were_put turn (asked_by h g) a) g one)
 
 -- the host's part of a turn
 queues : (a c : Asking) (l g : Link) (more : List Command) → g.blocks ≡ l.blocks → g.waiting ≡ l.waiting ++ more → c.owed ≡ a.owed + closing_in more → c.put ≡ a.put → AllFit more → Matches a l → Matches c g
@@ -155,29 +155,29 @@ queues a c l g more blocks waiting owed put fit m =
 abbrev queued_first : ℕ → Orders → Bool → List Step
 queued_first turn o resent = Turn turn ∷ Do (event.Control o.control) ∷ Do (event.Put o.batch) ∷ resends resent
 
-first_blocks : (turn : ℕ) (o : Orders) (resent : Bool) (h : Core) → (run (queued_first turn o resent) h).link.blocks ≡ h.link.blocks
+first_blocks : (turn : ℕ) (o : Orders) (resent : Bool) (h : Core) → (run_world (queued_first turn o resent) h).link.blocks ≡ h.link.blocks
 first_blocks turn o true h = refl
 first_blocks turn o false h = refl
 
 first_waiting : (turn : ℕ) (o : Orders) (resent : Bool) (h : Core)
-    → (run (queued_first turn o resent) h).link.waiting ≡ (h.link.waiting ++ map on_wire (map plain o.control.commands)) ++ map on_wire (units_orders o.batch.units)
+    → (run_world (queued_first turn o resent) h).link.waiting ≡ (h.link.waiting ++ map on_wire (map plain o.control.commands)) ++ map on_wire (units_orders o.batch.units)
 first_waiting turn o true h = refl
 first_waiting turn o false h = refl
 
 pub host_matches : (k turn : ℕ) (o : Orders) (resent : Bool) (h : Core) (a c : Asking) → c.owed ≡ a.owed + closing_in (map on_wire (map plain o.control.commands)) → c.put ≡ a.put
     → AllFit (map on_wire (map plain o.control.commands)) → AllFit (map on_wire (units_orders o.batch.units)) → closing_in (map on_wire (units_orders o.batch.units)) ≡ 0
-    → Matches a h.link → Matches (were_put k (asked_in (host_steps turn o resent) h) c) (run (host_steps turn o resent) h).link
+    → Matches a h.link → Matches (were_put k (asked_in (host_steps turn o resent) h) c) (run_world (host_steps turn o resent) h).link
 host_matches k turn o resent h a c owed put fit units none m =
     let first = queued_first turn o resent in
-    let g = run first h in
+    let g = run_world first h in
     let controls = map on_wire (map plain o.control.commands) in
     let more = map on_wire (units_orders o.batch.units) in
     let whole : g.link.waiting ≡ h.link.waiting ++ (controls ++ more) = first_waiting turn o resent h ∙ append_assoc h.link.waiting controls more in
     let at = queues a c h.link g.link (controls ++ more) (first_blocks turn o resent h) whole (omega (arith, closing_append controls more)) put (fit_append controls more fit units) m in
     let asked : asked_in (host_steps turn o resent) h ≡ asked_in (sends 12) g = asked_after turn o resent h (sends 12) in
-    let steps : run (host_steps turn o resent) h ≡ run (sends 12) g = run_append first (sends 12) h in
+    let steps : run_world (host_steps turn o resent) h ≡ run_world (sends 12) g = run_append first (sends 12) h in
     subst (λ (x : Core). Matches (were_put k (asked_in (host_steps turn o resent) h) c) x.link) (sym steps)
-    (subst (λ (ns : List ℕ). Matches (were_put k ns c) (run (sends 12) g).link) (sym asked) (sends_many 12 k c g at))
+    (subst (λ (ns : List ℕ). Matches (were_put k ns c) (run_world (sends 12) g).link) (sym asked) (sends_many 12 k c g at))
 
 pub turn_matches : (clock : BoardClock) (turn k : ℕ) (o : Orders) (l m : LinkState) (a c : Asking) → IsSound l turn → (t : IsTurn clock turn o l m)
     → c.owed ≡ a.owed + closing_in (map on_wire (map plain o.control.commands)) → c.put ≡ a.put

@@ -31,7 +31,7 @@ use Rattle.board_asking.specs.declared.asking.Stage.{Stage}
 use Rattle.board_asking.specs.declared.asking.Stage.TheVariants.{Identify, Uptime, Configure, Config, Connected}
 use Rattle.board_asking.specs.declared.setup.Setup.{Setup}
 use Rattle.board_asking.specs.declared.setup.Setup.TheVariants.{Oids, Stepper, Trsync, Endstop, Finish}
-use Rattle.board_asking.specs.Asking.{after_asks, after_clock, after_drift, after_piece, answered, asked, asks, asks_clock, hears, is_due, is_in_time, more, new_asking, or_else, ready, sample_of, settled, tells_clock, were_put}
+use Rattle.board_asking.specs.Asking.{after_asks, after_clock, after_drift, after_piece, answered, asked, asks, asks_clock, hears_first, is_question_due, is_in_time, more, new_asking, or_asking, ready, sample_of, settled, tells_clock, were_put}
 use Rattle.board_asking.specs.Drift.{after_question, asks_now, clock_question, drifts, is_asked_now, is_unanswered, waits_in}
 use Rattle.board_asking.specs.Machine.{configuration, control_bytes, fitting, setup_command}
 use Rattle.axis_homing.specs.Homing.{homing_turn}
@@ -39,7 +39,7 @@ use Rattle.host_reactor.specs.declared.ordered.Known.{Known}
 use Rattle.host_reactor.specs.Laws.{uptimes}
 use Rattle.host_reactor.specs.Notes.{noted}
 use Rattle.host_reactor.specs.Reactor.{Reacted, homing_commands, stop_command, stops}
-use Rattle.host_reactor.specs.Runs.{Came, known_by, last_turn}
+use Rattle.host_reactor.specs.Runs.{Came, known_by, last_reacted}
 use Rattle.host_reactor.proofs.Uptimes.{append as uptimes_append, commands-none}
 use Rattle.laws_board.specs.turns.Turns.{BoardTurn, latest_state, stands_after}
 use Rattle.laws_board.specs.clocks.Runs.{IsInRun, UnitsFit, orders_in}
@@ -115,13 +115,13 @@ kept_answer turn a Config number (cmd.Config is_config crc is_shutdown move_coun
 kept_answer turn a Connected number (cmd.Uptime high low) = kept_if (tells_clock a number) (after_drift a (sample_of a turn high low)) a (record { owed = refl; put = refl })
 kept_answer turn a stage number c = tt
 
-kept_or : (o : Option Asking) (b a : Asking) → KeptIn o a → Kept b a → Kept (or_else o b) a
+kept_or : (o : Option Asking) (b a : Asking) → KeptIn o a → Kept b a → Kept (or_asking o b) a
 kept_or None b a m k = k
 kept_or (Some x) b a m k = m
 
-kept_hears : (turn : ℕ) (news : List News) (a : Asking) → Kept (hears turn news a) a
+kept_hears : (turn : ℕ) (news : List News) (a : Asking) → Kept (hears_first turn news a) a
 kept_hears turn [] a = record { owed = refl; put = refl }
-kept_hears turn (n ∷ news) a = kept_or (answered turn a a.stage n.number n.answer) (hears turn news a) a (kept_answer turn a a.stage n.number n.answer) (kept_hears turn news a)
+kept_hears turn (n ∷ news) a = kept_or (answered turn a a.stage n.number n.answer) (hears_first turn news a) a (kept_answer turn a a.stage n.number n.answer) (kept_hears turn news a)
 
 kept_either : (b : Bool) (x y a : Asking) → Kept x a → Kept y a → Kept (cond b x y) a
 kept_either true x y a k l = k
@@ -136,7 +136,7 @@ kept_now : (a : Asking) (turns : List BoardTurn) → Kept (heard_now a (latest_s
 kept_now a [] = record { owed = refl; put = refl }
 kept_now a (t ∷ turns) =
     let b = were_put t.state.turn t.state.asked a in
-    kept_either (is_in_time t.state.turn b.since) (hears t.state.turn t.state.news b) b b (kept_hears t.state.turn t.state.news b) (record { owed = refl; put = refl })
+    kept_either (is_in_time t.state.turn b.since) (hears_first t.state.turn t.state.news b) b b (kept_hears t.state.turn t.state.news b) (record { owed = refl; put = refl })
 
 -- what is asked in a turn
 record Owing (a y : Asking) (commands : List Cmd) : Type 0 where
@@ -168,11 +168,11 @@ no_commands true = refl
 no_commands false = refl
 
 owing_asks : (setups : List Setup) (k : ℕ) (a : Asking) (stage : Stage) → a.owed < 2 ^ 59 → a.stage ≡ stage → Owing a (after_asks setups k a stage) (asks setups k a stage)
-owing_asks setups k a (Identify offset) few e = none_owed (is_due k a.since) k a (Identify offset) (cmd.Identify offset 40) e refl refl
-owing_asks setups k a Uptime few e = one_owed (is_due k a.since) k a few e
+owing_asks setups k a (Identify offset) few e = none_owed (is_question_due k a.since) k a (Identify offset) (cmd.Identify offset 40) e refl refl
+owing_asks setups k a Uptime few e = one_owed (is_question_due k a.since) k a few e
 owing_asks setups k a (Configure n) few e = record { owed = omega (arith, setups_open (fitting control_bytes (drop n setups))); put = refl }
-owing_asks setups k a Config few e = none_owed (is_due k a.since) k a Config cmd.GetConfig e refl refl
-owing_asks setups k a Connected few e = record { owed = omega (arith, no_commands (is_due k a.since)); put = refl }
+owing_asks setups k a Config few e = none_owed (is_question_due k a.since) k a Config cmd.GetConfig e refl refl
+owing_asks setups k a Connected few e = record { owed = omega (arith, no_commands (is_question_due k a.since)); put = refl }
 
 pub stop_open : (stop : Bool) → uptimes (stop_command stop) ≡ 0
 stop_open true = refl
@@ -256,7 +256,7 @@ owes m switches pins entries b (c ∷ before) (t ∷ turns) v r u small y e =
     let owed_a : x.a.owed ≡ was.owed = ap (λ (z : Asking). z.owed) x.hears ∙ kept.owed in
     let put_a : x.a.put ≡ was.put = ap (λ (z : Asking). z.put) x.hears ∙ kept.put in
     let now = old.now in
-    let o = owing_turn m (noted m c.note (known_by m switches before)) b (length before) c.states x.a (last_turn m switches c before) t.control y (omega (arith, owed_a, now, small)) e x.turned in
+    let o = owing_turn m (noted m c.note (known_by m switches before)) b (length before) c.states x.a (last_reacted m switches c before) t.control y (omega (arith, owed_a, now, small)) e x.turned in
     let sound = (begins (board_at m b) pins b entries (orders_in turns) l (turns_in_order clock first turns rest.turns_are)).sound in
     let told = r.turns_are.0 in
     let fit = few_fit (map on_wire (map plain t.control.commands)) (let k = control_limit m switches pins entries b c before t turns v r in omega arith) in

@@ -41,13 +41,13 @@ use Rattle.board_trig.specs.Trigger as trig
 use Rattle.board_sim.specs.Board.{Controller, stepper_at}
 use Rattle.board_sim.specs.Board as board
 use Rattle.board_sim.specs.Fair.{commands_of}
-use Rattle.board_sim.specs.Rig.{Done, Passed, Rig, Slot, acts, acts_running, all_left, at_of, becomes, bind, earliest, expires_at_once, goes_on, happens_to, home, pass, passes, passes_by, rests_to, runs_to, set_timeout, slot_at, start, takes, takes_all, told, trigger}
+use Rattle.board_sim.specs.Rig.{RigDone, Passed, Rig, Slot, acts, acts_running, all_left, at_of, becomes, bind, earliest_moment, expires_at_once, goes_on, happens_to, home, pass, passes, passes_by, rests_to, runs_to, set_timeout, slot_at, start_trigger, takes, takes_all, trigger_answers, trigger}
 use Rattle.board_sim.specs.Rig as rig
 use Rattle.board_sim.specs.Turn.{says_shut}
 use Rattle.board_world.specs.declared.event.Event.{Event}
 use Rattle.board_world.specs.declared.event.Event.TheVariants as event
 use Rattle.board_world.specs.Stands.{IsAnswer}
-use Rattle.board_world.specs.World.{Core, Do, Step, Turn, does, happens, in_turn, run, says, shut_before, takes_in, text_of}
+use Rattle.board_world.specs.World.{Core, Do, Step, Turn, does, after_event, in_turn, run_world, says, shut_before, takes_in, wire_text}
 use Rattle.link_work.specs.Stands.{first_state, orders}
 use Rattle.link_work.specs.Told.{AreNews, IsTold, before_replies, news_of}
 use Rattle.link_work.specs.Turn.{IsTurn, LinkState, Orders, after_host, board_steps, come, host_steps}
@@ -124,13 +124,13 @@ board_takes text b cmd.GetUptime e = record { same = e; pieces = (tt, tt) }
 board_takes text b c e = board_running text b.state b c e
 
 -- the board with its triggers
-abbrev TellsOf : List ℕ → Done → Type 0
+abbrev TellsOf : List ℕ → RigDone → Type 0
 TellsOf text d = Tells text d.rig.controller d.answers
 
 becomes_of : (text : List ℕ) (r : Rig) (oid : ℕ) (s : Slot) (t : Trigger) → r.controller.dictionary ≡ text → (becomes r oid s t).controller.dictionary ≡ text
 becomes_of text r oid s t e = (halts_same (s.trigger.can && not t.can) s.bound r.controller).dictionary ∙ e
 
-start_of : (text : List ℕ) (r : Rig) (oid : ℕ) (o : Option Slot) (clock every reason : ℕ) → r.controller.dictionary ≡ text → (start r oid o clock every reason).controller.dictionary ≡ text
+start_of : (text : List ℕ) (r : Rig) (oid : ℕ) (o : Option Slot) (clock every reason : ℕ) → r.controller.dictionary ≡ text → (start_trigger r oid o clock every reason).controller.dictionary ≡ text
 start_of text r oid None clock every reason e = e
 start_of text r oid (Some s) clock every reason e = becomes_of text r oid s (trig.started r.controller.tick clock every reason s.trigger) e
 
@@ -184,7 +184,7 @@ rig_all text r (c ∷ cs) e =
     record { same = rest.same; pieces = each_both (IsPiece (length text)) (takes r c).answers (takes_all (takes r c).rig cs).answers one.pieces rest.pieces }
 
 -- while time passes
-told_pieces : (size oid : ℕ) (o : Option TrigEvent) → Each (IsPiece size) (told oid o)
+told_pieces : (size oid : ℕ) (o : Option TrigEvent) → Each (IsPiece size) (trigger_answers oid o)
 told_pieces size oid None = tt
 told_pieces size oid (Some e) = (tt, tt)
 
@@ -199,9 +199,9 @@ goes_pieces size (Some at) x y k l = l
 pass_pieces : (size n : ℕ) (r : Rig) (t : ℕ) → Each (IsPiece size) (pass n r t).answers
 pass_pieces size zero r t = tt
 pass_pieces size (suc n) r t =
-    let next = earliest r t 0 r.triggers in
+    let next = earliest_moment r t 0 r.triggers in
     let ran = runs_to r ((at_of next).0 / 3) in
-    let first = rig.happens r t (at_of next) in
+    let first = rig.happens_at r t (at_of next) in
     goes_pieces size next (rests_to r t) (passes_by first (pass n first.rig t)) tt
     (each_both (IsPiece size) first.answers (pass n first.rig t).answers (happens_pieces size ran.rig t (at_of next).1 (slot_at ran.rig (at_of next).1)) (pass_pieces size n first.rig t))
 
@@ -224,7 +224,7 @@ says_pieces size r t =
     (shut_pieces size (shut_before r.controller.state r.controller.tick) r.controller.tick t)
 
 -- which bytes are a piece
-row_is : (c d : Cmd) → IsText own_formats d (text_of c) → row_of c ≡ row_of d
+row_is : (c d : Cmd) → IsText own_formats d (wire_text c) → row_of c ≡ row_of d
 row_is c d t =
     let i = t.spelled in
     let id = own_id (row_of c) in
@@ -258,7 +258,7 @@ piece_long offset bytes text t =
     let long = two_long t.params i.rest spelled in
     omega (arith, ap (λ (x : ArrayVec ℕ). length x.items) same.1, ap length i.joined, length-append i.first i.rest)
 
-piece_short : (offset : ℕ) (bytes : ArrayVec ℕ) → length bytes.items ≡ 0 → length (text_of (cmd.IdentifyResponse offset bytes)) < 40
+piece_short : (offset : ℕ) (bytes : ArrayVec ℕ) → length bytes.items ≡ 0 → length (wire_text (cmd.IdentifyResponse offset bytes)) < 40
 piece_short offset bytes e =
     let c = cmd.IdentifyResponse offset bytes in
     let whole = own_length c in
@@ -279,7 +279,7 @@ piece_short offset bytes e =
 abbrev pub IsWithin : ℕ → ℕ → ArrayVec ℕ → Type 0
 IsWithin size offset bytes = 40 ≤ length bytes.items → offset + 40 ≤ size
 
-by_row : (size : ℕ) (c : Cmd) (offset : ℕ) (bytes : ArrayVec ℕ) → size < 2 ^ 32 → IsPiece size c → row_of c ≡ row.IdentifyResponse → IsText own_formats (cmd.IdentifyResponse offset bytes) (text_of c) → IsWithin size offset bytes
+by_row : (size : ℕ) (c : Cmd) (offset : ℕ) (bytes : ArrayVec ℕ) → size < 2 ^ 32 → IsPiece size c → row_of c ≡ row.IdentifyResponse → IsText own_formats (cmd.IdentifyResponse offset bytes) (wire_text c) → IsWithin size offset bytes
 by_row size (cmd.IdentifyResponse at own) offset bytes few p e t whole =
     let c = cmd.IdentifyResponse at own in
     let all = p.0 in
@@ -287,12 +287,12 @@ by_row size (cmd.IdentifyResponse at own) offset bytes few p e t whole =
     elim (leb_tells (2 ^ 32) at) [
       | inl q ↦
           let late = q.1 in
-          let long = piece_long offset bytes (text_of c) t in
+          let long = piece_long offset bytes (wire_text c) t in
           let short = piece_short at own (omega arith) in
           absurd (omega arith)
       | inr q ↦
           let near = q.1 in
-          let one = one_text own_formats (cmd.IdentifyResponse offset bytes) c (text_of c) (text_of c) [] [] t (piece_text at own (omega arith) all) refl in
+          let one = one_text own_formats (cmd.IdentifyResponse offset bytes) c (wire_text c) (wire_text c) [] [] t (piece_text at own (omega arith) all) refl in
           let same = same_piece offset at bytes own one.1 in
           omega (arith, same.0, ap (λ (x : ArrayVec ℕ). length x.items) same.1)
     ]
@@ -302,7 +302,7 @@ by_row size c offset bytes few p e t whole = cc
 abbrev Pieced : ℕ → Reply → Type 0
 Pieced size r = (offset : ℕ) (bytes : ArrayVec ℕ) → IsText own_formats (cmd.IdentifyResponse offset bytes) r.answer → IsWithin size offset bytes
 
-replies_pieced : (size n : ℕ) (cs : List Cmd) → size < 2 ^ 32 → Each (IsPiece size) cs → AllUp (Pieced size) (numbered n (map text_of cs))
+replies_pieced : (size n : ℕ) (cs : List Cmd) → size < 2 ^ 32 → Each (IsPiece size) cs → AllUp (Pieced size) (numbered n (map wire_text cs))
 replies_pieced size n [] few k = tt
 replies_pieced size n (c ∷ cs) few k = (λ offset bytes t. by_row size c offset bytes few k.0 (row_is c (cmd.IdentifyResponse offset bytes) t) t, replies_pieced size n cs few k.1)
 
@@ -315,7 +315,7 @@ does_tell : (text : List ℕ) (h : Core) (e : Event) → h.board.controller.dict
 does_tell text h (event.Pass t) s = record { same = (passes_same h.board t).dictionary ∙ s; pieces = says_pieces (length text) h.board t }
 does_tell text h e s = rig_all text h.board (commands_of (takes_in h e)) s
 
-speaks_by : (text : List ℕ) (h : Core) (e : Event) → length text < 2 ^ 32 → Speaks text h → Speaks text (happens h e)
+speaks_by : (text : List ℕ) (h : Core) (e : Event) → length text < 2 ^ 32 → Speaks text h → Speaks text (after_event h e)
 speaks_by text h e few s =
     let d = does_tell text h e s.same in
     record {
@@ -323,9 +323,9 @@ speaks_by text h e few s =
       up = up_by (Pieced (length text)) h e (λ n offset bytes t. absurd (none_said (cmd.IdentifyResponse offset bytes) t)) (λ n is. replies_pieced (length text) n (does h e).answers few d.pieces) s.up;
     }
 
-speaks_along : (text : List ℕ) (steps : List Step) (h : Core) → length text < 2 ^ 32 → Speaks text h → Speaks text (run steps h)
+speaks_along : (text : List ℕ) (steps : List Step) (h : Core) → length text < 2 ^ 32 → Speaks text h → Speaks text (run_world steps h)
 speaks_along text [] h few s = s
-speaks_along text (Do e ∷ steps) h few s = speaks_along text steps (happens h e) few (speaks_by text h e few s)
+speaks_along text (Do e ∷ steps) h few s = speaks_along text steps (after_event h e) few (speaks_by text h e few s)
 speaks_along text (Turn turn ∷ steps) h few s = speaks_along text steps (in_turn h turn) few (record { same = s.same; up = s.up })
 
 -- the news of a turn

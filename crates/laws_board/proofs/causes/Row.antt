@@ -29,8 +29,8 @@ use Rattle.board_asking.specs.declared.asking.Put.{Put}
 use Rattle.board_asking.specs.declared.asking.Stage.{Stage}
 use Rattle.board_asking.specs.declared.asking.Stage.TheVariants.{Identify, Uptime, Configure, Config, Connected}
 use Rattle.board_asking.specs.declared.setup.Setup.{Setup}
-use Rattle.board_asking.specs.Asking.{answered, asks, is_behind, is_due, question, tells_clock, were_put}
-use Rattle.board_asking.specs.Turns.{AsksOf, IsOutBehind, WasAsked, behind, heard, heard_at}
+use Rattle.board_asking.specs.Asking.{answered, asks, is_behind, is_question_due, question, tells_clock, were_put}
+use Rattle.board_asking.specs.Turns.{AsksOf, IsOutBehind, WasAsked, asking_in_turn, heard, heard_at}
 use Rattle.laws_board.specs.turns.Turns.{AreBoardTurns, BoardTurn, stands_after}
 use Rattle.laws_board.specs.causes.Causes.{IsHindered, before_turn}
 use Rattle.laws_board.proofs.causes.Turns.{Next, are_before, before_length, next_turn, states_before, states_length, states_of, ticks_before}
@@ -48,7 +48,7 @@ pub record Asks (m : Machine) (pins : List (List Level)) (entries : List Entry) 
   pub in_range : board_tick (clock_of (board_at m b)) (length turns) < tick_limit
   pub all : AllAsk setups turns
   pub owes : (k : ℕ) (n : Next k turns) → k < length turns
-      → Matches (were_put n.t.state.turn n.t.state.asked (behind setups (length (states_of (before_turn k turns))) (asking_in setups (before_turn k turns)))) n.t.after.core.link
+      → Matches (were_put n.t.state.turn n.t.state.asked (asking_in_turn setups (length (states_of (before_turn k turns))) (asking_in setups (before_turn k turns)))) n.t.after.core.link
 
 -- the asking of a turn that stays out in the four turns
 pub record Out (setups : List Setup) (turns : List BoardTurn) (k : ℕ) (stage : Stage) : Type 0 where
@@ -59,7 +59,7 @@ pub record Out (setups : List Setup) (turns : List BoardTurn) (k : ℕ) (stage :
   pub out : (j : ℕ) → 1 ≤ j → j ≤ 4 → (asking_in setups (before_turn (k + j) turns)).since ≡ Some k
 
 one_later : (setups : List Setup) (turns before : List BoardTurn) (k : ℕ) (t : BoardTurn) (stage : Stage) → AsksOf stage → (asking_in setups before).stage ≡ stage → (asking_in setups (t ∷ before)).since ≡ Some k
-    → IsOut k stage (behind setups (length (states_of before)) (asking_in setups before)) × ((asking_in setups (t ∷ before)).stage ≡ stage)
+    → IsOut k stage (asking_in_turn setups (length (states_of before)) (asking_in setups before)) × ((asking_in setups (t ∷ before)).stage ≡ stage)
 one_later setups turns before k t stage g e out = out_behind setups (length (states_of before)) k (asking_in setups before) t.state stage g e out
 
 stage_at : (setups : List Setup) (turns : List BoardTurn) (k : ℕ) (stage : Stage) → Out setups turns k stage → (j : ℕ) → j ≤ 4 → (asking_in setups (before_turn (k + j) turns)).stage ≡ stage
@@ -73,10 +73,10 @@ stage_at setups turns k stage o (suc j) l =
     ∙ (one_later setups turns (before_turn (k + j) turns) k n.t stage o.is_asked (stage_at setups turns k stage o j (omega arith)) out).1
 
 -- behind the asking of a turn nothing is asked as long as it may be answered
-not_due : (k j : ℕ) → j ≤ 3 → is_due (k + j) (Some k) ≡ false
+not_due : (k j : ℕ) → j ≤ 3 → is_question_due (k + j) (Some k) ≡ false
 not_due k j h = lt-leb 4 (k + j - k) (omega arith)
 
-no_question : (setups : List Setup) (n : ℕ) (a : Asking) (stage : Stage) → AsksOf stage → is_due n a.since ≡ false → asks setups n a stage ≡ []
+no_question : (setups : List Setup) (n : ℕ) (a : Asking) (stage : Stage) → AsksOf stage → is_question_due n a.since ≡ false → asks setups n a stage ≡ []
 no_question setups n a (Identify offset) g e = ap (λ (t : Bool). cond t (question (Identify offset)) []) e
 no_question setups n a Uptime g e = ap (λ (t : Bool). cond t (question Uptime) []) e
 no_question setups n a (Configure i) g e = absurd g
@@ -119,7 +119,7 @@ queued_to setups turns k stage q o is a (suc j) l =
     let asking = asking_in setups (before_turn i turns) in
     let g = stage_at setups turns k stage o (suc j) (omega arith) in
     let since = o.out (suc j) (omega arith) (omega arith) in
-    let due : is_due i asking.since ≡ false = ap (is_due i) since ∙ not_due k (suc j) l in
+    let due : is_question_due i asking.since ≡ false = ap (is_question_due i) since ∙ not_due k (suc j) l in
     let commands : n.t.control.commands ≡ [] =
     asked_at setups turns i n a ∙ ap (λ (x : ℕ). asks setups x asking asking.stage) size ∙ ap (λ (x : Stage). asks setups i asking x) g ∙ no_question setups i asking stage o.is_asked due in
     let units = units_orders n.t.batch.units in
@@ -191,10 +191,10 @@ pub none_some : (o : Option ℕ) (k : ℕ) → o ≡ None → o ≡ Some k → �
 none_some o k e f = let g : None ≡ Some k = sym e ∙ f in cc
 
 pub counts_not : (setups : List Setup) (turns : List BoardTurn) (k j : ℕ) (stage : Stage) (n : Next (k + j) turns) (news : News) → Out setups turns k stage → j ≤ 3 → n.t.state.turn ≡ k + j → IsAmong news n.t.state.news
-    → (answered n.t.state.turn (were_put n.t.state.turn n.t.state.asked (behind setups (length (states_of (before_turn (k + j) turns))) (asking_in setups (before_turn (k + j) turns)))) stage news.number news.answer ≡ None → ⊥) → ⊥
+    → (answered n.t.state.turn (were_put n.t.state.turn n.t.state.asked (asking_in_turn setups (length (states_of (before_turn (k + j) turns))) (asking_in setups (before_turn (k + j) turns)))) stage news.number news.answer ≡ None → ⊥) → ⊥
 counts_not setups turns k j stage n news o few turn among some =
     let before = before_turn (k + j) turns in
-    let a = behind setups (length (states_of before)) (asking_in setups before) in
+    let a = asking_in_turn setups (length (states_of before)) (asking_in setups before) in
     let e : before_turn (k + (j + 1)) turns ≡ n.t ∷ before = ap (λ (i : ℕ). before_turn i turns) (omega arith) ∙ n.is in
     let out : (asking_in setups (n.t ∷ before)).since ≡ Some k = subst (λ (x : List BoardTurn). (asking_in setups x).since ≡ Some k) e (o.out (j + 1) (omega arith) (omega arith)) in
     let is = (one_later setups turns before k n.t stage o.is_asked (stage_at setups turns k stage o j (omega arith)) out).0 in
@@ -264,7 +264,7 @@ clock_counts m pins entries b setups turns k a o f =
     let tick = board_tick clock i in
     let heard = uptime_heard clock i (place_in turns k) n.t.after n.t.state.news x (command_is x.command cmd.GetUptime f.command) small in
     let ord = subst (λ (l : LinkState). IsOrdered l.core) (after_is first turns i n) (is_ordered (board_at m b) pins b entries (before_turn (i + 1) turns) (are_before clock first (i + 1) turns a.are)) in
-    let asking = were_put n.t.state.turn n.t.state.asked (behind setups (length (states_of (before_turn i turns))) (asking_in setups (before_turn i turns))) in
+    let asking = were_put n.t.state.turn n.t.state.asked (asking_in_turn setups (length (states_of (before_turn i turns))) (asking_in setups (before_turn i turns))) in
     let counts = clock_tells clock i (place_in turns k) n.t.after n.t.state.news x asking ord f.command f.open_rest (a.owes i n (omega arith)) in
     counts_not setups turns k f.j Uptime n (record { number = x.number + 1; answer = cmd.Uptime (tick / 2 ^ 32) (tick % 2 ^ 32) }) o f.few
     (turn_told m pins entries b setups turns i n a (omega arith)) heard

@@ -9,7 +9,7 @@ use Rattle.board_asking.specs.declared.asking.Asking.{Asking}
 use Rattle.board_asking.specs.declared.asking.Stage.{Stage}
 use Rattle.board_asking.specs.declared.asking.Stage.TheVariants.{Identify, Uptime, Configure, Config, Connected}
 use Rattle.board_asking.specs.declared.setup.Setup.{Setup}
-use Rattle.board_asking.specs.Asking.{after_asks, after_clock, after_drift, after_piece, answered, asked, hears, is_connected, is_due, is_in_time, is_over, or_else, ready, ready_stage, sample_of, settled, tells_clock, was_put, were_put}
+use Rattle.board_asking.specs.Asking.{after_asks, after_clock, after_drift, after_piece, answered, asked, hears_first, is_connected, is_question_due, is_in_time, is_over, or_asking, ready, ready_stage, sample_of, settled, tells_clock, was_put, were_put}
 use Rattle.laws_board.proofs.clocks.Turning.{heard_now}
 use Rattle.laws_board.proofs.causes.Hears.{were_since}
 
@@ -49,20 +49,20 @@ rests_answer turn a stage number c = tt
 abbrev Either : Asking → Asking → Type 0
 Either x a = (x ≡ a) ⊎ Rests x
 
-or_either : (o : Option Asking) (b a : Asking) → RestsIn o → Either b a → Either (or_else o b) a
+or_either : (o : Option Asking) (b a : Asking) → RestsIn o → Either b a → Either (or_asking o b) a
 or_either None b a r e = e
 or_either (Some x) b a r e = inr r
 
-hears_either : (turn : ℕ) (news : List News) (a : Asking) → Either (hears turn news a) a
+hears_either : (turn : ℕ) (news : List News) (a : Asking) → Either (hears_first turn news a) a
 hears_either turn [] a = inl refl
-hears_either turn (n ∷ news) a = or_either (answered turn a a.stage n.number n.answer) (hears turn news a) a (rests_answer turn a a.stage n.number n.answer) (hears_either turn news a)
+hears_either turn (n ∷ news) a = or_either (answered turn a a.stage n.number n.answer) (hears_first turn news a) a (rests_answer turn a a.stage n.number n.answer) (hears_either turn news a)
 
 stays_by : (x w a : Asking) → x ≡ w → Stays w a → Stays x a
 stays_by x w a e s = subst (λ (y : Asking). Stays y a) (sym e) s
 
-listens_if : (b : Bool) (turn : ℕ) (news : List News) (w a : Asking) → Stays w a → Stays (cond b (hears turn news w) w) a ⊎ Rests (cond b (hears turn news w) w)
+listens_if : (b : Bool) (turn : ℕ) (news : List News) (w a : Asking) → Stays w a → Stays (cond b (hears_first turn news w) w) a ⊎ Rests (cond b (hears_first turn news w) w)
 listens_if false turn news w a s = inl s
-listens_if true turn news w a s = elim (hears_either turn news w) [ inl e ↦ inl (stays_by (hears turn news w) w a e s) | inr r ↦ inr r ]
+listens_if true turn news w a s = elim (hears_either turn news w) [ inl e ↦ inl (stays_by (hears_first turn news w) w a e s) | inr r ↦ inr r ]
 
 pub heard_either : (a : Asking) (states : List State) → Stays (heard_now a states) a ⊎ Rests (heard_now a states)
 heard_either a [] = inl (record { stage = refl; since = refl; missed = refl; first = refl; waits = refl })
@@ -86,13 +86,13 @@ waits_answer turn a Config number (cmd.Config is_config crc is_shutdown move_cou
 waits_answer turn a Connected number (cmd.Uptime high low) = waits_if (tells_clock a number) (after_drift a (sample_of a turn high low)) a.waits refl
 waits_answer turn a stage number c = tt
 
-waits_or : (o : Option Asking) (b : Asking) (w : Bool) → WaitsIn o w → b.waits ≡ w → (or_else o b).waits ≡ w
+waits_or : (o : Option Asking) (b : Asking) (w : Bool) → WaitsIn o w → b.waits ≡ w → (or_asking o b).waits ≡ w
 waits_or None b w k e = e
 waits_or (Some x) b w k e = k
 
-waits_hears : (turn : ℕ) (news : List News) (a : Asking) → (hears turn news a).waits ≡ a.waits
+waits_hears : (turn : ℕ) (news : List News) (a : Asking) → (hears_first turn news a).waits ≡ a.waits
 waits_hears turn [] a = refl
-waits_hears turn (n ∷ news) a = waits_or (answered turn a a.stage n.number n.answer) (hears turn news a) a.waits (waits_answer turn a a.stage n.number n.answer) (waits_hears turn news a)
+waits_hears turn (n ∷ news) a = waits_or (answered turn a a.stage n.number n.answer) (hears_first turn news a) a.waits (waits_answer turn a a.stage n.number n.answer) (waits_hears turn news a)
 
 waits_either : (b : Bool) (x y : Asking) (w : Bool) → x.waits ≡ w → y.waits ≡ w → (cond b x y).waits ≡ w
 waits_either true x y w e f = e
@@ -103,10 +103,10 @@ heard_waits a [] = refl
 heard_waits a (s ∷ states) =
     let w = were_put s.turn s.asked a in
     let same = (were_stays s.turn s.asked a).waits in
-    waits_either (is_in_time s.turn w.since) (hears s.turn s.news w) w a.waits (waits_hears s.turn s.news w ∙ same) same
+    waits_either (is_in_time s.turn w.since) (hears_first s.turn s.news w) w a.waits (waits_hears s.turn s.news w ∙ same) same
 
 -- what is heard too late, or where nothing is out, changes nothing
-late_if : (b : Bool) (turn : ℕ) (news : List News) (w a : Asking) → b ≡ false → Stays w a → Stays (cond b (hears turn news w) w) a
+late_if : (b : Bool) (turn : ℕ) (news : List News) (w a : Asking) → b ≡ false → Stays w a → Stays (cond b (hears_first turn news w) w) a
 late_if false turn news w a e s = s
 late_if true turn news w a e s = cc
 
@@ -149,8 +149,8 @@ either_not true k a stage e n w = record { waits = w; rests = λ c. let x = sym 
 either_not false k a stage e n w = record { waits = w; rests = λ c. let x = sym (ap is_connected e ∙ n) ∙ c in cc }
 
 pub settled_asks : (setups : List Setup) (k : ℕ) (a : Asking) (stage : Stage) → a.stage ≡ stage → IsSettled a → IsSettled (after_asks setups k a stage)
-settled_asks setups k a (Identify offset) e s = either_not (is_due k a.since) k a (Identify offset) e refl s.waits
-settled_asks setups k a Uptime e s = either_not (is_due k a.since) k a Uptime e refl s.waits
+settled_asks setups k a (Identify offset) e s = either_not (is_question_due k a.since) k a (Identify offset) e refl s.waits
+settled_asks setups k a Uptime e s = either_not (is_question_due k a.since) k a Uptime e refl s.waits
 settled_asks setups k a (Configure n) e s = record { waits = s.waits; rests = λ c. cc }
-settled_asks setups k a Config e s = either_not (is_due k a.since) k a Config e refl s.waits
+settled_asks setups k a Config e s = either_not (is_question_due k a.since) k a Config e refl s.waits
 settled_asks setups k a Connected e s = s

@@ -21,7 +21,7 @@ use Rattle.plan_types.specs.declared.clock.BoardClock.{BoardClock}
 use Rattle.plan_types.specs.declared.plan.BoardState.{BoardState}
 use Rattle.plan_types.specs.declared.plan.BoardState.TheVariants.{Running, Shut}
 use Rattle.board_sim.specs.Rig.{Rig, acts_running, takes}
-use Rattle.board_world.specs.World.{text_of}
+use Rattle.board_world.specs.World.{wire_text}
 use Rattle.link_work.specs.Answers.{IsAmong, IsAnswered}
 use Rattle.link_work.specs.Turn.{LinkState}
 use Rattle.laws_board.proofs.clocks.Uptimes.{differ}
@@ -41,11 +41,11 @@ piece_spells offset bytes a few = record {
   joined = refl;
 }
 
-pub piece_text : (offset : ℕ) (bytes : ArrayVec ℕ) → offset < 2 ^ 32 → length bytes.items ≤ 40 → IsText own_formats (cmd.IdentifyResponse offset bytes) (text_of (cmd.IdentifyResponse offset bytes))
+pub piece_text : (offset : ℕ) (bytes : ArrayVec ℕ) → offset < 2 ^ 32 → length bytes.items ≤ 40 → IsText own_formats (cmd.IdentifyResponse offset bytes) (wire_text (cmd.IdentifyResponse offset bytes))
 piece_text offset bytes a few =
     let c = cmd.IdentifyResponse offset bytes in
     let r = row_of c in
-    is_text own_formats c (own_id r) (spelling (own_id r)) (params_text (params_of c)) (text_of c) (known own_formats r (own_id r) differ (own_number r)) (spelling_spells (own_id r) (omega arith))
+    is_text own_formats c (own_id r) (spelling (own_id r)) (params_text (params_of c)) (wire_text c) (known own_formats r (own_id r) differ (own_number r)) (spelling_spells (own_id r) (omega arith))
     (piece_spells offset bytes a few) (own_text c) refl
 
 abbrev pub piece_of : Rig → ℕ → Cmd
@@ -86,12 +86,12 @@ config_spells a b c d h i j k = record {
   joined = refl;
 }
 
-pub config_text : (moves : ℕ) → IsText own_formats (cmd.Config 1 0 0 (moves % 2 ^ 16)) (text_of (cmd.Config 1 0 0 (moves % 2 ^ 16)))
+pub config_text : (moves : ℕ) → IsText own_formats (cmd.Config 1 0 0 (moves % 2 ^ 16)) (wire_text (cmd.Config 1 0 0 (moves % 2 ^ 16)))
 config_text moves =
     let n = moves % 2 ^ 16 in
     let few : n < 2 ^ 16 = omega arith in
     let c = cmd.Config 1 0 0 n in
     let same : n % 2 ^ 16 ≡ n = omega arith in
     let back : cmd.Config (1 % 2 ^ 8) 0 (0 % 2 ^ 8) (n % 2 ^ 16) ≡ c = ap (λ (x : ℕ). cmd.Config 1 0 0 x) same in
-    is_text own_formats c (own_id row.Config) (spelling (own_id row.Config)) (params_text (params_of c)) (text_of c) (known own_formats row.Config (own_id row.Config) differ (own_number row.Config))
+    is_text own_formats c (own_id row.Config) (spelling (own_id row.Config)) (params_text (params_of c)) (wire_text c) (known own_formats row.Config (own_id row.Config) differ (own_number row.Config))
     (spelling_spells (own_id row.Config) (omega arith)) (config_spells 1 0 0 n (omega arith) (omega arith) (omega arith) (omega arith)) (own_text c) back

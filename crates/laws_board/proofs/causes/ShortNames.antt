@@ -8,7 +8,7 @@ use Rattle.plan_types.specs.declared.machine.Machine.{Machine}
 use Rattle.plan_types.specs.Machines.{board_at}
 use Rattle.board_sim.specs.Board.{new_controller}
 use Rattle.cfg_lines.specs.Values.{is_pin_byte, is_pin_name}
-use Rattle.cfg_text.specs.Reading.{reading}
+use Rattle.cfg_text.specs.Reading.{machine_of_text}
 use Rattle.laws_board.specs.causes.Short.{HaveShortDictionaries}
 use Rattle.laws_board.proofs.causes.ConfiguredBoards.{AreShortNames, boards_small}
 use Rattle.laws_board.proofs.causes.DictionaryText.{AreShort, short_text}
@@ -43,7 +43,7 @@ names_short : (names : List (List ℕ)) → AreShortNames names → AreShort nam
 names_short [] h = tt
 names_short (name ∷ names) h = (name_short name h.0, names_short names h.1)
 
-pub short_dictionaries : (text : List ℕ) (m : Machine) → reading text ≡ Ok m → HaveShortDictionaries m
+pub short_dictionaries : (text : List ℕ) (m : Machine) → machine_of_text text ≡ Ok m → HaveShortDictionaries m
 unfolding new_controller
 short_dictionaries text m e b below =
     let small = boards_small text m e b below in

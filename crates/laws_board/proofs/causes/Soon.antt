@@ -26,16 +26,16 @@ use Rattle.board_asking.specs.declared.asking.Stage.{Stage}
 use Rattle.board_asking.specs.declared.asking.Stage.TheVariants.{Identify, Uptime, Configure, Config, Connected}
 use Rattle.board_asking.specs.declared.setup.Setup.{Setup}
 use Rattle.board_asking.specs.declared.setup.Setup.TheVariants.{Oids, Stepper, Trsync, Endstop, Finish}
-use Rattle.board_asking.specs.Asking.{after_asks, after_clock, after_drift, after_piece, answered, asked, gives_up, hears, is_connected, is_due, is_in_time, is_out, is_over, listens, more, new_asking, or_else, ready, ready_stage, sample_of, settled, tells_clock, was_put, were_put}
+use Rattle.board_asking.specs.Asking.{after_asks, after_clock, after_drift, after_piece, answered, asked, gives_up, hears_first, is_connected, is_question_due, is_in_time, is_out, is_over, listens, more, new_asking, or_asking, ready, ready_stage, sample_of, settled, tells_clock, was_put, were_put}
 use Rattle.board_asking.specs.Connecting.{all_connected, giving_up, listen_all, ready_all}
 use Rattle.board_asking.specs.Machine.{configuration, endstop_pins, fitting, setup_command, setup_endstops, setup_stepper, trigger_of}
-use Rattle.board_asking.specs.Turns.{AsksOf, behind}
+use Rattle.board_asking.specs.Turns.{AsksOf, asking_in_turn}
 use Rattle.host_reactor.specs.declared.ordered.Known.{Known}
 use Rattle.host_reactor.specs.declared.ordered.Phase.{Phase}
 use Rattle.host_reactor.specs.declared.ordered.Phase.TheVariants.{Connecting, Running, Stopping}
 use Rattle.host_reactor.specs.Notes.{is_out as is_note_out, news_of, noted}
 use Rattle.host_reactor.specs.Report.{first_lines}
-use Rattle.host_reactor.specs.Rows.{IsWhole}
+use Rattle.host_reactor.specs.Rows.{HasEachBoard}
 use Rattle.host_reactor.specs.Running.{first_cause}
 use Rattle.host_reactor.specs.Reactor.{Reacted, asks_boards, by_phase, is_connected_now, reacts, unless_ended, unless_given_up}
 use Rattle.host_reactor.specs.Runs.{Came, known_by}
@@ -138,14 +138,14 @@ answer_soon n size k turn a Config number (cmd.Config is_config crc is_shutdown 
 answer_soon n size k turn a Connected number (cmd.Uptime high low) short h w = soon_if n size k (tells_clock a number) (after_drift a (sample_of a turn high low)) tt
 answer_soon n size k turn a stage number c short h w = tt
 
-or_soon : (n size k : ℕ) (o : Option Asking) (b : Asking) → SoonIn n size k o → IsSoon n size k b → IsSoon n size k (or_else o b)
+or_soon : (n size k : ℕ) (o : Option Asking) (b : Asking) → SoonIn n size k o → IsSoon n size k b → IsSoon n size k (or_asking o b)
 or_soon n size k None b h i = i
 or_soon n size k (Some a) b h i = h
 
-hears_soon : (n size k turn : ℕ) (news : List News) (a : Asking) → size < 2_360 → Begun n size k a.stage a.samples → AreWithin size news → IsSoon n size k a → IsSoon n size k (hears turn news a)
+hears_soon : (n size k turn : ℕ) (news : List News) (a : Asking) → size < 2_360 → Begun n size k a.stage a.samples → AreWithin size news → IsSoon n size k a → IsSoon n size k (hears_first turn news a)
 hears_soon n size k turn [] a short b w h = h
 hears_soon n size k turn (x ∷ news) a short b w h =
-    or_soon n size k (answered turn a a.stage x.number x.answer) (hears turn news a) (answer_soon n size k turn a a.stage x.number x.answer short b w.0) (hears_soon n size k turn news a short b w.1 h)
+    or_soon n size k (answered turn a a.stage x.number x.answer) (hears_first turn news a) (answer_soon n size k turn a a.stage x.number x.answer short b w.0) (hears_soon n size k turn news a short b w.1 h)
 
 puts_soon : (n size k turn : ℕ) (ns : List ℕ) (a : Asking) → IsSoon n size k a → IsSoon n size k (were_put turn ns a)
 puts_soon n size k turn [] a h = h
@@ -155,7 +155,7 @@ listens_soon : (n size k : ℕ) (a : Asking) (s : State) → size < 2_360 → Ar
 listens_soon n size k a s short w h =
     let b = were_put s.turn s.asked a in
     let i : IsSoon n size k b = puts_soon n size k s.turn s.asked a h in
-    either_soon n size k (is_in_time s.turn b.since) (hears s.turn s.news b) b (hears_soon n size k s.turn s.news b short (begun_by n size k b.since b.stage b.samples b.missed i) w i) i
+    either_soon n size k (is_in_time s.turn b.since) (hears_first s.turn s.news b) b (hears_soon n size k s.turn s.news b short (begun_by n size k b.since b.stage b.samples b.missed i) w i) i
 
 -- all of the configuration is queued
 abbrev IsReady : List Setup → Stage → Type 0
@@ -194,12 +194,12 @@ not_seven true missed e f = elim (leb_tells 7 missed) [
   | inr p ↦ let q = p.1 in omega arith
 ]
 
-asks_soon : (n size k : ℕ) (a : Asking) (o : Option ℕ) → a.since ≡ o → AsksOf a.stage → gives_up k a ≡ false → InTime n size k o a.stage a.samples a.missed → IsSoon n size (k + 1) (cond (is_due k a.since) (asked k a) a)
+asks_soon : (n size k : ℕ) (a : Asking) (o : Option ℕ) → a.since ≡ o → AsksOf a.stage → gives_up k a ≡ false → InTime n size k o a.stage a.samples a.missed → IsSoon n size (k + 1) (cond (is_question_due k a.since) (asked k a) a)
 asks_soon n size k a None e g up h =
     let At : Bool → Type 0 = λ t. IsSoon n size (k + 1) (cond t (asked k a) a) in
     let missed : (asked k a).missed ≡ 0 = ap (λ (x : Option ℕ). cond (is_out x) (more a.missed) 0) e in
     let now : OutBy n size (k + 1) k a.stage a.samples (asked k a).missed = record { asks = g; from = k; begins = h; row = omega arith; few = omega (arith, missed); late = omega arith; near = omega arith } in
-    subst At (sym (ap (is_due k) e)) now
+    subst At (sym (ap (is_question_due k) e)) now
 asks_soon n size k a (Some s) e g up h =
     let At : Bool → Type 0 = λ t. IsSoon n size (k + 1) (cond t (asked k a) a) in
     let row = h.row in
@@ -209,9 +209,9 @@ asks_soon n size k a (Some s) e g up h =
     elim (leb_tells 4 (k - s)) [
       | inl p ↦
           let q = p.1 in
-          let due : is_due k a.since ≡ true = ap (is_due k) e ∙ p.0 in
-          let left : (is_due k a.since && nat_le 7 a.missed) ≡ false = sym (ap (λ (x : Option ℕ). is_out x && (is_due k a.since && nat_le 7 a.missed)) e) ∙ up in
-          let six = not_seven (is_due k a.since) a.missed left due in
+          let due : is_question_due k a.since ≡ true = ap (is_question_due k) e ∙ p.0 in
+          let left : (is_question_due k a.since && nat_le 7 a.missed) ≡ false = sym (ap (λ (x : Option ℕ). is_out x && (is_question_due k a.since && nat_le 7 a.missed)) e) ∙ up in
+          let six = not_seven (is_question_due k a.since) a.missed left due in
           let missed : (asked k a).missed ≡ more a.missed = ap (λ (x : Option ℕ). cond (is_out x) (more a.missed) 0) e in
           let now : OutBy n size (k + 1) k a.stage a.samples (asked k a).missed =
           record { asks = g; from = h.from; begins = h.begins; row = omega (arith, missed); few = omega (arith, missed); late = omega arith; near = omega arith } in
@@ -219,7 +219,7 @@ asks_soon n size k a (Some s) e g up h =
       | inr p ↦
           let q = p.1 in
           let now : OutBy n size (k + 1) s a.stage a.samples a.missed = record { asks = g; from = h.from; begins = h.begins; row = row; few = few; late = omega arith; near = omega arith } in
-          subst At (sym (ap (is_due k) e ∙ p.0)) (subst (λ (x : Option ℕ). InTime n size (k + 1) x a.stage a.samples a.missed) (sym e) now)
+          subst At (sym (ap (is_question_due k) e ∙ p.0)) (subst (λ (x : Option ℕ). InTime n size (k + 1) x a.stage a.samples a.missed) (sym e) now)
     ]
 
 -- at least one command of the configuration fits
@@ -296,10 +296,10 @@ soon_ready : (setups : List Setup) (size k : ℕ) (a : Asking) → IsSoon (lengt
 soon_ready setups size k a h = record { soon = ready_soon setups size k a.since a.stage a.samples a.missed h; remains = is_ready setups a.stage }
 
 soon_turn : (setups : List Setup) (size k : ℕ) (a : Asking) (s : State) → size < 2_360 → length setups ≤ 22 → gives_up k a ≡ false → AreWithin size s.news → Soon setups size k a
-    → Soon setups size (k + 1) (ready setups (listens (behind setups k a) s))
+    → Soon setups size (k + 1) (ready setups (listens (asking_in_turn setups k a) s))
 soon_turn setups size k a s short small up w h =
-    soon_ready setups size (k + 1) (listens (behind setups k a) s)
-    (listens_soon (length setups) size (k + 1) (behind setups k a) s short w (behind_soon setups size k a a.stage refl h.remains up small h.soon))
+    soon_ready setups size (k + 1) (listens (asking_in_turn setups k a) s)
+    (listens_soon (length setups) size (k + 1) (asking_in_turn setups k a) s short w (behind_soon setups size k a a.stage refl h.remains up small h.soon))
 
 -- a board that isn't connected is at one of its first 2,199 turns
 late_begins : (n size from samples : ℕ) (stage : Stage) → n ≤ 22 → size < 2_360 → BeginsBy n size from samples stage → 2_167 ≤ from → is_connected stage ≡ true
@@ -410,7 +410,7 @@ many_listen [] states = refl
 many_listen (a ∷ askings) [] = ap suc (many_listen askings [])
 many_listen (a ∷ askings) (s ∷ states) = ap suc (many_listen askings states)
 
-whole_by : (m : Machine) (switches : List Switch) (came : List Came) → IsWhole m (known_by m switches came)
+whole_by : (m : Machine) (switches : List Switch) (came : List Came) → HasEachBoard m (known_by m switches came)
 whole_by m switches [] = whole-first m
 whole_by m switches (c ∷ before) = (rowed m switches (known_by m switches before) (length before) c.states c.note (whole_by m switches before)).whole
 
@@ -469,7 +469,7 @@ soon_at m switches pins entries b (c ∷ before) (t ∷ turns) v short r p =
     let next : length turns + 1 ≡ suc (length turns) = omega arith in
     let done = soon_turn setups size (length turns) a t.state few (setups_few m b v) up within old in
     subst (λ (k : ℕ). Soon setups size k (asking_in setups (t ∷ turns))) next
-    (subst (λ (k : ℕ). Soon setups size (length turns + 1) (ready setups (listens (behind setups k a) t.state))) (sym (states_length turns)) done)
+    (subst (λ (k : ℕ). Soon setups size (length turns + 1) (ready setups (listens (asking_in_turn setups k a) t.state))) (sym (states_length turns)) done)
 
 connected_in : (m : Machine) (switches : List Switch) (pins : List (List Level)) (entries : List Entry) (b : ℕ) (c : Came) (before : List Came) (turns : List BoardTurn) → IsValidMachine m → HaveShortDictionaries m
     → IsInRun m switches pins entries b (c ∷ before) turns → (known_by m switches before).phase ≡ Connecting → 2_199 ≤ length before → (a : Asking) → asking_at b (askings_now m switches c before) ≡ a ∷ [] → is_connected a.stage ≡ true

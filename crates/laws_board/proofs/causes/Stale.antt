@@ -34,7 +34,7 @@ use Rattle.host_reactor.specs.declared.ordered.Phase.TheVariants.{Connecting}
 use Rattle.host_reactor.specs.Laws.{uptimes}
 use Rattle.host_reactor.specs.Notes.{is_out, noted}
 use Rattle.host_reactor.specs.Running.{first_cause}
-use Rattle.host_reactor.specs.Runs.{Came, known_by, last_turn, state_at}
+use Rattle.host_reactor.specs.Runs.{Came, known_by, last_reacted, state_at}
 use Rattle.host_reactor.proofs.Uptimes.{append as uptimes_append}
 use Rattle.laws_board.specs.turns.Turns.{AreBoardTurns, BoardTurn, IsBoardOf, latest_state}
 use Rattle.laws_board.specs.clocks.Runs.{IsInRun, UnitsFit}
@@ -161,7 +161,7 @@ late_part m switches pins entries b all turns z turn behind (inr (inr o)) g firs
 pub stale_row : (m : Machine) (switches : List Switch) (pins : List (List Level)) (entries : List Entry) (b : ℕ) (c : Came) (before : List Came) (turns : List BoardTurn) (turn : ℕ)
     → IsInRun m switches pins entries b before turns → state_at b c.states ≡ latest_state turns → length before < 2 ^ 59
     → first_cause (is_out c.note) (noted m c.note (known_by m switches before)).stopped c.states ≡ None
-    → (last_turn m switches c before).ordered.end ≡ Some (cause.Stale b turn) → StaleRow m switches pins entries b (c ∷ before) turns turn
+    → (last_reacted m switches c before).ordered.end ≡ Some (cause.Stale b turn) → StaleRow m switches pins entries b (c ∷ before) turns turn
 stale_row m switches pins entries b c before turns turn r e small first end =
     let r0 = known_by m switches before in
     let long = as_long m switches b before turns r.both in
@@ -366,7 +366,7 @@ all_out m switches pins entries b c before turns (k ∷ ks) is e a =
 pub stale_cause : (m : Machine) (switches : List Switch) (pins : List (List Level)) (entries : List Entry) (b : ℕ) (c : Came) (before : List Came) (turns : List BoardTurn) (turn : ℕ) → IsValidMachine m
     → IsInRun m switches pins entries b before turns → state_at b c.states ≡ latest_state turns → UnitsFit turns → length before < 2 ^ 59
     → first_cause (is_out c.note) (noted m c.note (known_by m switches before)).stopped c.states ≡ None
-    → (last_turn m switches c before).ordered.end ≡ Some (cause.Stale b turn)
+    → (last_reacted m switches c before).ordered.end ≡ Some (cause.Stale b turn)
     → (1_000 ≤ turn) × ((asked : List ℕ) × (200 ≤ length asked) × AreInRow turn (length turns) asked × AsksNoneBetween turns (length turns) asked × AllUnanswered m switches b (c ∷ before) asked × AreAskedAndHindered (first_state (board_at m b) pins b entries) turns asked)
 stale_cause m switches pins entries b c before turns turn v r e u small first end =
     let long = as_long m switches b before turns r.both in

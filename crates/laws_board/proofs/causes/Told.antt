@@ -11,12 +11,12 @@ use Rattle.board_asking.specs.declared.asking.Asking.{Asking}
 use Rattle.board_asking.specs.declared.setup.Setup.{Setup}
 use Rattle.board_asking.specs.Asking.{asks, listens, new_asking, ready}
 use Rattle.board_asking.specs.Machine.{configuration}
-use Rattle.board_asking.specs.Turns.{behind, heard}
+use Rattle.board_asking.specs.Turns.{asking_in_turn, heard}
 use Rattle.host_reactor.specs.declared.ordered.Phase.{Phase}
 use Rattle.host_reactor.specs.declared.ordered.Phase.TheVariants.{Connecting, Running, Stopping}
 use Rattle.host_reactor.specs.Notes.{noted}
 use Rattle.host_reactor.specs.Reactor.{phase_after}
-use Rattle.host_reactor.specs.Runs.{Came, known_by, last_turn, state_at, told_by}
+use Rattle.host_reactor.specs.Runs.{Came, known_by, last_reacted, state_at, told_by}
 use Rattle.laws_board.specs.turns.Turns.{BoardTurn, IsBoardOf, latest_state}
 use Rattle.laws_board.specs.clocks.Runs.{IsInRun}
 use Rattle.laws_board.proofs.clocks.Lines.{as_long, noted_phase, run_before, turn_of}
@@ -36,7 +36,7 @@ told_states m switches b c (d ∷ before) (t ∷ turns) e is =
 -- the asking of a board behind these turns, while connecting
 abbrev pub asking_behind : List Setup → List BoardTurn → Asking
 asking_behind setups [] = new_asking
-asking_behind setups (t ∷ turns) = behind setups (length turns) (heard setups (states_of turns))
+asking_behind setups (t ∷ turns) = asking_in_turn setups (length turns) (heard setups (states_of turns))
 
 -- the asking of a board as the next turn begins
 abbrev pub asking_in : List Setup → List BoardTurn → Asking
@@ -44,7 +44,7 @@ asking_in setups turns = heard setups (states_of turns)
 
 pub heard_is : (setups : List Setup) (turns : List BoardTurn) → ready setups (heard_now (asking_behind setups turns) (latest_state turns)) ≡ asking_in setups turns
 heard_is setups [] = refl
-heard_is setups (t ∷ turns) = ap (λ (n : ℕ). ready setups (listens (behind setups n (heard setups (states_of turns))) t.state)) (sym (states_length turns))
+heard_is setups (t ∷ turns) = ap (λ (n : ℕ). ready setups (listens (asking_in_turn setups n (heard setups (states_of turns))) t.state)) (sym (states_length turns))
 
 -- in each of these turns the board was asked what its asking asks
 abbrev pub AllAsk : List Setup → List BoardTurn → Type 0
@@ -75,13 +75,13 @@ one_of x a e = cc
 
 asked_so : (m : Machine) (switches : List Switch) (b : ℕ) (c : Came) (before : List Came) (t : BoardTurn) (turns : List BoardTurn) (a : Asking) (k : ℕ) → k ≡ length turns
     → (known_by m switches (c ∷ before)).phase ≡ Connecting → a ≡ heard_now (asking_behind (configuration m b) turns) (latest_state turns)
-    → BoardTurned m (noted m c.note (known_by m switches before)) b k c.states a (last_turn m switches c before) t.control
+    → BoardTurned m (noted m c.note (known_by m switches before)) b k c.states a (last_reacted m switches c before) t.control
     → AllAsk (configuration m b) turns → ConnectsSo m switches b (c ∷ before) (t ∷ turns)
 asked_so m switches b c before t turns a k e p is (Asks q g) all =
     let setups = configuration m b in
     let now : ready setups a ≡ asking_in setups turns = ap (ready setups) is ∙ heard_is setups turns in
     record {
-      asking = g.asking ∙ ap (λ (x : Asking). behind setups k x ∷ []) now ∙ ap (λ (n : ℕ). behind setups n (asking_in setups turns) ∷ []) e;
+      asking = g.asking ∙ ap (λ (x : Asking). asking_in_turn setups k x ∷ []) now ∙ ap (λ (n : ℕ). asking_in_turn setups n (asking_in setups turns) ∷ []) e;
       all = (
         ap (λ (x : Control). x.commands) g.control_is ∙ ap (λ (x : Asking). asks setups k x x.stage) now ∙ ap (λ (n : ℕ). asks setups n (asking_in setups turns) (asking_in setups turns).stage) e,
         all,
@@ -90,8 +90,8 @@ asked_so m switches b c before t turns a k e p is (Asks q g) all =
 asked_so m switches b c before t turns a k e p is (Ends q g) all = absurd (not_connecting _ g.phase p)
 asked_so m switches b c before t turns a k e p is (Runs q g) all = absurd (still_running g.stop _ g.phase p)
 
-pub was_connecting : (m : Machine) (switches : List Switch) (b : ℕ) (c : Came) (before : List Came) (t : BoardTurn) (a : Asking) (k : ℕ) → (last_turn m switches c before).known.phase ≡ Connecting
-    → BoardTurned m (noted m c.note (known_by m switches before)) b k c.states a (last_turn m switches c before) t.control → (known_by m switches before).phase ≡ Connecting
+pub was_connecting : (m : Machine) (switches : List Switch) (b : ℕ) (c : Came) (before : List Came) (t : BoardTurn) (a : Asking) (k : ℕ) → (last_reacted m switches c before).known.phase ≡ Connecting
+    → BoardTurned m (noted m c.note (known_by m switches before)) b k c.states a (last_reacted m switches c before) t.control → (known_by m switches before).phase ≡ Connecting
 was_connecting m switches b c before t a k p (Asks q g) = sym (noted_phase m c.note (known_by m switches before)) ∙ q
 was_connecting m switches b c before t a k p (Ends q g) = sym (noted_phase m c.note (known_by m switches before)) ∙ q
 was_connecting m switches b c before t a k p (Runs q g) = absurd (still_running g.stop _ g.phase p)

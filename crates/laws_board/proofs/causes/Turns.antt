@@ -7,7 +7,7 @@ use Rattle.plan_types.specs.Clock.{board_tick}
 use Rattle.plan_types.proofs.OwnTicks.{rise}
 use Rattle.msg_code.specs.declared.talk.State.{State}
 use Rattle.link_work.specs.Turn.{LinkState}
-use Rattle.board_asking.specs.Turns.{known}
+use Rattle.board_asking.specs.Turns.{states_come}
 use Rattle.laws_board.specs.turns.Turns.{AreBoardTurns, BoardTurn}
 use Rattle.host_reactor.specs.Runs.{Came}
 use Rattle.laws_board.specs.causes.Causes.{before_turn, came_by_turn}
@@ -55,14 +55,14 @@ pub states_length : (turns : List BoardTurn) → length (states_of turns) ≡ le
 states_length [] = refl
 states_length (t ∷ turns) = ap suc (states_length turns)
 
-pub states_before : (k : ℕ) (turns : List BoardTurn) → known k (states_of turns) ≡ states_of (before_turn k turns)
+pub states_before : (k : ℕ) (turns : List BoardTurn) → states_come k (states_of turns) ≡ states_of (before_turn k turns)
 states_before k [] = refl
 states_before k (t ∷ turns) =
     elim (leb_tells k (length turns)) [
-      | inl p ↦ ap (λ (b : Bool). cond b (known k (states_of turns)) (t.state ∷ states_of turns)) (le-leb k (length (states_of turns)) (omega (arith, states_length turns, p.1)))
+      | inl p ↦ ap (λ (b : Bool). cond b (states_come k (states_of turns)) (t.state ∷ states_of turns)) (le-leb k (length (states_of turns)) (omega (arith, states_length turns, p.1)))
           ∙ states_before k turns ∙ ap states_of (sym (before_less k t turns p.1))
       | inr p ↦ let q = p.1 in
-          ap (λ (b : Bool). cond b (known k (states_of turns)) (t.state ∷ states_of turns)) (lt-leb k (length (states_of turns)) (omega (arith, states_length turns)))
+          ap (λ (b : Bool). cond b (states_come k (states_of turns)) (t.state ∷ states_of turns)) (lt-leb k (length (states_of turns)) (omega (arith, states_length turns)))
           ∙ ap states_of (sym (before_all k (t ∷ turns) (omega arith)))
     ]
 

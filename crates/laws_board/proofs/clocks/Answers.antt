@@ -11,7 +11,7 @@ use Rattle.board_trig.specs.Trigger as trig
 use Rattle.msg_code.specs.declared.cmd.Cmd.{Cmd}
 use Rattle.msg_code.specs.declared.cmd.Cmd.TheVariants as cmd
 use Rattle.board_sim.specs.Board.{Controller, Done as BoardDone, stepper_at, is_none_pending, first_of, refusal, takes_triple, queue_step, set_dir, reset, make_stepper, acts as board_acts, acts_running as board_running, takes as board_takes, stop, quiet as board_quiet, with_stepper, stepper_active}
-use Rattle.board_sim.specs.Rig.{Rig, Slot, Passed, slot_at, expires_at_once, set_timeout, trigger, acts, acts_running, takes, takes_all, told, happens_to, happens, runs_to, rests_to, earliest, at_of, goes_on, passes_by, pass, all_left, passes}
+use Rattle.board_sim.specs.Rig.{Rig, Slot, Passed, slot_at, expires_at_once, set_timeout, trigger, acts, acts_running, takes, takes_all, trigger_answers, happens_to, happens_at, runs_to, rests_to, earliest_moment, at_of, goes_on, passes_by, pass, all_left, passes}
 use Rattle.board_sim.specs.Turn.{says_shut}
 use Rattle.board_sim.proofs.RigTicks.{takes_rig_tick}
 use Rattle.board_world.specs.World.{says, shut_before}
@@ -116,7 +116,7 @@ all_tell tick r (c ∷ cs) e =
     (all_tell tick (takes r c).rig cs (takes_rig_tick r c ∙ e))
 
 -- while time passes
-told_none : (oid : ℕ) (o : Option TrigEvent) → Each IsNoClock (told oid o)
+told_none : (oid : ℕ) (o : Option TrigEvent) → Each IsNoClock (trigger_answers oid o)
 told_none oid None = tt
 told_none oid (Some e) = (tt, tt)
 
@@ -131,9 +131,9 @@ goes_none (Some at) x y k l = l
 pass_none : (n : ℕ) (r : Rig) (t : ℕ) → Each IsNoClock (pass n r t).answers
 pass_none zero r t = tt
 pass_none (suc n) r t =
-    let next = earliest r t 0 r.triggers in
+    let next = earliest_moment r t 0 r.triggers in
     let ran = runs_to r ((at_of next).0 / 3) in
-    let first = happens r t (at_of next) in
+    let first = happens_at r t (at_of next) in
     goes_none next (rests_to r t) (passes_by first (pass n first.rig t)) tt
     (each_both IsNoClock first.answers (pass n first.rig t).answers (happens_none ran.rig t (at_of next).1 (slot_at ran.rig (at_of next).1)) (pass_none n first.rig t))
 

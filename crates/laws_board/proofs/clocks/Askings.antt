@@ -15,7 +15,7 @@ use Rattle.board_asking.specs.declared.asking.Put.{Put}
 use Rattle.board_asking.specs.declared.asking.Stage.{Stage}
 use Rattle.board_asking.specs.declared.asking.Stage.TheVariants.{Identify, Uptime, Configure, Config, Connected}
 use Rattle.board_asking.specs.declared.setup.Setup.{Setup}
-use Rattle.board_asking.specs.Asking.{more, new_asking, was_put, were_put, is_in_time, is_behind, tells_clock, sample_of, best_of, after_piece, after_clock, after_drift, answered, is_connected, put_turn, settled, or_else, hears, listens, is_over, ready_stage, ready, is_due, asks_clock, asked, after_asks}
+use Rattle.board_asking.specs.Asking.{more, new_asking, was_put, were_put, is_in_time, is_behind, tells_clock, sample_of, best_of, after_piece, after_clock, after_drift, answered, is_connected, put_turn, settled, or_asking, hears_first, listens, is_over, ready_stage, ready, is_question_due, asks_clock, asked, after_asks}
 use Rattle.board_asking.specs.Connecting.{sample_or_none}
 use Rattle.board_asking.specs.Drift.{asks_now, after_question, is_asked_now, is_unanswered, waits_in}
 use Rattle.laws_board.specs.turns.Turns.{BoardTurn}
@@ -217,7 +217,7 @@ answers clock turns k turn a Connected n (cmd.Uptime high low) news s e x i in_t
     (λ t. after_drift_is clock turns k a (sample_of a turn high low) i (clock_maybe clock turns k turn high low a n news e x i o in_time t))
 answers clock turns k turn a stage n c news s e x i in_time = tt
 
-or_kept : (clock : BoardClock) (turns : List BoardTurn) (k : ℕ) (o : Option Asking) (b : Asking) → Maybe clock turns k o → IsAsking clock turns k b → IsAsking clock turns k (or_else o b)
+or_kept : (clock : BoardClock) (turns : List BoardTurn) (k : ℕ) (o : Option Asking) (b : Asking) → Maybe clock turns k o → IsAsking clock turns k b → IsAsking clock turns k (or_asking o b)
 or_kept clock turns k None b m i = i
 or_kept clock turns k (Some a) b m i = m
 
@@ -225,15 +225,15 @@ in_rest : (clock : BoardClock) (turns : List BoardTurn) (turn : ℕ) (n : News) 
 in_rest clock turns turn n news x = record { taken = λ number value t. x.taken number value (inr t); told = λ number value t. x.told number value (inr t) }
 
 hears_kept : (clock : BoardClock) (turns : List BoardTurn) (k turn : ℕ) (news : List News) (a : Asking) → InTime clock turns turn news → IsAsking clock turns k a → is_in_time turn a.since ≡ true
-    → IsAsking clock turns k (hears turn news a)
+    → IsAsking clock turns k (hears_first turn news a)
 hears_kept clock turns k turn [] a x i in_time = i
 hears_kept clock turns k turn (n ∷ news) a x i in_time =
-    or_kept clock turns k (answered turn a a.stage n.number n.answer) (hears turn news a)
+    or_kept clock turns k (answered turn a a.stage n.number n.answer) (hears_first turn news a)
     (answers clock turns k turn a a.stage n n.answer news refl refl x i in_time)
     (hears_kept clock turns k turn news a (in_rest clock turns turn n news x) i in_time)
 
 where_in_time : (clock : BoardClock) (turns : List BoardTurn) (k turn : ℕ) (news : List News) (b : Bool) (a : Asking) → is_in_time turn a.since ≡ b → InTime clock turns turn news → IsAsking clock turns k a
-    → IsAsking clock turns k (cond b (hears turn news a) a)
+    → IsAsking clock turns k (cond b (hears_first turn news a) a)
 where_in_time clock turns k turn news true a e x i = hears_kept clock turns k turn news a x i e
 where_in_time clock turns k turn news false a e x i = i
 
@@ -287,13 +287,13 @@ either_asking clock turns k false x y i j = j
 pub asks_kept : (clock : BoardClock) (turns : List BoardTurn) (k : ℕ) (setups : List Setup) (a : Asking) (stage : Stage) → a.stage ≡ stage → IsAsking clock turns k a
     → IsAsking clock turns (k + 1) (after_asks setups k a stage)
 asks_kept clock turns k setups a (Identify offset) e i =
-    either_asking clock turns (k + 1) (is_due k a.since) (asked k a) a (asked_kept clock turns k a (Identify offset) e refl i) (next_turn clock turns k a i)
+    either_asking clock turns (k + 1) (is_question_due k a.since) (asked k a) a (asked_kept clock turns k a (Identify offset) e refl i) (next_turn clock turns k a i)
 asks_kept clock turns k setups a Uptime e i =
-    either_asking clock turns (k + 1) (is_due k a.since) (asked k a) a (asked_kept clock turns k a Uptime e refl i) (next_turn clock turns k a i)
+    either_asking clock turns (k + 1) (is_question_due k a.since) (asked k a) a (asked_kept clock turns k a Uptime e refl i) (next_turn clock turns k a i)
 asks_kept clock turns k setups a (Configure n) e i =
     record { put = i.put; best = i.best; since = later_since k (k + 1) a.since (omega arith) i.since; owes = tt; sampled = subst (λ (g : Stage). Sampled g a.best) e i.sampled }
 asks_kept clock turns k setups a Config e i =
-    either_asking clock turns (k + 1) (is_due k a.since) (asked k a) a (asked_kept clock turns k a Config e refl i) (next_turn clock turns k a i)
+    either_asking clock turns (k + 1) (is_question_due k a.since) (asked k a) a (asked_kept clock turns k a Config e refl i) (next_turn clock turns k a i)
 asks_kept clock turns k setups a Connected e i = next_turn clock turns k a i
 
 pub waits_kept : (clock : BoardClock) (turns : List BoardTurn) (k n : ℕ) (drifting : Bool) (a : Asking) → IsAsking clock turns k a → IsAsking clock turns k (waits_in drifting n a)

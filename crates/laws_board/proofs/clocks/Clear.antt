@@ -10,15 +10,15 @@ use Rattle.plan_types.specs.Clock.{board_tick, clock_of}
 use Rattle.wire_scene.specs.declared.scene.Deed.{Deed}
 use Rattle.wire_scene.specs.declared.scene.Entry.{Entry}
 use Rattle.wire_scene.specs.declared.scene.Way.TheVariants.{Down, Up}
-use Rattle.wire_scene.specs.Wire.{Copy, Line, behind, deed_of, entries_of, put_on, put_with}
+use Rattle.wire_scene.specs.Wire.{Copy, Line, entries_behind, deed_of, entries_of, put_on, put_with}
 use Rattle.link_core.specs.Core.{Reply, sent}
 use Rattle.link_core.specs.Stands.{last_closes}
 use Rattle.link_core.proofs.Steps.{start_keeps}
 use Rattle.board_world.specs.declared.event.Event.TheVariants as event
 use Rattle.board_world.specs.Stands.{reply_text}
-use Rattle.board_world.specs.World.{Core, Step, Do, after, happens, run}
+use Rattle.board_world.specs.World.{Core, Step, Do, world_after, after_event, run_world}
 use Rattle.link_work.specs.Ends.{is_quiet_line, no_copies}
-use Rattle.link_work.specs.Runs.{bytes_of}
+use Rattle.link_work.specs.Runs.{blocks_on}
 use Rattle.link_work.specs.Stands.{first_state, orders}
 use Rattle.link_work.specs.Told.{asked_at, asked_in}
 use Rattle.link_work.specs.Turn.{IsTurn, LinkState, Orders, after_board, after_host, board_steps, come, host_steps, line_for, newly, put_all, still}
@@ -96,8 +96,8 @@ undisturbed_before clock turn o l m t c u =
     let l1 = after_host turn o t.resent l in
     let l2 = after_board clock turn l1 in
     let v = subst IsUndisturbed t.becomes u in
-    let down = none_in_all (line_for o.control.connected l.down) turn (newly Down l.core (run (host_steps turn o t.resent) l.core)) v.down in
-    let up = none_in_all (line_for o.control.connected l.up) turn (newly Up l1.core (run (board_steps clock turn l1.down.copies) l1.core)) v.up in
+    let down = none_in_all (line_for o.control.connected l.down) turn (newly Down l.core (run_world (host_steps turn o t.resent) l.core)) v.down in
+    let up = none_in_all (line_for o.control.connected l.up) turn (newly Up l1.core (run_world (board_steps clock turn l1.down.copies) l1.core)) v.up in
     record { down = ap (λ (x : Line). x.calm) (sym (kept_line o.control.connected l.down c)) ∙ down; up = ap (λ (x : Line). x.calm) (sym (kept_line o.control.connected l.up c)) ∙ up }
 
 clear_turn : (clock : BoardClock) (turn : ℕ) (o : Orders) (l m : LinkState) → IsTurn clock turn o l m → o.control.connected ≡ false → IsUndisturbed m → IsClear l.down turn → IsClear l.up turn
@@ -108,8 +108,8 @@ clear_turn clock turn o l m t c u d w =
     let v = subst IsUndisturbed t.becomes u in
     let down0 : IsFree (line_for o.control.connected l.down) turn = subst (λ (x : Line). IsFree x turn) (sym (kept_line o.control.connected l.down c)) (clear_free l.down turn d) in
     let up0 : IsFree (line_for o.control.connected l.up) turn = subst (λ (x : Line). IsFree x turn) (sym (kept_line o.control.connected l.up c)) (clear_free l.up turn w) in
-    let down1 = free_all (line_for o.control.connected l.down) turn (newly Down l.core (run (host_steps turn o t.resent) l.core)) v.down down0 in
-    let up1 = free_all (line_for o.control.connected l.up) turn (newly Up l1.core (run (board_steps clock turn l1.down.copies) l1.core)) v.up up0 in
+    let down1 = free_all (line_for o.control.connected l.down) turn (newly Down l.core (run_world (host_steps turn o t.resent) l.core)) v.down down0 in
+    let up1 = free_all (line_for o.control.connected l.up) turn (newly Up l1.core (run_world (board_steps clock turn l1.down.copies) l1.core)) v.up up0 in
     subst (λ (x : LinkState). IsClear x.down (turn + 1) × IsClear x.up (turn + 1)) (sym t.becomes) (free_clear l1.down turn down1, free_clear l2.up turn up1)
 
 module _ (b : BoardDef) (pins : List (List Level)) (board : ℕ) (entries : List Entry) where
@@ -138,7 +138,7 @@ record IsBare (l : Line) : Type 0 where
 
 bare_with : (l : Line) (turn : ℕ) (bytes : List ℕ) (d : Option Deed) → d ≡ None → IsBare l → IsBare (put_with l turn bytes d)
 bare_with l turn bytes (Some deed) e f = cc
-bare_with l turn bytes None e f = record { entries = ap (behind l.number) f.entries; calm = f.calm }
+bare_with l turn bytes None e f = record { entries = ap (entries_behind l.number) f.entries; calm = f.calm }
 
 bare_all : (l : Line) (turn : ℕ) (bs : List (List ℕ)) → IsBare l → IsBare (put_all l turn bs)
 bare_all l turn [] f = f
@@ -147,8 +147,8 @@ bare_all l turn (b ∷ bs) f = bare_all (put_on l turn b) turn bs (bare_with l t
 bare_turn : (clock : BoardClock) (turn : ℕ) (o : Orders) (l m : LinkState) → IsTurn clock turn o l m → o.control.connected ≡ false → IsBare l.down → IsBare l.up → IsBare m.down × IsBare m.up
 bare_turn clock turn o l m t c d u =
     let l1 = after_host turn o t.resent l in
-    let down = bare_all (line_for o.control.connected l.down) turn (newly Down l.core (run (host_steps turn o t.resent) l.core)) (subst IsBare (sym (kept_line o.control.connected l.down c)) d) in
-    let up = bare_all (line_for o.control.connected l.up) turn (newly Up l1.core (run (board_steps clock turn l1.down.copies) l1.core)) (subst IsBare (sym (kept_line o.control.connected l.up c)) u) in
+    let down = bare_all (line_for o.control.connected l.down) turn (newly Down l.core (run_world (host_steps turn o t.resent) l.core)) (subst IsBare (sym (kept_line o.control.connected l.down c)) d) in
+    let up = bare_all (line_for o.control.connected l.up) turn (newly Up l1.core (run_world (board_steps clock turn l1.down.copies) l1.core)) (subst IsBare (sym (kept_line o.control.connected l.up c)) u) in
     subst (λ (x : LinkState). IsBare x.down × IsBare x.up) (sym t.becomes) (record { entries = down.entries; calm = down.calm }, record { entries = up.entries; calm = up.calm })
 
 bare_lines : (b : BoardDef) (pins : List (List Level)) (board : ℕ) (entries : List Entry) (turns : List BoardTurn) → AreBoardTurns (clock_of b) (first_state b pins board entries) turns
@@ -197,7 +197,7 @@ none_up b pins board entries turns are u c =
     let first = first_state b pins board entries in
     let clear = clear_lines b pins board entries turns are u c in
     let holds = turns_hold (clock_of b) 0 (orders_in turns) first (stands_after first turns) start_keeps (record { down = refl; up = refl }) (turns_in_order (clock_of b) first turns are) in
-    none_mapped (stands_after first turns).core.link.up (sym holds.up ∙ ap bytes_of clear.1.none)
+    none_mapped (stands_after first turns).core.link.up (sym holds.up ∙ ap blocks_on clear.1.none)
 
 -- a clock that is told in a turn answers a block that was put in it
 abbrev Now : BoardClock → ℕ → ℕ → (ℕ → (ℕ → Type 0))
@@ -233,21 +233,21 @@ asked_one h g n true true e (inr k) = absurd k
 asked_one h g n true false e k = absurd k
 asked_one h g n false b e k = absurd k
 
-asked_now : (s : Step) (h : Core) (n : ℕ) → IsAmong n (asked_at s h) → n < sent (after h s).link
+asked_now : (s : Step) (h : Core) (n : ℕ) → IsAmong n (asked_at s h) → n < sent (world_after h s).link
 asked_now (Do event.Send) h n k =
-    let g = happens h event.Send in
+    let g = after_event h event.Send in
     asked_one h g n (nat_lt (sent h.link) (sent g.link)) (last_closes false g.link.blocks) refl k
 asked_now s h n k = absurd k
 
-asked_upto : (steps : List Step) (h : Core) (n : ℕ) → IsAmong n (asked_in steps h) → n < sent (run steps h).link
+asked_upto : (steps : List Step) (h : Core) (n : ℕ) → IsAmong n (asked_in steps h) → n < sent (run_world steps h).link
 asked_upto [] h n k = absurd k
 asked_upto (s ∷ steps) h n k =
-    elim (among_both n (asked_at s h) (asked_in steps (after h s)) k) [
-      | inl now ↦ let l = asked_now s h n now in let g = sent_grows steps (after h s) in omega arith
-      | inr later ↦ asked_upto steps (after h s) n later
+    elim (among_both n (asked_at s h) (asked_in steps (world_after h s)) k) [
+      | inl now ↦ let l = asked_now s h n now in let g = sent_grows steps (world_after h s) in omega arith
+      | inr later ↦ asked_upto steps (world_after h s) n later
     ]
 
-host_sent : (clock : BoardClock) (turn : ℕ) (o : Orders) (l m : LinkState) (t : IsTurn clock turn o l m) → sent (run (host_steps turn o t.resent) l.core).link ≤ sent m.core.link
+host_sent : (clock : BoardClock) (turn : ℕ) (o : Orders) (l m : LinkState) (t : IsTurn clock turn o l m) → sent (run_world (host_steps turn o t.resent) l.core).link ≤ sent m.core.link
 host_sent clock turn o l m t =
     let l1 = after_host turn o t.resent l in
     let l2 = after_board clock turn l1 in

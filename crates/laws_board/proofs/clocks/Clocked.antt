@@ -30,7 +30,7 @@ use Rattle.board_asking.specs.Machine.{configuration}
 use Rattle.host_reactor.specs.declared.ordered.Known.{Known}
 use Rattle.host_reactor.specs.Notes.{noted}
 use Rattle.host_reactor.specs.Reactor.{Reacted, homing_commands, stop_command, stops}
-use Rattle.host_reactor.specs.Runs.{Came, known_by, last_turn}
+use Rattle.host_reactor.specs.Runs.{Came, known_by, last_reacted}
 use Rattle.laws_board.specs.turns.Turns.{BoardTurn}
 use Rattle.laws_board.specs.clocks.Clocked.{SetsTo}
 use Rattle.laws_board.specs.clocks.Ordered.{MayOrder}
@@ -122,4 +122,4 @@ pub clocks_set : (m : Machine) (switches : List Switch) (pins : List (List Level
 clocks_set m switches pins entries b c before t turns h r is =
     let s = turn_of m switches pins entries b c before t turns r in
     let n = noted m c.note (known_by m switches before) in
-    all_set (turn_tick (section.clocks_at n.clocks b) h.start) t.control.commands (turn_set m b c n (length before) s.a (last_turn m switches c before) t h is s.turned)
+    all_set (turn_tick (section.clocks_at n.clocks b) h.start) t.control.commands (turn_set m b c n (length before) s.a (last_reacted m switches c before) t h is s.turned)

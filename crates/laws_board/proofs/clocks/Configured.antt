@@ -30,7 +30,7 @@ use Rattle.host_reactor.specs.declared.ordered.Known.{Known}
 use Rattle.host_reactor.specs.declared.ordered.Phase.TheVariants.{Connecting, Running}
 use Rattle.host_reactor.specs.Notes.{noted}
 use Rattle.host_reactor.specs.Reactor.{Reacted, homing_commands, stop_command, stops}
-use Rattle.host_reactor.specs.Runs.{Came, known_by, last_turn}
+use Rattle.host_reactor.specs.Runs.{Came, known_by, last_reacted}
 use Rattle.laws_board.specs.turns.Turns.{BoardTurn, latest_state}
 use Rattle.laws_board.specs.clocks.Ordered.{commands_in, configures}
 use Rattle.laws_board.specs.clocks.Runs.{IsInRun}
@@ -172,7 +172,7 @@ done m switches pins entries b (c ∷ before) (t ∷ turns) v r y e =
     let x = turn_of m switches pins entries b c before t turns r in
     let old = done m switches pins entries b before turns v (run_before m switches pins entries b c before t turns r) x.first x.was in
     let heard : Done m b turns x.a = subst (λ (z : Asking). Done m b turns z) (sym x.hears) (conf_heard (configuration m b) (filter configures (commands_in turns)) x.first (latest_state turns) old) in
-    turn_done m b c (noted m c.note (known_by m switches before)) (length before) x.a (last_turn m switches c before) t turns v heard x.turned y e
+    turn_done m b c (noted m c.note (known_by m switches before)) (length before) x.a (last_reacted m switches c before) t turns v heard x.turned y e
 
 connected_done : (setups : List Setup) (stage : Stage) (done : List Cmd) → is_connected stage ≡ true → Conf setups stage done → done ≡ map setup_command setups
 connected_done setups (Identify offset) done h c = cc
@@ -220,5 +220,5 @@ pub configured_before : (m : Machine) (switches : List Switch) (pins : List (Lis
 configured_before m switches pins entries b c before t turns v r p n =
     let x = turn_of m switches pins entries b c before t turns r in
     let k = noted m c.note (known_by m switches before) in
-    let quiet = ends_quiet m b c k (length before) x.a (last_turn m switches c before) t turns (noted_phase m c.note (known_by m switches before) ∙ p) n x.turned in
+    let quiet = ends_quiet m b c k (length before) x.a (last_reacted m switches c before) t turns (noted_phase m c.note (known_by m switches before) ∙ p) n x.turned in
     sym quiet ∙ all_configured m switches pins entries b (c ∷ before) (t ∷ turns) v r n

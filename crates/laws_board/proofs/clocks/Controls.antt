@@ -22,13 +22,13 @@ use Rattle.trigger_group.specs.declared.round.Round.{Round}
 use Rattle.trigger_group.specs.declared.round.Round.TheVariants.{Homes, Relays, Resets, Starts, Timeouts}
 use Rattle.trigger_group.specs.declared.seen.Fired.{Fired}
 use Rattle.trigger_group.specs.declared.seen.Seen.{Seen}
-use Rattle.trigger_group.specs.Group.{GroupState, all_fired, first_timeout, goes, limit, orders, orders_in, orders_to, phase, relay_in, relays_in, reset, round_of, steppers, stop, to_board, unless_fired}
+use Rattle.trigger_group.specs.Group.{GroupState, all_fired, first_timeout, goes, limit, orders, orders_of_group, orders_to, phase, relay_in, relays_in, reset, round_of, steppers, stop, to_board, unless_fired}
 use Rattle.board_asking.specs.declared.asking.Asking.{Asking}
 use Rattle.board_asking.specs.declared.asking.Stage.{Stage}
 use Rattle.board_asking.specs.declared.asking.Stage.TheVariants.{Identify, Uptime, Configure, Config, Connected}
 use Rattle.board_asking.specs.declared.setup.Setup.{Setup}
 use Rattle.board_asking.specs.declared.setup.Setup.TheVariants.{Oids, Stepper, Trsync, Endstop, Finish}
-use Rattle.board_asking.specs.Asking.{asks, is_due, question}
+use Rattle.board_asking.specs.Asking.{asks, is_question_due, question}
 use Rattle.board_asking.specs.Drift.{asks_now, clock_question}
 use Rattle.board_asking.specs.Machine.{control_bytes, fitting, setup_command}
 use Rattle.axis_homing.specs.declared.homing.Homing.{Homing}
@@ -66,11 +66,11 @@ may_setups h k [] = tt
 may_setups h k (s ∷ ss) = (may_setup h k s, may_setups h k ss)
 
 pub may_ask : (h : Option Homing) (k turn : ℕ) (setups : List Setup) (a : Asking) (stage : Stage) → EachMay h k (asks setups turn a stage)
-may_ask h k turn setups a (Identify offset) = may_if h k (is_due turn a.since) (question (Identify offset)) (tt, tt)
-may_ask h k turn setups a Uptime = may_if h k (is_due turn a.since) (question Uptime) (tt, tt)
+may_ask h k turn setups a (Identify offset) = may_if h k (is_question_due turn a.since) (question (Identify offset)) (tt, tt)
+may_ask h k turn setups a Uptime = may_if h k (is_question_due turn a.since) (question Uptime) (tt, tt)
 may_ask h k turn setups a (Configure n) = may_setups h k (fitting control_bytes (drop n setups))
-may_ask h k turn setups a Config = may_if h k (is_due turn a.since) (question Config) (tt, tt)
-may_ask h k turn setups a Connected = may_if h k (is_due turn a.since) (question Connected) tt
+may_ask h k turn setups a Config = may_if h k (is_question_due turn a.since) (question Config) (tt, tt)
+may_ask h k turn setups a Connected = may_if h k (is_question_due turn a.since) (question Connected) tt
 
 -- homing
 abbrev Clocked : ℕ → ℕ → Type 0
@@ -148,7 +148,7 @@ not_may : (start k : ℕ) (b : Bool) (xs : List Ctl) → CtlsMay start k xs → 
 not_may start k true xs a = tt
 not_may start k false xs a = a
 
-in_may : (start k : ℕ) (p : Phase) (g : GroupState) (turn : ℕ) → PhaseMay start k p → CtlsMay start k (orders_in p g turn)
+in_may : (start k : ℕ) (p : Phase) (g : GroupState) (turn : ℕ) → PhaseMay start k p → CtlsMay start k (orders_of_group p g turn)
 in_may start k (Sends round) g turn a = round_may start k round g.members a
 in_may start k GroupGoes g turn a = not_may start k (all_fired g.members) (goes g turn) (goes_may start k g turn)
 in_may start k Rests g turn a = tt

@@ -14,7 +14,7 @@ use Rattle.host_reactor.specs.declared.ordered.Known.{Known}
 use Rattle.host_reactor.specs.declared.ordered.Phase.TheVariants.{Connecting}
 use Rattle.host_reactor.specs.Notes.{noted}
 use Rattle.host_reactor.specs.Reactor.{Reacted, phase_after}
-use Rattle.host_reactor.specs.Runs.{Came, known_by, last_turn}
+use Rattle.host_reactor.specs.Runs.{Came, known_by, last_reacted}
 use Rattle.msg_code.specs.declared.unit.Control.{Control}
 use Rattle.msg_code.specs.declared.talk.State.{State}
 use Rattle.board_asking.specs.declared.asking.Asking.{Asking}
@@ -50,7 +50,7 @@ connecting_all m switches pins entries b (c ∷ before) (t ∷ turns) r e =
     let x = turn_of m switches pins entries b c before t turns r in
     let n = noted m c.note (known_by m switches before) in
     let was : (known_by m switches before).phase ≡ Connecting =
-    sym (noted_phase m c.note (known_by m switches before)) ∙ was_connecting m n b (length before) c.states x.a (last_turn m switches c before) t.control x.turned e in
+    sym (noted_phase m c.note (known_by m switches before)) ∙ was_connecting m n b (length before) c.states x.a (last_reacted m switches c before) t.control x.turned e in
     ((tells m switches pins entries b c before t turns r).2 was, connecting_all m switches pins entries b before turns (run_before m switches pins entries b c before t turns r) was)
 
 -- a line that is taken at once gives an exact clock's own tick of each later turn
@@ -76,7 +76,7 @@ line_exact m b turns line f now x =
 
 pub lines_exact : (m : Machine) (switches : List Switch) (pins : List (List Level)) (entries : List Entry) (b : ℕ) (c : Came) (before : List Came) (t : BoardTurn) (turns : List BoardTurn)
     → IsInRun m switches pins entries b (c ∷ before) (t ∷ turns) → (known_by m switches before).phase ≡ Connecting → IsUndisturbed (stands_after (first_state (board_at m b) pins b entries) turns) → (board_at m b).freq % 1_000 ≡ 0
-    → All (λ l. IsSampledAtOnce (clock_of (board_at m b)) turns l × ((board_at m b).drift ≡ pos 0 → IsExact (clock_of (board_at m b)) l)) (lines_told b (last_turn m switches c before).ordered.word.news)
+    → All (λ l. IsSampledAtOnce (clock_of (board_at m b)) turns l × ((board_at m b).drift ≡ pos 0 → IsExact (clock_of (board_at m b)) l)) (lines_told b (last_reacted m switches c before).ordered.word.news)
 lines_exact m switches pins entries b c before t turns r p u f =
     let rest = run_before m switches pins entries b c before t turns r in
     let all = connecting_all m switches pins entries b before turns rest p in

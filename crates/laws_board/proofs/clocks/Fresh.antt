@@ -23,14 +23,14 @@ use Rattle.link_work.specs.Turn.{LinkState}
 use Rattle.board_asking.specs.declared.asking.Asking.{Asking}
 use Rattle.board_asking.specs.declared.asking.Stage.{Stage}
 use Rattle.board_asking.specs.declared.asking.Stage.TheVariants.{Connected}
-use Rattle.board_asking.specs.Asking.{after_drift, answered, hears, is_connected, is_in_time, is_out, listens, or_else, sample_of, tells_clock, were_put}
+use Rattle.board_asking.specs.Asking.{after_drift, answered, hears_first, is_connected, is_in_time, is_out, listens, or_asking, sample_of, tells_clock, were_put}
 use Rattle.board_asking.specs.Connecting.{board_line, listen_all, sample_or_none}
 use Rattle.board_asking.specs.Drift.{new_line, new_lines}
 use Rattle.host_reactor.specs.declared.ordered.Known.{Known}
 use Rattle.host_reactor.specs.declared.ordered.Phase.TheVariants.{Connecting, Running}
 use Rattle.host_reactor.specs.Notes.{noted}
 use Rattle.host_reactor.specs.Reactor.{Reacted, homed}
-use Rattle.host_reactor.specs.Runs.{Came, known_by, last_turn}
+use Rattle.host_reactor.specs.Runs.{Came, known_by, last_reacted}
 use Rattle.axis_homing.specs.Homing.{homing_turn}
 use Rattle.laws_board.specs.turns.Turns.{AreBoardTurns, BoardTurn, latest_state}
 use Rattle.laws_board.specs.clocks.Runs.{IsInRun}
@@ -61,14 +61,14 @@ answer_got turn a stage number c h = cc
 abbrev Heard : ℕ → Option ℕ → Asking → Type 0
 Heard turn since a = (a.since ≡ since) ⊎ GotIn turn a.best
 
-or_heard : (turn : ℕ) (since : Option ℕ) (o : Option Asking) (b : Asking) → MayGet turn o → Heard turn since b → Heard turn since (or_else o b)
+or_heard : (turn : ℕ) (since : Option ℕ) (o : Option Asking) (b : Asking) → MayGet turn o → Heard turn since b → Heard turn since (or_asking o b)
 or_heard turn since None b m h = h
 or_heard turn since (Some a) b m h = inr m
 
-hears_heard : (turn : ℕ) (ns : List News) (a : Asking) → is_connected a.stage ≡ true → Heard turn a.since (hears turn ns a)
+hears_heard : (turn : ℕ) (ns : List News) (a : Asking) → is_connected a.stage ≡ true → Heard turn a.since (hears_first turn ns a)
 hears_heard turn [] a h = inl refl
 hears_heard turn (n ∷ ns) a h =
-    or_heard turn a.since (answered turn a a.stage n.number n.answer) (hears turn ns a) (answer_got turn a a.stage n.number n.answer h) (hears_heard turn ns a h)
+    or_heard turn a.since (answered turn a a.stage n.number n.answer) (hears_first turn ns a) (answer_got turn a a.stage n.number n.answer h) (hears_heard turn ns a h)
 
 were_since : (turn : ℕ) (ns : List ℕ) (a : Asking) → (were_put turn ns a).since ≡ a.since
 were_since turn [] a = refl
@@ -82,7 +82,7 @@ listens_heard : (a : Asking) (s : State) → is_connected a.stage ≡ true → H
 listens_heard a s h =
     let b = were_put s.turn s.asked a in
     let stage : is_connected b.stage ≡ true = ap is_connected (were_stage s.turn s.asked a) ∙ h in
-    let all = either_heard s.turn b.since (is_in_time s.turn b.since) (hears s.turn s.news b) b (hears_heard s.turn s.news b stage) (inl refl) in
+    let all = either_heard s.turn b.since (is_in_time s.turn b.since) (hears_first s.turn s.news b) b (hears_heard s.turn s.news b stage) (inl refl) in
     subst (λ (o : Option ℕ). Heard s.turn o (listens a s)) (were_since s.turn s.asked a) all
 
 not_out : (x y : Option ℕ) → (is_out x && not (is_out y)) ≡ true → y ≡ x → ⊥
@@ -180,11 +180,11 @@ turn_fresh m b c r t turns k first x a y are at hears is on now (Runs p g) =
     (new_fresh m clock turns 0 b r.askings.items after fresh))
 
 pub fresh_lines : (m : Machine) (switches : List Switch) (pins : List (List Level)) (entries : List Entry) (b : ℕ) (c : Came) (before : List Came) (t : BoardTurn) (turns : List BoardTurn)
-    → IsInRun m switches pins entries b (c ∷ before) (t ∷ turns) → All (IsFresh (clock_of (board_at m b)) turns) (further_lines b (last_turn m switches c before).ordered.word.news)
+    → IsInRun m switches pins entries b (c ∷ before) (t ∷ turns) → All (IsFresh (clock_of (board_at m b)) turns) (further_lines b (last_reacted m switches c before).ordered.word.news)
 fresh_lines m switches pins entries b c before t turns r =
     let x = turn_of m switches pins entries b c before t turns r in
     let n = noted m c.note (known_by m switches before) in
     let at : asking_at b n.askings.items ≡ x.first ∷ [] = ap (λ y. asking_at b y.items) (noted_askings m c.note (known_by m switches before)) ∙ x.was in
     let rest = run_before m switches pins entries b c before t turns r in
-    all_fresh (clock_of (board_at m b)) turns (further_lines b (last_turn m switches c before).ordered.word.news)
-    (turn_fresh m b c n t turns (length before) _ x.first x.a (last_turn m switches c before) rest.turns_are at x.hears x.is x.on x.connected x.turned)
+    all_fresh (clock_of (board_at m b)) turns (further_lines b (last_reacted m switches c before).ordered.word.news)
+    (turn_fresh m b c n t turns (length before) _ x.first x.a (last_reacted m switches c before) rest.turns_are at x.hears x.is x.on x.connected x.turned)

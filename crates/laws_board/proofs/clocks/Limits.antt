@@ -15,7 +15,7 @@ use Rattle.link_work.specs.Limits.{bytes_in, closing_in}
 use Rattle.board_asking.specs.Drift.{bytes_of}
 use Rattle.host_reactor.specs.declared.ordered.Phase.TheVariants.{Stopping}
 use Rattle.host_reactor.specs.Laws.{AskOnce, FitIn, is_uptime, uptimes}
-use Rattle.host_reactor.specs.Runs.{Came, known_by, last_turn}
+use Rattle.host_reactor.specs.Runs.{Came, known_by, last_reacted}
 use Rattle.host_reactor.proofs.Fitting.{all-fit, plain-fit}
 use Rattle.host_reactor.proofs.Once.{once}
 use Rattle.laws_board.specs.turns.Turns.{BoardTurn, control_at}
@@ -46,17 +46,17 @@ closing_same (c ∷ cs) = let i = closing_same cs in let e = ap {B = ℕ} (λ (b
 pub control_bytes : (m : Machine) (switches : List Switch) (pins : List (List Level)) (entries : List Entry) (b : ℕ) (c : Came) (before : List Came) (t : BoardTurn) (turns : List BoardTurn) → IsValidMachine m
     → IsInRun m switches pins entries b (c ∷ before) (t ∷ turns) → bytes_in (map on_wire (map plain t.control.commands)) ≤ 43
 control_bytes m switches pins entries b c before t turns v r =
-    let fit = fits_at 43 b (last_turn m switches c before).ordered.controls t.control (all-fit m switches c before v) r.both.1 in
+    let fit = fits_at 43 b (last_reacted m switches c before).ordered.controls t.control (all-fit m switches c before v) r.both.1 in
     omega (arith, bytes_same t.control.commands)
 
 pub plain_bytes : (m : Machine) (switches : List Switch) (pins : List (List Level)) (entries : List Entry) (b : ℕ) (c : Came) (before : List Came) (t : BoardTurn) (turns : List BoardTurn) → IsValidMachine m
     → IsInRun m switches pins entries b (c ∷ before) (t ∷ turns) → ((line : ℕ) → (known_by m switches (c ∷ before)).phase ≡ Stopping line → ⊥) → bytes_in (map on_wire (map plain t.control.commands)) ≤ 42
 plain_bytes m switches pins entries b c before t turns v r n =
-    let fit = fits_at 42 b (last_turn m switches c before).ordered.controls t.control (plain-fit m switches c before v n) r.both.1 in
+    let fit = fits_at 42 b (last_reacted m switches c before).ordered.controls t.control (plain-fit m switches c before v n) r.both.1 in
     omega (arith, bytes_same t.control.commands)
 
 pub control_closing : (m : Machine) (switches : List Switch) (pins : List (List Level)) (entries : List Entry) (b : ℕ) (c : Came) (before : List Came) (t : BoardTurn) (turns : List BoardTurn)
     → IsInRun m switches pins entries b (c ∷ before) (t ∷ turns) → closing_in (map on_wire (map plain t.control.commands)) ≤ 1
 control_closing m switches pins entries b c before t turns r =
-    let fit = once_at b (last_turn m switches c before).ordered.controls t.control (once m switches (known_by m switches before) (length before) c.states c.note) r.both.1 in
+    let fit = once_at b (last_reacted m switches c before).ordered.controls t.control (once m switches (known_by m switches before) (length before) c.states c.note) r.both.1 in
     omega (arith, closing_same t.control.commands)

@@ -31,7 +31,7 @@ use Rattle.link_work.proofs.Parts.{ticks_rise}
 use Rattle.board_asking.specs.declared.asking.Asking.{Asking}
 use Rattle.board_asking.specs.declared.asking.Stage.{Stage}
 use Rattle.board_asking.specs.declared.asking.Stage.TheVariants.{Connected}
-use Rattle.board_asking.specs.Asking.{after_asks, after_drift, answered, hears, is_connected, is_out, is_in_time, listens, more, new_asking, or_else, ready, sample_of, tells_clock, were_put}
+use Rattle.board_asking.specs.Asking.{after_asks, after_drift, answered, hears_first, is_connected, is_out, is_in_time, listens, more, new_asking, or_asking, ready, sample_of, tells_clock, were_put}
 use Rattle.board_asking.specs.Clocks.{added_at, no_clocks}
 use Rattle.board_asking.specs.Connecting.{board_line, listen_all, sample_or_none}
 use Rattle.board_asking.specs.Drift.{after_question, asks_now, drifts, is_asked_now, is_unanswered, new_line, new_lines, waits_in}
@@ -40,9 +40,9 @@ use Rattle.axis_homing.specs.Homing.{homing_turn}
 use Rattle.host_reactor.specs.declared.ordered.Known.{Known}
 use Rattle.host_reactor.specs.declared.ordered.Phase.{Phase}
 use Rattle.host_reactor.specs.declared.ordered.Phase.TheVariants.{Connecting, Running}
-use Rattle.host_reactor.specs.Notes.{noted, told, told_all}
+use Rattle.host_reactor.specs.Notes.{noted, known_behind, told_all}
 use Rattle.host_reactor.specs.Reactor.{Reacted, homed, homing_commands}
-use Rattle.host_reactor.specs.Runs.{Came, known_by, last_turn}
+use Rattle.host_reactor.specs.Runs.{Came, known_by, last_reacted}
 use Rattle.laws_board.specs.turns.Turns.{AreBoardTurns, BoardTurn, IsBoardOf, latest_state}
 use Rattle.laws_board.specs.clocks.Runs.{IsInRun}
 use Rattle.laws_board.specs.clocks.Samples.{IsSampled, WasPut, WasTold, first_line, line_of, lines_told}
@@ -68,13 +68,13 @@ answer_stays turn a Connected number (cmd.Uptime high low) h = if_stays (tells_c
 answer_stays turn a Connected number c h = tt
 answer_stays turn a stage number c h = cc
 
-or_stays : (o : Option Asking) (b : Asking) → StaysOn o → is_connected b.stage ≡ true → is_connected (or_else o b).stage ≡ true
+or_stays : (o : Option Asking) (b : Asking) → StaysOn o → is_connected b.stage ≡ true → is_connected (or_asking o b).stage ≡ true
 or_stays None b s h = h
 or_stays (Some a) b s h = s
 
-hears_stays : (turn : ℕ) (ns : List News) (a : Asking) → is_connected a.stage ≡ true → is_connected (hears turn ns a).stage ≡ true
+hears_stays : (turn : ℕ) (ns : List News) (a : Asking) → is_connected a.stage ≡ true → is_connected (hears_first turn ns a).stage ≡ true
 hears_stays turn [] a h = h
-hears_stays turn (n ∷ ns) a h = or_stays (answered turn a a.stage n.number n.answer) (hears turn ns a) (answer_stays turn a a.stage n.number n.answer h) (hears_stays turn ns a h)
+hears_stays turn (n ∷ ns) a h = or_stays (answered turn a a.stage n.number n.answer) (hears_first turn ns a) (answer_stays turn a a.stage n.number n.answer h) (hears_stays turn ns a h)
 
 either_stays : (b : Bool) (x y : Asking) → is_connected x.stage ≡ true → is_connected y.stage ≡ true → is_connected (cond b x y).stage ≡ true
 either_stays true x y h i = h
@@ -84,7 +84,7 @@ listens_stays : (a : Asking) (s : State) → is_connected a.stage ≡ true → i
 listens_stays a s h =
     let b = were_put s.turn s.asked a in
     let i : is_connected b.stage ≡ true = ap is_connected (were_stage s.turn s.asked a) ∙ h in
-    either_stays (is_in_time s.turn b.since) (hears s.turn s.news b) b (hears_stays s.turn s.news b i) i
+    either_stays (is_in_time s.turn b.since) (hears_first s.turn s.news b) b (hears_stays s.turn s.news b i) i
 
 heard_stays : (a : Asking) (states : List State) → is_connected a.stage ≡ true → is_connected (heard_now a states).stage ≡ true
 heard_stays a [] h = h
@@ -128,7 +128,7 @@ at_first clocks b board from line = either (nat_lt board (length clocks))
     either true = set_first clocks b board from line
     either false = refl
 
-told_keeps : (m : Machine) (r : Known) (n : NoteNews) → Same (told m r n) r
+told_keeps : (m : Machine) (r : Known) (n : NoteNews) → Same (known_behind m r n) r
 told_keeps m r (news.Start section kind turn last moving) = record { phase = refl; askings = refl; lines = λ b. refl }
 told_keeps m r (news.Done section turn) = record { phase = refl; askings = refl; lines = λ b. refl }
 told_keeps m r (news.Read x sections) = record { phase = refl; askings = refl; lines = λ b. refl }
@@ -138,7 +138,7 @@ all_keep : (m : Machine) (ns : List NoteNews) (r : Known) → Same (told_all m n
 all_keep m [] r = record { phase = refl; askings = refl; lines = λ b. refl }
 all_keep m (n ∷ ns) r =
     let h = told_keeps m r n in
-    let t = all_keep m ns (told m r n) in
+    let t = all_keep m ns (known_behind m r n) in
     record { phase = t.phase ∙ h.phase; askings = t.askings ∙ h.askings; lines = λ b. t.lines b ∙ h.lines b }
 
 noted_keeps : (m : Machine) (note : Option Note) (r : Known) → Same (noted m note r) r
@@ -239,7 +239,7 @@ pub record Step (m : Machine) (switches : List Switch) (b : ℕ) (c : Came) (bef
   pub hears : a ≡ heard_now first (latest_state turns)
   pub is : IsAsking (clock_of (board_at m b)) turns (length turns) a
   pub connected : ((noted m c.note (known_by m switches before)).phase ≡ Connecting → ⊥) → is_connected a.stage ≡ true
-  pub turned : BoardTurned m (noted m c.note (known_by m switches before)) b (length before) c.states a (last_turn m switches c before) t.control
+  pub turned : BoardTurned m (noted m c.note (known_by m switches before)) b (length before) c.states a (last_reacted m switches c before) t.control
 
 pub as_long : (m : Machine) (switches : List Switch) (b : ℕ) (came : List Came) (turns : List BoardTurn) → IsBoardOf m switches b came turns → length came ≡ length turns
 as_long m switches b [] [] is = refl
@@ -355,7 +355,7 @@ stands m switches pins entries b (c ∷ before) (t ∷ turns) r =
     let s = stands m switches pins entries b before turns (run_before m switches pins entries b c before t turns r) in
     let x = step m switches pins entries b c before t turns r s in
     let long = as_long m switches b before turns r.both.2 in
-    stands_after_turn m b c (noted m c.note (known_by m switches before)) before t turns (length before) x.a (last_turn m switches c before) long x.known
+    stands_after_turn m b c (noted m c.note (known_by m switches before)) before t turns (length before) x.a (last_reacted m switches c before) long x.known
     (at_turn clock turns (length before) (length turns) x.a (sym long) x.is) x.connected x.turned
 
 pub turn_of : (m : Machine) (switches : List Switch) (pins : List (List Level)) (entries : List Entry) (b : ℕ) (c : Came) (before : List Came) (t : BoardTurn) (turns : List BoardTurn)
@@ -390,11 +390,11 @@ turn_lines m b c r t turns k a x i d (Runs p g) =
     (run_sampled m clock turns b (homing_turn r.clocks k c.states r.homing).cut r.askings.items (listen_all r.askings.items c.states) a g.heard (line_sampled m b turns k a (d running) i))
 
 pub told_lines : (m : Machine) (switches : List Switch) (pins : List (List Level)) (entries : List Entry) (b : ℕ) (c : Came) (before : List Came) (t : BoardTurn) (turns : List BoardTurn)
-    → IsInRun m switches pins entries b (c ∷ before) (t ∷ turns) → All (IsSampled (clock_of (board_at m b)) turns) (lines_told b (last_turn m switches c before).ordered.word.news)
+    → IsInRun m switches pins entries b (c ∷ before) (t ∷ turns) → All (IsSampled (clock_of (board_at m b)) turns) (lines_told b (last_reacted m switches c before).ordered.word.news)
 told_lines m switches pins entries b c before t turns r =
     let clock = clock_of (board_at m b) in
     let x = turn_of m switches pins entries b c before t turns r in
     let long = as_long m switches b before turns r.both.2 in
-    all_sampled clock turns (lines_told b (last_turn m switches c before).ordered.word.news)
-    (turn_lines m b c (noted m c.note (known_by m switches before)) t turns (length before) x.a (last_turn m switches c before)
+    all_sampled clock turns (lines_told b (last_reacted m switches c before).ordered.word.news)
+    (turn_lines m b c (noted m c.note (known_by m switches before)) t turns (length before) x.a (last_reacted m switches c before)
     (at_turn clock turns (length before) (length turns) x.a (sym long) x.is) x.connected x.turned)

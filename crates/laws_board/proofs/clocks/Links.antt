@@ -15,7 +15,7 @@ use Rattle.wire_scene.specs.declared.scene.Way.TheVariants.{Down, Up}
 use Rattle.link_core.specs.Core.{Reply, sent}
 use Rattle.link_core.specs.Stands.{last_closes}
 use Rattle.board_world.specs.declared.event.Event.TheVariants as event
-use Rattle.board_world.specs.World.{Core, Step, Do, after, happens, run}
+use Rattle.board_world.specs.World.{Core, Step, Do, world_after, after_event, run_world}
 use Rattle.board_world.specs.Stands.{IsAnswer, IsOrdered}
 use Rattle.board_world.proofs.Runs.{ordered, start_ordered}
 use Rattle.link_work.specs.Turn.{LinkState, Orders, IsTurn, after_board, after_host, after_replies, come, host_steps}
@@ -54,29 +54,29 @@ turn_parts clock P turn low most o resent l l1 l2 l3 e1 e2 e3 k small few from p
     let host = host_steps turn o resent in
     let down = come Down turn l1.down.copies in
     let up = come Up turn l2.up.copies in
-    let c1 : l1.core ≡ run host l.core = ap (λ (x : LinkState). x.core) e1 in
-    let c2 : l2.core ≡ happens (run down l1.core) (event.Pass until) = ap (λ (x : LinkState). x.core) e2 ∙ run_append down (Do (event.Pass until) ∷ []) l1.core in
-    let c3 : l3.core ≡ run up l2.core = ap (λ (x : LinkState). x.core) e3 in
+    let c1 : l1.core ≡ run_world host l.core = ap (λ (x : LinkState). x.core) e1 in
+    let c2 : l2.core ≡ after_event (run_world down l1.core) (event.Pass until) = ap (λ (x : LinkState). x.core) e2 ∙ run_append down (Do (event.Pass until) ∷ []) l1.core in
+    let c3 : l3.core ≡ run_world up l2.core = ap (λ (x : LinkState). x.core) e3 in
     let o1 : IsOrdered l1.core = subst IsOrdered (sym c1) (ordered host l.core k.ordered) in
-    let od : IsOrdered (run down l1.core) = ordered down l1.core o1 in
-    let o2 : IsOrdered l2.core = subst IsOrdered (sym c2) (ordered (Do (event.Pass until) ∷ []) (run down l1.core) od) in
+    let od : IsOrdered (run_world down l1.core) = ordered down l1.core o1 in
+    let o2 : IsOrdered l2.core = subst IsOrdered (sym c2) (ordered (Do (event.Pass until) ∷ []) (run_world down l1.core) od) in
     let o3 : IsOrdered l3.core = subst IsOrdered (sym c3) (ordered up l2.core o2) in
     let t1 : l1.core.board.controller.tick ≡ board_tick clock turn = ap (λ (h : Core). h.board.controller.tick) c1 ∙ tick_held host l.core (host_holds turn o resent) ∙ k.tick in
-    let td : (run down l1.core).board.controller.tick ≡ board_tick clock turn = tick_held down l1.core (come_holds Down turn l1.down.copies) ∙ t1 in
-    let t2 : l2.core.board.controller.tick ≡ until = ap (λ (h : Core). h.board.controller.tick) c2 ∙ tick_passed (run down l1.core) until od (omega (arith, td, ticks_rise clock turn)) in
+    let td : (run_world down l1.core).board.controller.tick ≡ board_tick clock turn = tick_held down l1.core (come_holds Down turn l1.down.copies) ∙ t1 in
+    let t2 : l2.core.board.controller.tick ≡ until = ap (λ (h : Core). h.board.controller.tick) c2 ∙ tick_passed (run_world down l1.core) until od (omega (arith, td, ticks_rise clock turn)) in
     let t3 : l3.core.board.controller.tick ≡ until = ap (λ (h : Core). h.board.controller.tick) c3 ∙ tick_held up l2.core (come_holds Up turn l2.up.copies) ∙ t2 in
     let s3 : sent l2.core.link ≤ sent l3.core.link = omega (arith, sent_grows up l2.core, ap (λ (h : Core). sent h.link) c3) in
-    let s2 : sent (run down l1.core).link ≤ sent l2.core.link = omega (arith, sent_grows (Do (event.Pass until) ∷ []) (run down l1.core), ap (λ (h : Core). sent h.link) c2) in
-    let s1 : sent l1.core.link ≤ sent (run down l1.core).link = sent_grows down l1.core in
-    let sh : sent (run host l.core).link ≡ sent l1.core.link = ap (λ (h : Core). sent h.link) (sym c1) in
+    let s2 : sent (run_world down l1.core).link ≤ sent l2.core.link = omega (arith, sent_grows (Do (event.Pass until) ∷ []) (run_world down l1.core), ap (λ (h : Core). sent h.link) c2) in
+    let s1 : sent l1.core.link ≤ sent (run_world down l1.core).link = sent_grows down l1.core in
+    let sh : sent (run_world host l.core).link ≡ sent l1.core.link = ap (λ (h : Core). sent h.link) (sym c1) in
     let from1 : low ≤ l1.core.link.accepted = omega (arith, accepted_grows host l.core, ap (λ (h : Core). h.link.accepted) c1) in
-    let from2 : low ≤ (run down l1.core).link.accepted = omega (arith, accepted_grows down l1.core) in
+    let from2 : low ≤ (run_world down l1.core).link.accepted = omega (arith, accepted_grows down l1.core) in
     let d1 : Dated P l1.core.link.up = subst (λ (h : Core). Dated P h.link.up) (sym c1)
     (dated_along P host l.core (board_tick clock turn) low most (host_holds turn o resent) k.ordered k.tick small p from (omega arith) k.dated) in
-    let dd : Dated P (run down l1.core).link.up =
+    let dd : Dated P (run_world down l1.core).link.up =
     dated_along P down l1.core (board_tick clock turn) low most (come_holds Down turn l1.down.copies) o1 t1 small p from1 (omega arith) d1 in
     let d2 : Dated P l2.core.link.up = subst (λ (h : Core). Dated P h.link.up) (sym c2)
-    (dated_by P (run down l1.core) (event.Pass until) (board_tick clock turn) od.in_step td small (λ n above below. p n (omega arith) (omega arith)) dd) in
+    (dated_by P (run_world down l1.core) (event.Pass until) (board_tick clock turn) od.in_step td small (λ n above below. p n (omega arith) (omega arith)) dd) in
     let came = up_come (Dates P) turn l2.up.copies l2.core d2 in
     record { at = record { tick = t3; ordered = o3; dated = subst (λ (h : Core). Dated P h.link.up) (sym c3) came.1 }; heard = came.0 }
 
@@ -114,16 +114,16 @@ among_both n (x ∷ xs) ys (inr k) = elim (among_both n xs ys k) [ inl a ↦ inl
 
 pub asked_here : (s : Step) (h : Core) (n : ℕ) → IsAmong n (asked_at s h) → sent h.link ≡ n
 asked_here (Do event.Send) h n k =
-    let g = happens h event.Send in
+    let g = after_event h event.Send in
     asked_one h g n (nat_lt (sent h.link) (sent g.link) && last_closes false g.link.blocks) k
 asked_here s h n k = absurd k
 
 pub asked_from : (steps : List Step) (h : Core) (n : ℕ) → IsAmong n (asked_in steps h) → sent h.link ≤ n
 asked_from [] h n k = absurd k
 asked_from (s ∷ steps) h n k =
-    elim (among_both n (asked_at s h) (asked_in steps (after h s)) k) [
+    elim (among_both n (asked_at s h) (asked_in steps (world_after h s)) k) [
       | inl now ↦ let e = asked_here s h n now in omega arith
-      | inr later ↦ let e = asked_from steps (after h s) n later in let g = sent_grows (s ∷ []) h in omega arith
+      | inr later ↦ let e = asked_from steps (world_after h s) n later in let g = sent_grows (s ∷ []) h in omega arith
     ]
 
 -- over turns

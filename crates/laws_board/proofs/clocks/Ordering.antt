@@ -18,7 +18,7 @@ use Rattle.host_reactor.specs.declared.ordered.Phase.{Phase}
 use Rattle.host_reactor.specs.declared.ordered.Phase.TheVariants.{Connecting, Running}
 use Rattle.host_reactor.specs.Notes.{noted}
 use Rattle.host_reactor.specs.Reactor.{Reacted, homing_commands, stops}
-use Rattle.host_reactor.specs.Runs.{Came, known_by, last_turn}
+use Rattle.host_reactor.specs.Runs.{Came, known_by, last_reacted}
 use Rattle.laws_board.specs.turns.Turns.{BoardTurn}
 use Rattle.laws_board.specs.clocks.Ordered.{MayOrder}
 use Rattle.laws_board.specs.clocks.Runs.{IsInRun}
@@ -45,7 +45,7 @@ pub may_order : (m : Machine) (switches : List Switch) (pins : List (List Level)
 may_order m switches pins entries b c before t turns r =
     let s = turn_of m switches pins entries b c before t turns r in
     let n = noted m c.note (known_by m switches before) in
-    all_may n.homing (length before) t.control.commands (turn_may m b c n (length before) s.a (last_turn m switches c before) t s.turned)
+    all_may n.homing (length before) t.control.commands (turn_may m b c n (length before) s.a (last_reacted m switches c before) t s.turned)
 
 -- what else a control tells
 abbrev Tells : Phase → ℕ → Control → Type 0
@@ -65,4 +65,4 @@ tells m switches pins entries b c before t turns r =
     let s = turn_of m switches pins entries b c before t turns r in
     let n = noted m c.note (known_by m switches before) in
     subst (λ (p : Phase). Tells p (length before) t.control) (noted_phase m c.note (known_by m switches before))
-    (turn_tells m b c n (length before) s.a (last_turn m switches c before) t s.turned)
+    (turn_tells m b c n (length before) s.a (last_reacted m switches c before) t s.turned)

@@ -6,7 +6,7 @@ use Rattle.plan_types.specs.declared.machine.Machine.{Machine}
 use Rattle.plan_types.specs.Machines.{IsValidMachine}
 use Rattle.wire_scene.specs.declared.scene.Entry.{Entry}
 use Rattle.wire_scene.specs.declared.scene.Switch.{Switch}
-use Rattle.link_work.specs.Ends.{EndSo, Ended, last_of}
+use Rattle.link_work.specs.Ends.{EndSo, Ended, last_link}
 use Rattle.link_work.specs.Limits.{AllKeepLimits, KeepsLimits}
 use Rattle.link_work.specs.Runs.{AreTurns}
 use Rattle.link_work.specs.Stands.{orders}
@@ -19,7 +19,7 @@ use Rattle.host_reactor.specs.declared.ordered.Phase.{Phase}
 use Rattle.host_reactor.specs.declared.ordered.Phase.TheVariants.{Connecting, Running, Stopping}
 use Rattle.host_reactor.specs.Notes.{noted}
 use Rattle.host_reactor.specs.Reactor.{Reacted}
-use Rattle.host_reactor.specs.Runs.{Came, known_by, last_turn}
+use Rattle.host_reactor.specs.Runs.{Came, known_by, last_reacted}
 use Rattle.laws_board.specs.turns.Turns.{AreBoardTurns, BoardTurn, stands_after}
 use Rattle.laws_board.specs.clocks.Runs.{IsInRun, UnitsFit, ends_in, orders_in}
 use Rattle.laws_board.proofs.clocks.Limits.{control_closing, plain_bytes}
@@ -43,15 +43,15 @@ turns_in_order clock first (t ∷ before) are =
     one_later clock 0 (length before) (orders_in before) (orders t.control t.batch) first (stands_after first before) t.after (turns_in_order clock first before are.1) (omega (arith, order_length before)) are.0.0
 
 -- how they end
-last_is : (l : LinkState) (ends : List Ended) (e : Ended) → last_of l (ends ++ e ∷ []) ≡ e.link
+last_is : (l : LinkState) (ends : List Ended) (e : Ended) → last_link l (ends ++ e ∷ []) ≡ e.link
 last_is l [] e = refl
 last_is l (x ∷ ends) e = last_is x.link ends e
 
-pub last_stands : (first : LinkState) (turns : List BoardTurn) → last_of first (ends_in turns) ≡ stands_after first turns
+pub last_stands : (first : LinkState) (turns : List BoardTurn) → last_link first (ends_in turns) ≡ stands_after first turns
 last_stands first [] = refl
 last_stands first (t ∷ before) = last_is first (ends_in before) (record { turn = length before; link = t.after })
 
-end_later : (clock : BoardClock) (turn n : ℕ) (os : List Orders) (o : Orders) (l m k : LinkState) (ends : List Ended) → EndSo clock turn os l ends → last_of l ends ≡ m → n ≡ turn + length os → IsTurn clock n o m k
+end_later : (clock : BoardClock) (turn n : ℕ) (os : List Orders) (o : Orders) (l m k : LinkState) (ends : List Ended) → EndSo clock turn os l ends → last_link l ends ≡ m → n ≡ turn + length os → IsTurn clock n o m k
     → EndSo clock turn (os ++ o ∷ []) l (ends ++ record { turn = n; link = k } ∷ [])
 end_later clock turn n [] o l m k [] so last e t =
     let same : n ≡ turn = omega arith in
@@ -92,6 +92,6 @@ all_limits m switches pins entries b (c ∷ before) (t ∷ turns) v r n u =
     let x = turn_of m switches pins entries b c before t turns r in
     let k = noted m c.note (known_by m switches before) in
     let old = λ (line : ℕ). λ (e : (known_by m switches before).phase ≡ Stopping line).
-    goes_before m k b (length before) c.states x.a (last_turn m switches c before) t.control x.turned line (noted_phase m c.note (known_by m switches before) ∙ e) in
+    goes_before m k b (length before) c.states x.a (last_reacted m switches c before) t.control x.turned line (noted_phase m c.note (known_by m switches before) ∙ e) in
     limits_both (orders_in turns) (orders t.control t.batch) (all_limits m switches pins entries b before turns v (run_before m switches pins entries b c before t turns r) old u.1)
     (record { controls = plain_bytes m switches pins entries b c before t turns v r n; units = u.0; closing = control_closing m switches pins entries b c before t turns r })

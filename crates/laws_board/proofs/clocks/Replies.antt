@@ -9,7 +9,7 @@ use Rattle.link_core.specs.Core.{Link, Command, Reply, sent, numbered}
 use Rattle.link_core.specs.Core as link
 use Rattle.board_world.specs.declared.event.Event.{Event}
 use Rattle.board_world.specs.declared.event.Event.TheVariants as event
-use Rattle.board_world.specs.World.{Core, Step, Do, does, happens, run, text_of}
+use Rattle.board_world.specs.World.{Core, Step, Do, does, after_event, run_world, wire_text}
 use Rattle.link_work.specs.Told.{heard_in}
 use Rattle.link_work.specs.Turn.{come, comes}
 use Rattle.link_work.proofs.Steps.{AllOf, all_come}
@@ -77,17 +77,17 @@ up_repeated P l (n ∷ ns) answers empty a k = elim (eqb_tells n l.accepted) [
 ]
 
 -- where empty replies and the answers of an event are so, each reply is behind it
-pub up_by : (P : Reply → Type 0) (h : Core) (e : Event) → IsEmptySo P → ((n : ℕ) → IsNumber h e n → AllUp P (numbered n (map text_of (does h e).answers))) → AllUp P h.link.up → AllUp P (happens h e).link.up
+pub up_by : (P : Reply → Type 0) (h : Core) (e : Event) → IsEmptySo P → ((n : ℕ) → IsNumber h e n → AllUp P (numbered n (map wire_text (does h e).answers))) → AllUp P h.link.up → AllUp P (after_event h e).link.up
 up_by P h (event.Put b) empty a k = k
 up_by P h (event.Control c) empty a k = k
 up_by P h event.Send empty a k = up_sent P h.link h.link.waiting k
 up_by P h event.Resend empty a k = k
 up_by P h event.Arrive empty a k =
-    let answers = map text_of (does h event.Arrive).answers in
+    let answers = map wire_text (does h event.Arrive).answers in
     up_arrived P (link.repeat h.link h.link.down answers) h.link.down (up_repeated P h.link h.link.down answers empty a k)
 up_by P h event.Lose empty a k = up_arrived P h.link h.link.down k
 up_by P h event.Garble empty a k = up_garbled P h.link h.link.down h.spoilt empty k
-up_by P h event.Repeat empty a k = up_repeated P h.link h.link.down (map text_of (does h event.Repeat).answers) empty a k
+up_by P h event.Repeat empty a k = up_repeated P h.link h.link.down (map wire_text (does h event.Repeat).answers) empty a k
 up_by P h event.Reply empty a k = up_heard P h.link h.link.up k
 up_by P h event.LoseReply empty a k = up_lost P h.link h.link.up refl k
 up_by P h (event.Pass t) empty a k = up_both P h.link.up _ k (a h.link.accepted refl)
@@ -98,12 +98,12 @@ IsReply (Do event.Reply) = Unit {0}
 IsReply (Do event.LoseReply) = Unit {0}
 IsReply s = ⊥
 
-up_along : (P : Reply → Type 0) (steps : List Step) (h : Core) → AllOf IsReply steps → AllUp P h.link.up → AllUp P (heard_in steps h) × AllUp P (run steps h).link.up
+up_along : (P : Reply → Type 0) (steps : List Step) (h : Core) → AllOf IsReply steps → AllUp P h.link.up → AllUp P (heard_in steps h) × AllUp P (run_world steps h).link.up
 up_along P [] h are k = (tt, k)
 up_along P (Do event.Reply ∷ steps) h are k =
-    let rest = up_along P steps (happens h event.Reply) are.1 (up_heard P h.link h.link.up k) in
-    (up_both P (take 1 h.link.up) (heard_in steps (happens h event.Reply)) (up_first P h.link.up k) rest.0, rest.1)
-up_along P (Do event.LoseReply ∷ steps) h are k = up_along P steps (happens h event.LoseReply) are.1 (up_lost P h.link h.link.up refl k)
+    let rest = up_along P steps (after_event h event.Reply) are.1 (up_heard P h.link h.link.up k) in
+    (up_both P (take 1 h.link.up) (heard_in steps (after_event h event.Reply)) (up_first P h.link.up k) rest.0, rest.1)
+up_along P (Do event.LoseReply ∷ steps) h are k = up_along P steps (after_event h event.LoseReply) are.1 (up_lost P h.link h.link.up refl k)
 up_along P (s ∷ steps) h are k = absurd are.0
 
 comes_reply : (fate : Fate) → AllOf IsReply (comes Up fate)
@@ -113,5 +113,5 @@ comes_reply Stays = (tt, (tt, (tt, tt)))
 comes_reply Garbled = (tt, tt)
 
 -- the replies that come in a turn are so, and those under way behind it
-pub up_come : (P : Reply → Type 0) (turn : ℕ) (copies : List Copy) (h : Core) → AllUp P h.link.up → AllUp P (heard_in (come Up turn copies) h) × AllUp P (run (come Up turn copies) h).link.up
+pub up_come : (P : Reply → Type 0) (turn : ℕ) (copies : List Copy) (h : Core) → AllUp P h.link.up → AllUp P (heard_in (come Up turn copies) h) × AllUp P (run_world (come Up turn copies) h).link.up
 up_come P turn copies h k = up_along P (come Up turn copies) h (all_come IsReply Up comes_reply turn copies) k

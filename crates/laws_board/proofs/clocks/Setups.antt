@@ -14,7 +14,7 @@ use Rattle.board_asking.specs.declared.asking.Stage.{Stage}
 use Rattle.board_asking.specs.declared.asking.Stage.TheVariants.{Identify, Uptime, Configure, Config, Connected}
 use Rattle.board_asking.specs.declared.setup.Setup.{Setup}
 use Rattle.board_asking.specs.declared.setup.Setup.TheVariants.{Oids, Stepper, Trsync, Endstop, Finish}
-use Rattle.board_asking.specs.Asking.{after_asks, after_clock, after_drift, after_piece, answered, asked, asks, hears, is_due, is_in_time, is_over, more, or_else, question, ready_stage, sample_of, settled, tells_clock, were_put}
+use Rattle.board_asking.specs.Asking.{after_asks, after_clock, after_drift, after_piece, answered, asked, asks, hears_first, is_question_due, is_in_time, is_over, more, or_asking, question, ready_stage, sample_of, settled, tells_clock, were_put}
 use Rattle.board_asking.specs.Machine.{control_bytes, fitting, setup_command}
 use Rattle.laws_board.specs.clocks.Ordered.{configures}
 use Rattle.laws_board.proofs.clocks.Lines.{were_stage}
@@ -54,14 +54,14 @@ conf_answer setups done turn a Config number (cmd.Config is_config crc is_shutdo
 conf_answer setups done turn a Connected number (cmd.Uptime high low) k = conf_if setups done (tells_clock a number) (after_drift a (sample_of a turn high low)) k
 conf_answer setups done turn a stage number c k = tt
 
-conf_or : (setups : List Setup) (done : List Cmd) (o : Option Asking) (b : Asking) → MayConf setups done o → Conf setups b.stage done → Conf setups (or_else o b).stage done
+conf_or : (setups : List Setup) (done : List Cmd) (o : Option Asking) (b : Asking) → MayConf setups done o → Conf setups b.stage done → Conf setups (or_asking o b).stage done
 conf_or setups done None b m k = k
 conf_or setups done (Some a) b m k = m
 
-conf_hears : (setups : List Setup) (done : List Cmd) (turn : ℕ) (ns : List News) (a : Asking) → Conf setups a.stage done → Conf setups (hears turn ns a).stage done
+conf_hears : (setups : List Setup) (done : List Cmd) (turn : ℕ) (ns : List News) (a : Asking) → Conf setups a.stage done → Conf setups (hears_first turn ns a).stage done
 conf_hears setups done turn [] a k = k
 conf_hears setups done turn (n ∷ ns) a k =
-    conf_or setups done (answered turn a a.stage n.number n.answer) (hears turn ns a) (conf_answer setups done turn a a.stage n.number n.answer k) (conf_hears setups done turn ns a k)
+    conf_or setups done (answered turn a a.stage n.number n.answer) (hears_first turn ns a) (conf_answer setups done turn a a.stage n.number n.answer k) (conf_hears setups done turn ns a k)
 
 conf_either : (setups : List Setup) (done : List Cmd) (b : Bool) (x y : Asking) → Conf setups x.stage done → Conf setups y.stage done → Conf setups (cond b x y).stage done
 conf_either setups done true x y k l = k
@@ -72,7 +72,7 @@ conf_heard setups done a [] k = k
 conf_heard setups done a (s ∷ states) k =
     let b = were_put s.turn s.asked a in
     let i : Conf setups b.stage done = subst (λ (g : Stage). Conf setups g done) (sym (were_stage s.turn s.asked a)) k in
-    conf_either setups done (is_in_time s.turn b.since) (hears s.turn s.news b) b (conf_hears setups done s.turn s.news b i) i
+    conf_either setups done (is_in_time s.turn b.since) (hears_first s.turn s.news b) b (conf_hears setups done s.turn s.news b i) i
 
 -- all was ordered
 over_none : (ss : List Setup) → is_over ss ≡ true → ss ≡ []
@@ -132,8 +132,8 @@ still_stage setups false k a stage done e c = subst (λ (g : Stage). Conf setups
 pub conf_asks : (setups : List Setup) (k : ℕ) (a : Asking) (stage : Stage) (done : List Cmd) → length setups < 1_000 → a.stage ≡ stage → Conf setups stage done
     → Conf setups (after_asks setups k a stage).stage (done ++ filter configures (asks setups k a stage))
 conf_asks setups k a (Identify offset) done few e c =
-    still_stage setups (is_due k a.since) k a (Identify offset) _ e (none_more done setups (Identify offset) (is_due k a.since) (question (Identify offset)) refl c)
-conf_asks setups k a Uptime done few e c = still_stage setups (is_due k a.since) k a Uptime _ e (none_more done setups Uptime (is_due k a.since) (question Uptime) refl c)
+    still_stage setups (is_question_due k a.since) k a (Identify offset) _ e (none_more done setups (Identify offset) (is_question_due k a.since) (question (Identify offset)) refl c)
+conf_asks setups k a Uptime done few e c = still_stage setups (is_question_due k a.since) k a Uptime _ e (none_more done setups Uptime (is_question_due k a.since) (question Uptime) refl c)
 conf_asks setups k a (Configure n) done few e c =
     let f = fitting control_bytes (drop n setups) in
     let q = length f in
@@ -148,10 +148,10 @@ conf_asks setups k a (Configure n) done few e c =
     ap (λ (x : List Cmd). x ++ filter configures (map setup_command f)) c.1 ∙ ap (λ (x : List Cmd). map setup_command (take n setups) ++ x) (filter_setups f)
     ∙ sym (map-append setup_command (take n setups) f) ∙ ap (λ (x : List Setup). map setup_command x) front in
     subst (λ (i : ℕ). Conf setups (Configure i) (done ++ filter configures (map setup_command f))) (sym next) (reach, whole)
-conf_asks setups k a Config done few e c = still_stage setups (is_due k a.since) k a Config _ e (none_more done setups Config (is_due k a.since) (question Config) refl c)
+conf_asks setups k a Config done few e c = still_stage setups (is_question_due k a.since) k a Config _ e (none_more done setups Config (is_question_due k a.since) (question Config) refl c)
 conf_asks setups k a Connected done few e c =
-    let none : filter configures (cond (is_due k a.since) [] []) ≡ [] = no_question (is_due k a.since) in
-    subst (λ (g : Stage). Conf setups g (done ++ filter configures (cond (is_due k a.since) [] []))) (sym e)
+    let none : filter configures (cond (is_question_due k a.since) [] []) ≡ [] = no_question (is_question_due k a.since) in
+    subst (λ (g : Stage). Conf setups g (done ++ filter configures (cond (is_question_due k a.since) [] []))) (sym e)
     (subst (λ (l : List Cmd). Conf setups Connected l) (sym (ap (λ (l : List Cmd). done ++ l) none ∙ append-nil done)) c)
   where
     no_question : (b : Bool) → filter configures (cond b [] []) ≡ []

@@ -19,7 +19,7 @@ use Rattle.wire_scene.specs.declared.scene.Switch.{Switch}
 use Rattle.board_asking.specs.declared.asking.Asking.{Asking}
 use Rattle.board_asking.specs.Machine.{configuration}
 use Rattle.board_asking.specs.Asking.{new_asking, listens, ready, asks, after_asks, is_connected}
-use Rattle.board_asking.specs.Connecting.{listen_all, ready_all, giving_up, all_connected, control, asking_controls, ask_all, board_line, board_lines, clocks_of}
+use Rattle.board_asking.specs.Connecting.{listen_all, ready_all, giving_up, all_connected, control, asking_controls, ask_all, board_line, board_lines, one_line_clocks}
 use Rattle.board_asking.specs.Drift.{drifts, stale, waiting, waits_in, after_question, new_lines}
 use Rattle.axis_homing.specs.declared.homing.HomingTurn.{HomingTurn}
 use Rattle.axis_homing.specs.Homing.{homing_turn}
@@ -223,7 +223,7 @@ lines_at m i zero j (x ∷ askings) a s e =
     ap (λ (y : Asking). board_line m i y ∷ []) f ∙ ap (λ (n : ℕ). board_line m n a ∷ []) g
 lines_at m i (suc b) j (x ∷ askings) a s e = lines_at m (i + 1) b j askings a (omega arith) e
 
-clocks_are : (b : ℕ) (lines : List Line) (l : Line) → line_at b lines ≡ l ∷ [] → clocks_at b (clocks_of lines) ≡ one_line l ∷ []
+clocks_are : (b : ℕ) (lines : List Line) (l : Line) → line_at b lines ≡ l ∷ [] → clocks_at b (one_line_clocks lines) ≡ one_line l ∷ []
 clocks_are b [] l e = cc
 clocks_are zero (x ∷ lines) l e = let f : x ≡ l = cc in ap (λ (y : Line). one_line y ∷ []) f
 clocks_are (suc b) (x ∷ lines) l e = clocks_are b lines l e

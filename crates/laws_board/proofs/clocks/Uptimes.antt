@@ -18,7 +18,7 @@ use Rattle.msg_code.specs.Text.{IsText, params_text, row_at}
 use Rattle.msg_code.proofs.Known.{known}
 use Rattle.msg_code.proofs.Sizes.{own_text}
 use Rattle.msg_code.proofs.Texts.{is_text, one_text}
-use Rattle.board_world.specs.World.{text_of}
+use Rattle.board_world.specs.World.{wire_text}
 
 pub small : (r : Row) → own_id r < 2 ^ 32
 small r = omega (arith, own_small r)
@@ -66,7 +66,7 @@ none_said c t =
     absurd (omega (arith, one, ap length i.joined, length-append i.first i.rest))
 
 -- only an answer that tells the clock has such bytes
-pub uptime_row : (c : Cmd) (high low : ℕ) → IsText own_formats (cmd.Uptime high low) (text_of c) → row_of c ≡ row.Uptime
+pub uptime_row : (c : Cmd) (high low : ℕ) → IsText own_formats (cmd.Uptime high low) (wire_text c) → row_of c ≡ row.Uptime
 uptime_row c high low t =
     let i = t.spelled in
     let id = own_id (row_of c) in
@@ -80,11 +80,11 @@ uptime_row c high low t =
 both_same : (a b c d : ℕ) → cmd.Uptime a b ≡ cmd.Uptime c d → (a ≡ c) × (b ≡ d)
 both_same a b c d e = (cc, cc)
 
-uptime_is : (a b high low : ℕ) → a < 2 ^ 32 → b < 2 ^ 32 → IsText own_formats (cmd.Uptime high low) (text_of (cmd.Uptime a b)) → (high ≡ a) × (low ≡ b)
+uptime_is : (a b high low : ℕ) → a < 2 ^ 32 → b < 2 ^ 32 → IsText own_formats (cmd.Uptime high low) (wire_text (cmd.Uptime a b)) → (high ≡ a) × (low ≡ b)
 uptime_is a b high low k l t =
     let c = cmd.Uptime a b in
     let text = params_text (params_of c) in
-    let mine : IsText own_formats c (text_of c) = is_text own_formats c (own_id row.Uptime) (spelling (own_id row.Uptime)) text (text_of c) (own_row row.Uptime)
+    let mine : IsText own_formats c (wire_text c) = is_text own_formats c (own_id row.Uptime) (spelling (own_id row.Uptime)) text (wire_text c) (own_row row.Uptime)
     (spelling_spells (own_id row.Uptime) (small row.Uptime))
     (record {
       first = spelling a;
@@ -93,7 +93,7 @@ uptime_is a b high low k l t =
       is_rest = record { first = spelling b; rest = []; is_first = spelling_spells b l; is_rest = refl; joined = refl };
       joined = refl;
     }) (own_text c) refl in
-    let same = one_text own_formats (cmd.Uptime high low) c (text_of c) (text_of c) [] [] t mine refl in
+    let same = one_text own_formats (cmd.Uptime high low) c (wire_text c) (wire_text c) [] [] t mine refl in
     both_same high low a b same.1
 
 -- an answer that tells the clock tells this tick
@@ -104,7 +104,7 @@ TellsTick tick c = Unit {0}
 whole_tick : (tick high low a b : ℕ) → a ≡ tick / 2 ^ 32 → b ≡ tick % 2 ^ 32 → high ≡ a → low ≡ b → high * 2 ^ 32 + low ≡ tick
 whole_tick tick high low a b k l m n = omega arith
 
-by_row : (tick : ℕ) (c : Cmd) (high low : ℕ) → tick < 2 ^ 64 → TellsTick tick c → row_of c ≡ row.Uptime → IsText own_formats (cmd.Uptime high low) (text_of c) → high * 2 ^ 32 + low ≡ tick
+by_row : (tick : ℕ) (c : Cmd) (high low : ℕ) → tick < 2 ^ 64 → TellsTick tick c → row_of c ≡ row.Uptime → IsText own_formats (cmd.Uptime high low) (wire_text c) → high * 2 ^ 32 + low ≡ tick
 by_row tick (cmd.Uptime a b) high low few t e x =
     let k : a < 2 ^ 32 = omega (arith, t.0) in
     let l : b < 2 ^ 32 = omega (arith, t.1) in
@@ -112,7 +112,7 @@ by_row tick (cmd.Uptime a b) high low few t e x =
     whole_tick tick high low a b t.0 t.1 same.0 same.1
 by_row tick c high low few t e x = cc
 
-pub tells_tick : (tick : ℕ) (c : Cmd) (high low : ℕ) → tick < 2 ^ 64 → TellsTick tick c → IsText own_formats (cmd.Uptime high low) (text_of c) → high * 2 ^ 32 + low ≡ tick
+pub tells_tick : (tick : ℕ) (c : Cmd) (high low : ℕ) → tick < 2 ^ 64 → TellsTick tick c → IsText own_formats (cmd.Uptime high low) (wire_text c) → high * 2 ^ 32 + low ≡ tick
 tells_tick tick c high low few t x = by_row tick c high low few t (uptime_row c high low x) x
 
 -- an answer that tells no clock
@@ -124,5 +124,5 @@ not_by_row : (c : Cmd) → IsNoClock c → row_of c ≡ row.Uptime → ⊥
 not_by_row (cmd.Uptime a b) t e = t
 not_by_row c t e = cc
 
-pub tells_none : (c : Cmd) (high low : ℕ) → IsNoClock c → IsText own_formats (cmd.Uptime high low) (text_of c) → ⊥
+pub tells_none : (c : Cmd) (high low : ℕ) → IsNoClock c → IsText own_formats (cmd.Uptime high low) (wire_text c) → ⊥
 tells_none c high low t x = not_by_row c t (uptime_row c high low x)

@@ -17,7 +17,7 @@ use Rattle.trigger_group.proofs.Bounds.{end_bound, heard_bound}
 use Rattle.board_step.specs.Steps.{Pending}
 use Rattle.board_sim.specs.Board.{is_shut, stepper_at}
 use Rattle.board_sim.specs.Rig.{Rig, Slot, pass, slot_at, takes}
-use Rattle.board_sim.specs.RigRuns.{RigStep, Takes, Passes, rig_after, rig_after_all, all_made, IsThere, IsTimely, AreTimely, AreBehind, AllBefore, IsBound}
+use Rattle.board_sim.specs.RigRuns.{RigStep, Takes, Passes, rig_after, rig_after_all, all_made, IsThere, IsTimely, AreTimely, AreBehindSetUp, AllBefore, IsBound}
 use Rattle.laws_board.specs.groups.Homing.{tick_of, timed_and_bound, HasBoth, HasTriggeredIn, IsOfGroup, AreOfGroup}
 use Rattle.laws_board.proofs.groups.Timed.{IsTimed, first_timed, ran_before, runs_or_shut, stays_shut, stays_timed, takes_timed}
 use Rattle.board_sim.proofs.Binding.{binds, makes_ready, timely}
@@ -49,7 +49,7 @@ timely_parts [] ys j most r t = (tt, t)
 timely_parts (Takes c ∷ xs) ys j most r t = let parts = timely_parts xs ys j most (rig_after r (Takes c)) t.1 in ((t.0, parts.0), parts.1)
 timely_parts (Passes n u ∷ xs) ys j most r t = timely_parts xs ys j most (rig_after r (Passes n u)) t
 
-behind_parts : (xs ys : List RigStep) (i j : ℕ) → AreBehind i j (xs ++ ys) → AreBehind i j xs × AreBehind i j ys
+behind_parts : (xs ys : List RigStep) (i j : ℕ) → AreBehindSetUp i j (xs ++ ys) → AreBehindSetUp i j xs × AreBehindSetUp i j ys
 behind_parts [] ys i j b = (tt, b)
 behind_parts (Takes c ∷ xs) ys i j b = let parts = behind_parts xs ys i j b.1 in ((b.0, parts.0), parts.1)
 behind_parts (Passes n u ∷ xs) ys i j b = behind_parts xs ys i j b
@@ -59,7 +59,7 @@ some_queue None there = absurd there
 some_queue (Some q) there = (q, refl)
 
 -- a stepper that is bound behind its trigger's first timeout
-bound_running : (r : Rig) (between behind : List RigStep) (i j most c : ℕ) → HasBoth i j r → AreBehind i j (between ++ behind) → (rig_after_all (Takes (cmd.TrsyncSetTimeout j c) ∷ between) r).controller.state ≡ Running
+bound_running : (r : Rig) (between behind : List RigStep) (i j most c : ℕ) → HasBoth i j r → AreBehindSetUp i j (between ++ behind) → (rig_after_all (Takes (cmd.TrsyncSetTimeout j c) ∷ between) r).controller.state ≡ Running
     → AreTimely j most r (timed_and_bound i j c between ++ behind) → AllBefore i most (all_made behind (rig_after_all (timed_and_bound i j c between) r))
 bound_running r between behind i j most c has apart running timely =
     let set = cmd.TrsyncSetTimeout j c in
@@ -77,7 +77,7 @@ bound_running r between behind i j most c has apart running timely =
     subst (λ (q : Rig). AllBefore i most (all_made behind q)) (sym same)
     (stops (takes two stop).rig behind i j most bound parts.1 (subst (λ (q : Rig). AreTimely j most q behind) same late.1))
 
-pub bound_in_time : (r : Rig) (between behind : List RigStep) (i j most c : ℕ) → HasBoth i j r → AreBehind i j (between ++ behind)
+pub bound_in_time : (r : Rig) (between behind : List RigStep) (i j most c : ℕ) → HasBoth i j r → AreBehindSetUp i j (between ++ behind)
     → AreTimely j most r (timed_and_bound i j c between ++ behind) → AllBefore i most (all_made behind (rig_after_all (timed_and_bound i j c between) r))
 bound_in_time r between behind i j most c has apart timely =
     let set = cmd.TrsyncSetTimeout j c in
@@ -90,7 +90,7 @@ bound_in_time r between behind i j most c has apart timely =
       | inr shut ↦ subst (AllBefore i most) (sym (stays_shut behind last (ap (λ (q : Rig). is_shut q.controller.state) same ∙ (stays_shut (Takes stop ∷ []) two shut).0)).1) tt
     ]
 
-pub by_end : (ms : List Member) (start last turn : ℕ) (rss : List (List Report)) (line : Line) (r : Rig) (between behind : List RigStep) (stepper trigger c : ℕ) → HasBoth stepper trigger r → AreBehind stepper trigger (between ++ behind)
+pub by_end : (ms : List Member) (start last turn : ℕ) (rss : List (List Report)) (line : Line) (r : Rig) (between behind : List RigStep) (stepper trigger c : ℕ) → HasBoth stepper trigger r → AreBehindSetUp stepper trigger (between ++ behind)
     → AreOfGroup line trigger (all_sent turn rss (new_group ms start last)) r (timed_and_bound stepper trigger c between ++ behind)
     → AllBefore stepper (tick_of line (last + 1)) (all_made behind (rig_after_all (timed_and_bound stepper trigger c between) r))
 by_end ms start last turn rss line r between behind stepper trigger c has apart of =
@@ -98,7 +98,7 @@ by_end ms start last turn rss line r between behind stepper trigger c has apart 
     (all_timely (timed_and_bound stepper trigger c between ++ behind) line trigger (last + 1) (all_sent turn rss (new_group ms start last)) r (λ s t there what. end_bound ms start last turn rss s t there what) of)
 
 pub by_heard : (ms : List Member) (start last turn : ℕ) (rss : List (List Report)) (line : Line) (r : Rig) (between behind : List RigStep) (stepper trigger c u : ℕ) (m : Member) → Contains ms m → start ≤ u
-    → CouldUpTo m.board u (all_reports rss) → HasBoth stepper trigger r → AreBehind stepper trigger (between ++ behind)
+    → CouldUpTo m.board u (all_reports rss) → HasBoth stepper trigger r → AreBehindSetUp stepper trigger (between ++ behind)
     → AreOfGroup line trigger (all_sent turn rss (new_group ms start last)) r (timed_and_bound stepper trigger c between ++ behind)
     → AllBefore stepper (tick_of line (u + 25)) (all_made behind (rig_after_all (timed_and_bound stepper trigger c between) r))
 by_heard ms start last turn rss line r between behind stepper trigger c u m member from could has apart of =
@@ -117,7 +117,7 @@ could_up_to line board i j r steps reports u x = λ report among same can.
     let told = x.told report among same can in
     let mid = rig_after_all told.first r in
     let whole : rig_after_all steps r ≡ rig_after_all told.rest mid = ap (λ (ss : List RigStep). rig_after_all ss r) told.are ∙ after_both told.first told.rest r in
-    let parts = behind_parts told.first told.rest i j (subst (AreBehind i j) told.are x.behind) in
+    let parts = behind_parts told.first told.rest i j (subst (AreBehindSetUp i j) told.are x.behind) in
     let sooner = no_sooner mid told.rest i j x.slot told.ready parts.1 (subst (λ (q : Rig). slot_at q j ≡ Some x.slot) whole x.is) x.fired in
     let tick = told.tick_is in
     let turn = told.turn_is in
@@ -128,7 +128,7 @@ could_up_to line board i j r steps reports u x = λ report among same can.
     ]
 
 pub by_fired : (ms : List Member) (start last turn : ℕ) (rss : List (List Report)) (line : Line) (r : Rig) (between behind : List RigStep) (stepper trigger c u : ℕ) (m : Member) (own : Line) (q : Rig) (steps : List RigStep) (i j : ℕ)
-    → Contains ms m → start ≤ u → HasTriggeredIn own m.board i j q steps (all_reports rss) u → HasBoth stepper trigger r → AreBehind stepper trigger (between ++ behind)
+    → Contains ms m → start ≤ u → HasTriggeredIn own m.board i j q steps (all_reports rss) u → HasBoth stepper trigger r → AreBehindSetUp stepper trigger (between ++ behind)
     → AreOfGroup line trigger (all_sent turn rss (new_group ms start last)) r (timed_and_bound stepper trigger c between ++ behind)
     → AllBefore stepper (tick_of line (u + 25)) (all_made behind (rig_after_all (timed_and_bound stepper trigger c between) r))
 by_fired ms start last turn rss line r between behind stepper trigger c u m own q steps i j member from fired has apart of =
@@ -150,7 +150,7 @@ any_bound i j most other n r t b = record {
   halted = b.halted;
 }
 
-fired_none : (steps : List RigStep) (r : Rig) (i j : ℕ) → IsBound i j 0 r → IsTimed ⊥ i j 0 r → AreBehind i j steps → AllBefore i 0 (all_made steps r)
+fired_none : (steps : List RigStep) (r : Rig) (i j : ℕ) → IsBound i j 0 r → IsTimed ⊥ i j 0 r → AreBehindSetUp i j steps → AllBefore i 0 (all_made steps r)
 fired_none [] r i j b t apart = tt
 fired_none (Takes c ∷ ss) r i j b t apart =
     let far = some_most r.controller.tick j c in
@@ -160,7 +160,7 @@ fired_none (Passes n u ∷ ss) r i j b t apart =
     let p = pass_bound n r i j 0 u b in
     all_both i 0 (pass n r u).pulses (all_made ss (pass n r u).rig) p.1 (fired_none ss (pass n r u).rig i j p.0 (stays_timed ⊥ (Passes n u ∷ []) r i j 0 t tt (λ x. absurd x)) apart)
 
-halts_running : (r : Rig) (steps : List RigStep) (i j : ℕ) (s : Slot) → r.controller.state ≡ Running → HasBoth i j r → AreBehind i j steps → slot_at (rig_after_all (Takes (cmd.StepperStopOnTrigger i j) ∷ steps) r) j ≡ Some s
+halts_running : (r : Rig) (steps : List RigStep) (i j : ℕ) (s : Slot) → r.controller.state ≡ Running → HasBoth i j r → AreBehindSetUp i j steps → slot_at (rig_after_all (Takes (cmd.StepperStopOnTrigger i j) ∷ steps) r) j ≡ Some s
     → s.trigger.can ≡ false → AllBefore i s.trigger.tick (all_made (Takes (cmd.StepperStopOnTrigger i j) ∷ steps) r)
 halts_running r steps i j s running has apart at fired = by has.slot.trigger.can refl
   where
@@ -182,7 +182,7 @@ halts_running r steps i j s running has apart at fired = by has.slot.trigger.can
         all_later i 0 s.trigger.tick (all_made steps (takes r (cmd.StepperStopOnTrigger i j)).rig) (omega arith)
         (fired_none steps (takes r (cmd.StepperStopOnTrigger i j)).rig i j bound (takes_timed ⊥ r.controller.state r i j 0 (cmd.StepperStopOnTrigger i j) tt (λ x. absurd x) timed) apart)
 
-pub halts_there : (r : Rig) (steps : List RigStep) (i j : ℕ) (s : Slot) → HasBoth i j r → AreBehind i j steps → slot_at (rig_after_all (Takes (cmd.StepperStopOnTrigger i j) ∷ steps) r) j ≡ Some s → s.trigger.can ≡ false
+pub halts_there : (r : Rig) (steps : List RigStep) (i j : ℕ) (s : Slot) → HasBoth i j r → AreBehindSetUp i j steps → slot_at (rig_after_all (Takes (cmd.StepperStopOnTrigger i j) ∷ steps) r) j ≡ Some s → s.trigger.can ≡ false
     → AllBefore i s.trigger.tick (all_made (Takes (cmd.StepperStopOnTrigger i j) ∷ steps) r)
 halts_there r steps i j s has apart at fired = elim (runs_or_shut r) [
   | inl runs ↦ halts_running r steps i j s runs has apart at fired

@@ -16,8 +16,8 @@ use Rattle.board_trig.specs.Trigger as trig
 use Rattle.msg_code.specs.declared.cmd.Cmd.{Cmd}
 use Rattle.msg_code.specs.declared.cmd.Cmd.TheVariants as cmd
 use Rattle.board_sim.specs.Board.{Controller, is_shut, stepper_at}
-use Rattle.board_sim.specs.Rig.{Rig, Slot, Passed, slot_at, levels_of, becomes, make_trigger, make_endstop, start, expires_at_once, set_timeout, trigger, bind, home, by_board, acts, acts_running, takes, earliest, runs_to, rested, rests_to, happens_to, happens, goes_on, at_of, passes_by, pass}
-use Rattle.board_sim.specs.RigRuns.{RigStep, Takes, Passes, all_made, rig_after_all, IsThere, IsBehind, IsTimely, AreBehind, AreTimely, IsLimitedTo}
+use Rattle.board_sim.specs.Rig.{Rig, Slot, Passed, slot_at, levels_of, becomes, make_trigger, make_endstop, start_trigger, expires_at_once, set_timeout, trigger, bind, home, by_board, acts, acts_running, takes, earliest_moment, runs_to, rested, rests_to, happens_to, happens_at, goes_on, at_of, passes_by, pass}
+use Rattle.board_sim.specs.RigRuns.{RigStep, Takes, Passes, all_made, rig_after_all, IsThere, IsBehindSetUp, IsTimely, AreBehindSetUp, AreTimely, IsLimitedTo}
 use Rattle.board_sim.proofs.RigPlaces.{there_is, is_there}
 use Rattle.board_sim.proofs.RigCommands.{IsIn, takes_is, passes_is}
 use Rattle.board_sim.proofs.RigShut.{all_left_by, happens_state}
@@ -78,7 +78,7 @@ endstop_timed : (C : Type 0) (r : Rig) (i j most oid pin : ℕ) (o : Option ℕ)
 endstop_timed C r i j most oid pin None b = other_timed C r (make_endstop r oid pin None) i j most b refl (λ is. is)
 endstop_timed C r i j most oid pin (Some p) b = b
 
-start_timed : (C : Type 0) (r : Rig) (i j most oid : ℕ) (o : Option Slot) (clock every reason : ℕ) → slot_at r oid ≡ o → (oid ≡ j → ⊥) → IsTimed C i j most r → IsTimed C i j most (start r oid o clock every reason)
+start_timed : (C : Type 0) (r : Rig) (i j most oid : ℕ) (o : Option Slot) (clock every reason : ℕ) → slot_at r oid ≡ o → (oid ≡ j → ⊥) → IsTimed C i j most r → IsTimed C i j most (start_trigger r oid o clock every reason)
 start_timed C r i j most oid None clock every reason e other b = b
 start_timed C r i j most oid (Some s) clock every reason e other b = becomes_timed C r i j most oid s _ b e (λ same. absurd (other same))
 
@@ -124,10 +124,10 @@ home_timed C r i j most other (Some pin) (Some s) h e b =
     timed_by C r (home r (Some pin) other (Some s) h) i j most other s (record s { trigger = trig.sampling r.controller.tick h s.trigger; pin = pin }) b e refl (λ is. is)
     (λ same. ((λ told. told), λ can. (can, λ x l. l))) (same_or_not other j)
 
-board_timed : (C : Type 0) (r : Rig) (i j most : ℕ) (c : Cmd) → IsBehind i j c → IsTimed C i j most r → IsTimed C i j most (by_board r c).rig
+board_timed : (C : Type 0) (r : Rig) (i j most : ℕ) (c : Cmd) → IsBehindSetUp i j c → IsTimed C i j most r → IsTimed C i j most (by_board r c).rig
 board_timed C r i j most c behind b = other_timed C r (by_board r c).rig i j most b refl (λ is. takes_is false i j r.controller c behind is)
 
-acts_timed : (C : Type 0) (r : Rig) (i j most : ℕ) (c : Cmd) → IsBehind i j c → (C → IsTimely r.controller.tick j most c) → IsTimed C i j most r → IsTimed C i j most (acts r c).rig
+acts_timed : (C : Type 0) (r : Rig) (i j most : ℕ) (c : Cmd) → IsBehindSetUp i j c → (C → IsTimely r.controller.tick j most c) → IsTimed C i j most r → IsTimed C i j most (acts r c).rig
 acts_timed C r i j most (cmd.ConfigTrsync oid) behind timely b = made_timed C r i j most oid (slot_at r oid) refl b
 acts_timed C r i j most (cmd.TrsyncStart oid clock every reason) behind timely b = start_timed C r i j most oid (slot_at r oid) clock every reason refl behind b
 acts_timed C r i j most (cmd.TrsyncSetTimeout oid clock) behind timely b = set_timed C r i j most oid clock (slot_at r oid) refl timely b
@@ -138,7 +138,7 @@ acts_timed C r i j most (cmd.EndstopHome oid clock sample count rest value other
     home_timed C r i j most other (slice_index_or r.endstops oid None) (slot_at r other) (record { clock = clock; sample_ticks = sample; sample_count = count; rest_ticks = rest; pin_value = value; reason = reason }) refl b
 acts_timed C r i j most c behind timely b = board_timed C r i j most c behind b
 
-pub takes_timed : (C : Type 0) (o : BoardState) (r : Rig) (i j most : ℕ) (c : Cmd) → IsBehind i j c → (C → IsTimely r.controller.tick j most c) → IsTimed C i j most r → IsTimed C i j most (acts_running o r c).rig
+pub takes_timed : (C : Type 0) (o : BoardState) (r : Rig) (i j most : ℕ) (c : Cmd) → IsBehindSetUp i j c → (C → IsTimely r.controller.tick j most c) → IsTimed C i j most r → IsTimed C i j most (acts_running o r c).rig
 takes_timed C Running r i j most c behind timely b = acts_timed C r i j most c behind timely b
 takes_timed C (Shut reason tick first) r i j most c behind timely b = board_timed C r i j most c behind b
 
@@ -162,7 +162,7 @@ happened_later C (Switches tick) levels until most t = ((λ told. told), λ can.
 happened_later C (Reports tick) levels until most t = ((λ told. told), λ can. (can, λ x l. l))
 
 tells_later : (C : Type 0) (o : Option ℕ) (levels : List Level) (until most : ℕ) (t : Trigger) → t.untold ≡ o → Later C most t (trig.tells o levels until t).trigger
-tells_later C None levels until most t e = happened_later C (trig.next levels until t) levels until most t
+tells_later C None levels until most t e = happened_later C (trig.next_happening levels until t) levels until most t
 tells_later C (Some tick) levels until most t e = ((λ told. refl), λ can. (can, λ x l. l))
 
 happens_timed : (C : Type 0) (r : Rig) (i j most until oid : ℕ) (o : Option Slot) → slot_at r oid ≡ o → IsTimed C i j most r → IsTimed C i j most (happens_to r until oid o).rig
@@ -170,8 +170,8 @@ happens_timed C r i j most until oid None e b = b
 happens_timed C r i j most until oid (Some s) e b =
     becomes_timed C r i j most oid s (trig.advanced (levels_of r s.pin) until s.trigger).trigger b e (λ same. tells_later C s.trigger.untold (levels_of r s.pin) until most s.trigger refl)
 
-goes_timed : (C : Type 0) (o : Option (ℕ × ℕ)) (r : Rig) (i j most t : ℕ) (rest : Passed) → IsTimed C i j most r → (IsTimed C i j most (happens r t (at_of o)).rig → IsTimed C i j most rest.rig)
-    → IsTimed C i j most (goes_on o (rests_to r t) (passes_by (happens r t (at_of o)) rest)).rig
+goes_timed : (C : Type 0) (o : Option (ℕ × ℕ)) (r : Rig) (i j most t : ℕ) (rest : Passed) → IsTimed C i j most r → (IsTimed C i j most (happens_at r t (at_of o)).rig → IsTimed C i j most rest.rig)
+    → IsTimed C i j most (goes_on o (rests_to r t) (passes_by (happens_at r t (at_of o)) rest)).rig
 goes_timed C None r i j most t rest b more = rests_timed C r i j most t b
 goes_timed C (Some at) r i j most t rest b more =
     more (happens_timed C (runs_to r (at.0 / 3)).rig i j most t at.1 (slot_at (runs_to r (at.0 / 3)).rig at.1) refl (runs_timed C r i j most (at.0 / 3) b))
@@ -179,10 +179,10 @@ goes_timed C (Some at) r i j most t rest b more =
 pass_timed : (C : Type 0) (n : ℕ) (r : Rig) (i j most t : ℕ) → IsTimed C i j most r → IsTimed C i j most (pass n r t).rig
 pass_timed C zero r i j most t b = b
 pass_timed C (suc n) r i j most t b =
-    let first = happens r t (at_of (earliest r t 0 r.triggers)) in
-    goes_timed C (earliest r t 0 r.triggers) r i j most t (pass n first.rig t) b (λ now. pass_timed C n first.rig i j most t now)
+    let first = happens_at r t (at_of (earliest_moment r t 0 r.triggers)) in
+    goes_timed C (earliest_moment r t 0 r.triggers) r i j most t (pass n first.rig t) b (λ now. pass_timed C n first.rig i j most t now)
 
-pub stays_timed : (C : Type 0) (steps : List RigStep) (r : Rig) (i j most : ℕ) → IsTimed C i j most r → AreBehind i j steps → (C → AreTimely j most r steps) → IsTimed C i j most (rig_after_all steps r)
+pub stays_timed : (C : Type 0) (steps : List RigStep) (r : Rig) (i j most : ℕ) → IsTimed C i j most r → AreBehindSetUp i j steps → (C → AreTimely j most r steps) → IsTimed C i j most (rig_after_all steps r)
 stays_timed C [] r i j most b behind timely = b
 stays_timed C (Takes c ∷ ss) r i j most b behind timely = stays_timed C ss (takes r c).rig i j most (takes_timed C r.controller.state r i j most c behind.0 (λ x. (timely x).0) b) behind.1 (λ x. (timely x).1)
 stays_timed C (Passes n t ∷ ss) r i j most b behind timely = stays_timed C ss (pass n r t).rig i j most (pass_timed C n r i j most t b) behind timely
@@ -221,17 +221,17 @@ Left p = (is_shut p.rig.controller.state ≡ true) × (p.pulses ≡ [])
 both_none : (xs ys : List Pulse) → xs ≡ [] → ys ≡ [] → xs ++ ys ≡ []
 both_none xs ys e f = rw (e, f) refl
 
-goes_left : (o : Option (ℕ × ℕ)) (r : Rig) (t : ℕ) (rest : Passed) → is_shut r.controller.state ≡ true → (is_shut (happens r t (at_of o)).rig.controller.state ≡ true → Left rest)
-    → Left (goes_on o (rests_to r t) (passes_by (happens r t (at_of o)) rest))
+goes_left : (o : Option (ℕ × ℕ)) (r : Rig) (t : ℕ) (rest : Passed) → is_shut r.controller.state ≡ true → (is_shut (happens_at r t (at_of o)).rig.controller.state ≡ true → Left rest)
+    → Left (goes_on o (rests_to r t) (passes_by (happens_at r t (at_of o)) rest))
 goes_left None r t rest e more = let left = pass_left r.controller t e in (ap is_shut left.1 ∙ e, left.0)
 goes_left (Some at) r t rest e more =
     let left = pass_left r.controller (at.0 / 3) e in
     let behind = more (ap is_shut (happens_state (runs_to r (at.0 / 3)).rig t at.1 (slot_at (runs_to r (at.0 / 3)).rig at.1) ∙ left.1) ∙ e) in
-    (behind.0, both_none (happens r t at).pulses rest.pulses left.0 behind.1)
+    (behind.0, both_none (happens_at r t at).pulses rest.pulses left.0 behind.1)
 
 passes_left : (n : ℕ) (r : Rig) (t : ℕ) → is_shut r.controller.state ≡ true → Left (pass n r t)
 passes_left zero r t e = (e, refl)
-passes_left (suc n) r t e = let first = happens r t (at_of (earliest r t 0 r.triggers)) in goes_left (earliest r t 0 r.triggers) r t (pass n first.rig t) e (λ shut. passes_left n first.rig t shut)
+passes_left (suc n) r t e = let first = happens_at r t (at_of (earliest_moment r t 0 r.triggers)) in goes_left (earliest_moment r t 0 r.triggers) r t (pass n first.rig t) e (λ shut. passes_left n first.rig t shut)
 
 pub stays_shut : (steps : List RigStep) (r : Rig) → is_shut r.controller.state ≡ true → (is_shut (rig_after_all steps r).controller.state ≡ true) × (all_made steps r ≡ [])
 stays_shut [] r e = (e, refl)

@@ -18,8 +18,8 @@ use Rattle.motion_stream.specs.declared.course.Course.{Course}
 use Rattle.motion_stream.specs.declared.course.Open.{Open}
 use Rattle.motion_stream.specs.declared.course.Open.TheVariants as opens
 use Rattle.motion_stream.specs.Courses.{IsGoing}
-use Rattle.motion_stream.specs.Motions.{IsMore, answered, begun_with, going_with, hears_answer, waits_by, with_word}
-use Rattle.motion_stream.specs.Puts.{IsBehind}
+use Rattle.motion_stream.specs.Motions.{IsMore, started_until, begun_with, going_with, hears_answer, waits_by, with_word}
+use Rattle.motion_stream.specs.Puts.{IsSeenBehind}
 use Rattle.motion_stream.specs.Seen.{AreWhole, Going, IsContinued, Seen}
 use Rattle.motion_stream.specs.Wholes.{HasNoAnswer}
 use Rattle.session_work.specs.declared.table.MotionTurn.{MotionTurn}
@@ -116,8 +116,8 @@ home_axis (Home axis) e = (axis, refl)
 
 -- which a word leaves so: it may end the section
 homing_ends : (m : Machine) (k next : ℕ) (begun : List Started) (g : Going) (b : Bool) → Homing k begun (Some g)
-    → Homing k (begun_with begun (if b then Some (answered m next g) else None)) (going_with (Some g) (if b then Some (answered m next g) else None))
-homing_ends m k next begun g true h = let axis = home_axis g.kind h.0 in record { past = begun; s = answered m next g; are = refl; axis = axis.0; home = axis.1; by = h.1 }
+    → Homing k (begun_with begun (if b then Some (started_until m next g) else None)) (going_with (Some g) (if b then Some (started_until m next g) else None))
+homing_ends m k next begun g true h = let axis = home_axis g.kind h.0 in record { past = begun; s = started_until m next g; are = refl; axis = axis.0; home = axis.1; by = h.1 }
 homing_ends m k next begun g false h = h
 
 homing_by : (m : Machine) (k next : ℕ) (begun : List Started) (going : Option Going) (tells : Bool) → Homing k begun going
@@ -163,9 +163,9 @@ not_late a k e late = elim (leb_tells a k) [ inl p ↦ clash (sym p.0 ∙ e) | i
 
 -- that tells of an answer: it ends the section that goes on, where that homes and has started
 word_ends : (m : Machine) (k : ℕ) (done : List MotionTurn) (ws : List WordMsg) (w : WordMsg) (begun : List Started) (g : Going) (homes late : Bool) → is_home g.kind ≡ homes → nat_le g.start k ≡ late → k ≤ no_end → tells_homed w.news ≡ true → HaveHeard k done ws begun (Some g)
-    → HaveHeard k done (ws ++ w ∷ []) (begun_with begun (if homes && late then Some (answered m k g) else None)) (going_with (Some g) (if homes && late then Some (answered m k g) else None))
+    → HaveHeard k done (ws ++ w ∷ []) (begun_with begun (if homes && late then Some (started_until m k g) else None)) (going_with (Some g) (if homes && late then Some (started_until m k g) else None))
 word_ends m k done ws w begun g true true home start small tells a = record {
-  known = answers_snoc k done (ws ++ w ∷ []) begun (answered m k g) (answers_more k done ws w begun a.known) (record { waits = waits_less g.start no_end k 0 0 done small (a.waits home).0; took = inl (refl, any_last ws w tells) });
+  known = answers_snoc k done (ws ++ w ∷ []) begun (started_until m k g) (answers_more k done ws w begun a.known) (record { waits = waits_less g.start no_end k 0 0 done small (a.waits home).0; took = inl (refl, any_last ws w tells) });
   waits = tt;
 }
 word_ends m k done ws w begun g true false home start small tells a = record {
@@ -245,7 +245,7 @@ answers_moves k done [] (s ∷ more) h moves = (λ axis home. absurd (moves_home
     moves_home axis e = cc
 answers_moves k done (x ∷ begun) more h moves = (h.0, answers_moves k done begun more h.1 moves)
 
-going_waits : (m : Machine) (seen next : Seen) (k : ℕ) (news : List NoteNews) (done : List MotionTurn) (going : Option Going) → length done ≤ k + 1 → IsBehind m seen next k news → next.going ≡ going → Waits (k + 1) done [] seen.going → Waits (k + 1) done [] going
+going_waits : (m : Machine) (seen next : Seen) (k : ℕ) (news : List NoteNews) (done : List MotionTurn) (going : Option Going) → length done ≤ k + 1 → IsSeenBehind m seen next k news → next.going ≡ going → Waits (k + 1) done [] seen.going → Waits (k + 1) done [] going
 going_waits m seen next k news done None long is e v = tt
 going_waits m seen next k news done (Some g) long is e v = λ home. elim (is.sections.goes g e) [
   | inl start ↦ (waits_later g.start no_end 0 0 done (omega (arith, start, long)), λ late any. any)
@@ -255,7 +255,7 @@ going_waits m seen next k news done (Some g) long is e v = λ home. elim (is.sec
       subst (WaitsSince (k + 1) done []) (sym start) (own (ap is_home (sym kind) ∙ home))
 ]
 
-pub heard_turn : (m : Machine) (seen next : Seen) (k : ℕ) (news : List NoteNews) (done : List MotionTurn) → length done ≤ k + 1 → IsBehind m seen next k news → HaveHeard (k + 1) done [] seen.begun seen.going → HaveHeard (k + 1) done [] next.begun next.going
+pub heard_turn : (m : Machine) (seen next : Seen) (k : ℕ) (news : List NoteNews) (done : List MotionTurn) → length done ≤ k + 1 → IsSeenBehind m seen next k news → HaveHeard (k + 1) done [] seen.begun seen.going → HaveHeard (k + 1) done [] next.begun next.going
 heard_turn m seen next k news done long is a = record {
   known = subst (HaveAnswers (k + 1) done []) (sym is.sections.are) (answers_moves (k + 1) done seen.begun is.sections.more a.known is.sections.moves);
   waits = going_waits m seen next k news done next.going long is refl a.waits;

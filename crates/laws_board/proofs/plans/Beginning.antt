@@ -10,7 +10,7 @@ use Rattle.msg_code.specs.declared.talk.NoteNews.TheVariants as news
 use Rattle.report_text.specs.declared.line.ReportLine.TheVariants as report
 use Rattle.host_reactor.specs.declared.ordered.Begun.{Begun}
 use Rattle.host_reactor.specs.declared.ordered.Known.{Known}
-use Rattle.host_reactor.specs.Notes.{noted, told, told_all}
+use Rattle.host_reactor.specs.Notes.{noted, known_behind, told_all}
 use Rattle.host_reactor.specs.Report.{section_line}
 use Rattle.motion_work.specs.Further.{AreFurther}
 use Rattle.motion_work.specs.Puts.{IsReadNews, begun_notes}
@@ -46,13 +46,13 @@ latest k i (s ∷ ss) b = if s.start == k + 260 then latest k (i + 1) ss (Some (
 
 all_append : (m : Machine) (xs ys : List NoteNews) (r : Known) → told_all m (xs ++ ys) r ≡ told_all m ys (told_all m xs r)
 all_append m [] ys r = refl
-all_append m (x ∷ xs) ys r = all_append m xs ys (told m r x)
+all_append m (x ∷ xs) ys r = all_append m xs ys (known_behind m r x)
 
 done_keeps : (m : Machine) (k i : ℕ) (ss : List Started) (r : Known) → (told_all m (done_notes k i ss) r).begun ≡ r.begun
 done_keeps m k i [] r = refl
 done_keeps m k i (s ∷ ss) r =
     elim (eqb_tells s.end k) [
-      | inl p ↦ rw p.0 (done_keeps m k (i + 1) ss (told m r (news.Done i k)))
+      | inl p ↦ rw p.0 (done_keeps m k (i + 1) ss (known_behind m r (news.Done i k)))
       | inr p ↦ rw p.0 (done_keeps m k (i + 1) ss r)
     ]
 
@@ -62,7 +62,7 @@ read_keeps m text ns r (inr e) = ap (λ x. (told_all m x r).begun) e
 
 further_keeps : (m : Machine) (k : ℕ) (ns : List NoteNews) (r : Known) → AreFurther k ns → (told_all m ns r).begun ≡ r.begun
 further_keeps m k [] r h = refl
-further_keeps m k (news.Line board line from ∷ ns) r h = further_keeps m k ns (told m r (news.Line board line from)) h.1
+further_keeps m k (news.Line board line from ∷ ns) r h = further_keeps m k ns (known_behind m r (news.Line board line from)) h.1
 further_keeps m k (news.Start section kind turn last moving ∷ ns) r h = absurd h
 further_keeps m k (news.Done section turn ∷ ns) r h = absurd h
 further_keeps m k (news.Read end sections ∷ ns) r h = absurd h
@@ -71,7 +71,7 @@ begun_sets : (m : Machine) (k i : ℕ) (ss : List Started) (r : Known) → (told
 begun_sets m k i [] r = refl
 begun_sets m k i (s ∷ ss) r =
     elim (eqb_tells s.start (k + 260)) [
-      | inl p ↦ rw p.0 (begun_sets m k (i + 1) ss (told m r (news.Start i s.section.kind s.start s.last s.moving)))
+      | inl p ↦ rw p.0 (begun_sets m k (i + 1) ss (known_behind m r (news.Start i s.section.kind s.start s.last s.moving)))
       | inr p ↦ rw p.0 (begun_sets m k (i + 1) ss r)
     ]
 

@@ -8,7 +8,7 @@ use Rattle.section_units.specs.Sections.{BoardSection}
 use Rattle.step_feed.specs.Pacing.{Release}
 use Rattle.link_work.specs.Turn.{Orders}
 use Rattle.laws_board.specs.sections.Parts.{AreInARow, AreOrdersOf}
-use Rattle.motion_work.specs.Boards.{AreApart, parts_on}
+use Rattle.motion_work.specs.Boards.{AreSectionsApart, parts_on}
 use Rattle.motion_work.specs.Feeds.{batches_at, units_at}
 use Rattle.motion_work.specs.Puts.{ArePut}
 use Rattle.motion_work.specs.Seen.{Started}
@@ -65,6 +65,6 @@ given m text clocks begun b k made bare os rest small put long took controls =
     given_orders m clocks begun b k os (units_given m text begun b k made bare os rest small put long took) controls
 
 -- sections that stand apart are in a row
-pub in_a_row : (until ready from : ℕ) (ss : List BoardSection) → AreApart from ss → ready + 260 ≤ from → EndBefore until ss → AreInARow until ready ss
+pub in_a_row : (until ready from : ℕ) (ss : List BoardSection) → AreSectionsApart from ss → ready + 260 ≤ from → EndBefore until ss → AreInARow until ready ss
 in_a_row until ready from [] a h e = tt
 in_a_row until ready from (s ∷ ss) a h e = (omega (arith, h, a.0), a.1, e.0, in_a_row until s.end (s.end + 260) ss a.2 (omega arith) e.1)

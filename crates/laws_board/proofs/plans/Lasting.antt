@@ -11,7 +11,7 @@ use Rattle.section_feed.specs.Boards.{most_ns}
 use Rattle.motion_work.specs.Further.{noted_line, noted_lines, told_on}
 use Rattle.motion_work.specs.Told.{Told}
 use Rattle.session_work.specs.declared.table.MotionTurn.{MotionTurn}
-use Rattle.laws_board.specs.plans.Planned.{AllInRange, AreKnown, BeginInRange, Plans, heard_in, told_of}
+use Rattle.laws_board.specs.plans.Planned.{AllInRange, AreKnown, BeginInRange, Plans, connecting_heard, told_of}
 
 -- The clock lines of a board hold one after the other, from times of the next 500 years on.
 pub record AreLasting (clocks : List Clocks) (b : ℕ) : Type 0 where
@@ -38,7 +38,7 @@ range_on m ns (Some t) h = λ b low. subst (λ (x : Line). x.clock < 2 ^ 62) (sy
 
 range_of : (m : Machine) (k : ℕ) (ts : List MotionTurn) (o : Option Told) → BeginInRange m o → AllInRange m k ts o → BeginInRange m (told_of m k ts o)
 range_of m k [] o h all = h
-range_of m k (t ∷ ts) o h all = range_of m (k + 1) ts (told_on t.note.news (heard_in m k t.words o)) (range_on m t.note.news (heard_in m k t.words o) all.0) all.1
+range_of m k (t ∷ ts) o h all = range_of m (k + 1) ts (told_on t.note.news (connecting_heard m k t.words o)) (range_on m t.note.news (connecting_heard m k t.words o) all.0) all.1
 
 pub lines_last : (m : Machine) (n : ℕ) (ts : List MotionTurn) (p : Plans m n ts) (t : Told) (b : ℕ) → p.seen.told ≡ Some t → b < length m.boards → AreLasting t.clocks b
 lines_last m n ts p t b told small =

@@ -13,7 +13,7 @@ use Rattle.plan_types.specs.Machines.{IsValidMachine, stepper_at, no_stepper}
 use Rattle.msg_code.specs.declared.talk.State.{State}
 use Rattle.section_units.specs.Units.{as_sent}
 use Rattle.board_sim.specs.Fair.{only}
-use Rattle.host_reactor.specs.Report.{place_of, pulse_at, pulse_line, pulse_lines, turned}
+use Rattle.host_reactor.specs.Report.{stepper_place, pulse_at, pulse_line, pulse_lines, turned}
 use Rattle.section_units.specs.Plans.{board_plans}
 use Rattle.session_work.specs.Rows.{item}
 use Rattle.laws_board.specs.plans.Boards.{as_told}
@@ -77,7 +77,7 @@ least c (s ∷ ss) (suc j) n h = omega (arith, least (λ b. c b + cond (eqb s.bo
 both_true : (a b c d : ℕ) → a ≡ b → c ≡ d → (eqb a b && eqb c d) ≡ true
 both_true a b c d e f = let x : eqb a b ≡ true = eq-eqb a b e in let y : eqb c d ≡ true = eq-eqb c d f in rw (x, y) refl
 
-pub found : (c : ℕ → ℕ) (i : ℕ) (ss : List StepperDef) (j : ℕ) → Numbered c ss → j < length ss → place_of i (get_or ss j no_stepper).board (get_or ss j no_stepper).oid ss ≡ Some (i + j)
+pub found : (c : ℕ → ℕ) (i : ℕ) (ss : List StepperDef) (j : ℕ) → Numbered c ss → j < length ss → stepper_place i (get_or ss j no_stepper).board (get_or ss j no_stepper).oid ss ≡ Some (i + j)
 found c i [] j n h = absurd (omega (arith, h))
 found c i (s ∷ ss) zero n h = let t = both_true s.board s.board s.oid s.oid refl refl in let e : i ≡ i + 0 = omega arith in rw t (ap (λ x. Some x) e)
 found c i (s ∷ ss) (suc j) n h =
@@ -105,7 +105,7 @@ some_same x y e = cc
 none_some : (x : ℕ) → None ≡ Some x → ⊥
 none_some x e = cc
 
-behind : (i b o : ℕ) (ss : List StepperDef) (q : ℕ) → place_of i b o ss ≡ Some q → i ≤ q
+behind : (i b o : ℕ) (ss : List StepperDef) (q : ℕ) → stepper_place i b o ss ≡ Some q → i ≤ q
 behind i b o [] q e = absurd (none_some q e)
 behind i b o (s ∷ ss) q e =
     elim (eqb_tells s.board b) [
@@ -116,7 +116,7 @@ behind i b o (s ∷ ss) q e =
       | inr p ↦ omega (arith, behind (i + 1) b o ss q (rw p.0 at e))
     ]
 
-pub only_there : (i b o : ℕ) (ss : List StepperDef) (j : ℕ) → place_of i b o ss ≡ Some (i + j) → ((get_or ss j no_stepper).board ≡ b) × ((get_or ss j no_stepper).oid ≡ o)
+pub only_there : (i b o : ℕ) (ss : List StepperDef) (j : ℕ) → stepper_place i b o ss ≡ Some (i + j) → ((get_or ss j no_stepper).board ≡ b) × ((get_or ss j no_stepper).oid ≡ o)
 only_there i b o [] j e = absurd (none_some (i + j) e)
 only_there i b o (s ∷ ss) zero e =
     elim (eqb_tells s.board b) [
@@ -137,7 +137,7 @@ only_there i b o (s ∷ ss) (suc j) e =
     ]
 
 -- the pulses of a stepper among those of a board
-one_found : (m : Machine) (place b : ℕ) (p : Pulse) → place_of 0 b p.stepper m.steppers ≡ Some place → pulses_of place (pulse_line m b p) ≡ as_told m place (p ∷ [])
+one_found : (m : Machine) (place b : ℕ) (p : Pulse) → stepper_place 0 b p.stepper m.steppers ≡ Some place → pulses_of place (pulse_line m b p) ≡ as_told m place (p ∷ [])
 one_found m place b p e =
     let own : (place == place) ≡ true = eq-eqb place place refl in
     ap (λ o. pulses_of place (pulse_at m b p o)) e
@@ -158,20 +158,20 @@ board_pulses m v place (p ∷ ps) h =
     let rest = board_pulses m v place ps h in
     pulses_append place (pulse_line m b p) more ∙ elim (eqb_tells p.stepper o) [
       | inl e ↦
-          let there : place_of 0 b p.stepper m.steppers ≡ Some place = ap (λ x. place_of 0 b x m.steppers) e.1 ∙ found (λ x. 0) 0 m.steppers place (numbered m v) h ∙ ap (λ x. Some x) zero_more in
+          let there : stepper_place 0 b p.stepper m.steppers ≡ Some place = ap (λ x. stepper_place 0 b x m.steppers) e.1 ∙ found (λ x. 0) 0 m.steppers place (numbered m v) h ∙ ap (λ x. Some x) zero_more in
           rw e.0 (ap (λ x. x ++ pulses_of place more) (one_found m place b p there) ∙ ap (λ x. as_told m place (p ∷ []) ++ x) rest)
       | inr e ↦
-          let away = λ (f : place_of 0 b p.stepper m.steppers ≡ Some place). e.1 (sym (only_there 0 b p.stepper m.steppers place (f ∙ ap (λ x. Some x) (sym zero_more))).1) in
-          rw e.0 (ap (λ x. x ++ pulses_of place more) (other_place m place b p (place_of 0 b p.stepper m.steppers) away) ∙ rest)
+          let away = λ (f : stepper_place 0 b p.stepper m.steppers ≡ Some place). e.1 (sym (only_there 0 b p.stepper m.steppers place (f ∙ ap (λ x. Some x) (sym zero_more))).1) in
+          rw e.0 (ap (λ x. x ++ pulses_of place more) (other_place m place b p (stepper_place 0 b p.stepper m.steppers) away) ∙ rest)
     ]
 
 other_board : (m : Machine) (place b : ℕ) (ps : List Pulse) → (stepper_at m place).board ≢ b → pulses_of place (flat_map (pulse_line m b) ps) ≡ []
 other_board m place b [] n = refl
 other_board m place b (p ∷ ps) n =
     let zero_more : place ≡ 0 + place = omega arith in
-    let away = λ (f : place_of 0 b p.stepper m.steppers ≡ Some place). n (only_there 0 b p.stepper m.steppers place (f ∙ ap (λ x. Some x) zero_more)).0 in
+    let away = λ (f : stepper_place 0 b p.stepper m.steppers ≡ Some place). n (only_there 0 b p.stepper m.steppers place (f ∙ ap (λ x. Some x) zero_more)).0 in
     pulses_append place (pulse_line m b p) (flat_map (pulse_line m b) ps)
-    ∙ ap (λ x. x ++ pulses_of place (flat_map (pulse_line m b) ps)) (other_place m place b p (place_of 0 b p.stepper m.steppers) away) ∙ other_board m place b ps n
+    ∙ ap (λ x. x ++ pulses_of place (flat_map (pulse_line m b) ps)) (other_place m place b p (stepper_place 0 b p.stepper m.steppers) away) ∙ other_board m place b ps n
 
 -- and among those of all boards
 none_after : (m : Machine) (place i : ℕ) (states : List State) → (stepper_at m place).board < i → pulses_of place (pulse_lines m i states) ≡ []

@@ -17,9 +17,9 @@ use Rattle.motion_work.specs.Told.{Told, heard, lines_in}
 use Rattle.motion_stream.specs.declared.course.Course.{Course}
 use Rattle.motion_stream.specs.declared.course.Open.{Open}
 use Rattle.motion_stream.specs.declared.course.Open.TheVariants as opens
-use Rattle.motion_stream.specs.Courses.{IsGoing, IsTold}
+use Rattle.motion_stream.specs.Courses.{IsGoing, KnowsConnecting}
 use Rattle.plan_types.specs.Sections.{clocks_at}
-use Rattle.motion_stream.specs.Motions.{AreEarly, IsMore, IsPlannerOf, Planner, Reads, lines_kept, waits_by, wants, with_word}
+use Rattle.motion_stream.specs.Motions.{AreEarly, IsMore, IsPlannerOf, Planner, TakesText, lines_kept, waits_by, wants, with_word}
 use Rattle.motion_stream.specs.Motions as motion
 use Rattle.motion_stream.specs.Puts.{ArePutBy}
 use Rattle.motion_stream.specs.Seen.{Going, Seen, nothing_seen}
@@ -32,7 +32,7 @@ use Rattle.session_work.specs.declared.table.MotionTurn.{MotionTurn}
 use Rattle.session_work.specs.Motions.{MotionStep, seated}
 use Rattle.session_work.specs.Seats.{MakeStep, PieceStep, Told as ToldTo, WordStep, hungers, is_wanted, needs}
 use Rattle.session_work.specs.Turns.{Goes}
-use Rattle.laws_board.specs.plans.Planned.{AnyEnds, AnyStops, AreBare, AreRead, BeginInRange, IsBare, IsPlanning, LastHomes, LoseNone, Plans, StopsAt, Text, TookInTime, fresh_in, heard_in, nothing_read, planning, put_of, puts_of, read_all, read_on, told_behind, words_in}
+use Rattle.laws_board.specs.plans.Planned.{AnyEnds, AnyStops, AreBare, AreReadInOrder, BeginInRange, IsBare, IsPlanning, LastHomes, LoseNone, Plans, StopsAt, TextSofar, TookInTime, fresh_in, connecting_heard, nothing_read, planning, put_of, puts_of, read_all, read_on, told_behind, words_in}
 use Rattle.laws_board.specs.plans.Answers.{TookNoneAhead}
 use Rattle.laws_board.proofs.plans.Answering.{HaveHeard, Homing, heard_piece, heard_turn, heard_word, homing_word, none_heard, words_end, words_snoc}
 use Rattle.laws_board.proofs.plans.Wholes.{Ran, whole_plans}
@@ -46,7 +46,7 @@ Dead x = (x.halted ≡ true) ⊎ (x.quiet ≡ true)
 
 -- a worker in turn k whose planner took these words in it, behind these turns, and has seen what tells these that were put, with this text,
 -- this told, and these further lines that words told since the turn before
-record Live {M : Type 0} (view : M → Planner) (m : Machine) (k : ℕ) (done : List MotionTurn) (words : List WordMsg) (puts : List Put) (text : Text) (told : Option Told) (fresh : List BoardLine) (x : Seat M) : Type 0 where
+record Live {M : Type 0} (view : M → Planner) (m : Machine) (k : ℕ) (done : List MotionTurn) (words : List WordMsg) (puts : List Put) (text : TextSofar) (told : Option Told) (fresh : List BoardLine) (x : Seat M) : Type 0 where
   halted : x.halted ≡ false
   quiet : x.quiet ≡ false
   seen : Seen
@@ -111,11 +111,11 @@ note_out g n k b y t d e (_, halted, _, inr s) =
     ]
 
 -- a live worker hears a word
-record Told_on {M : Type 0} (view : M → Planner) (m : Machine) (k : ℕ) (done : List MotionTurn) (words : List WordMsg) (puts : List Put) (text : Text) (told : Option Told) (fresh : List BoardLine) (from : Seen) (y : Seat M) : Type 0 where
+record Told_on {M : Type 0} (view : M → Planner) (m : Machine) (k : ℕ) (done : List MotionTurn) (words : List WordMsg) (puts : List Put) (text : TextSofar) (told : Option Told) (fresh : List BoardLine) (from : Seen) (y : Seat M) : Type 0 where
   live : Live view m k done words puts text told fresh y
   homing : Homing k from.begun from.going → Homing k live.seen.begun live.seen.going
 
-word_heard : {M : Type 0} (g : Motion M) (view : M → Planner) (m : Machine) (k : ℕ) (done : List MotionTurn) (us : List WordMsg) (puts : List Put) (text : Text) (told : Option Told) (fresh : List BoardLine) (x y : Seat M) (w : WordMsg) → IsPlanning g view → length puts ≡ k
+word_heard : {M : Type 0} (g : Motion M) (view : M → Planner) (m : Machine) (k : ℕ) (done : List MotionTurn) (us : List WordMsg) (puts : List Put) (text : TextSofar) (told : Option Told) (fresh : List BoardLine) (x y : Seat M) (w : WordMsg) → IsPlanning g view → length puts ≡ k
     → (l : Live view m k done us puts text told fresh x) → WordStep g.hears x w y → Told_on view m k done (us ++ w ∷ []) puts text (heard m k w told) (fresh ++ lines_kept (heard m k w told) (lines_in w.news)) l.seen y ⊎ (Dead y × ((w.end ≡ true) ⊎ (y.out ≡ true)))
 word_heard g view m k done us puts text told fresh x y w is long l (_, inl s) = inr (inl s.1, inl s.0)
 word_heard g view m k done us puts text told fresh x y w is long l (_, inr s) =
@@ -169,7 +169,7 @@ by_word false false true false k n e f = elim (leb_tells (suc k) 64) [
       elim (leb_tells (suc n) (k - 64 + 1)) [ inl q ↦ (omega (arith, q.1, late), λ z. absurd (omega (arith, z, q.1, late))) | inr q ↦ absurd (clash (sym (subst At p.0 e) ∙ q.0)) ]
 ]
 
-untold : (m : Machine) (c : Course) (o : Option Told) (begun : List Started) (going : Option Going) → IsTold m c o begun going → c.connected ≡ false → o ≡ None
+untold : (m : Machine) (c : Course) (o : Option Told) (begun : List Started) (going : Option Going) → KnowsConnecting m c o begun going → c.connected ≡ false → o ≡ None
 untold m c None begun going h e = refl
 untold m c (Some t) begun going h e = absurd (clash (sym h.connected ∙ e))
 
@@ -180,7 +180,7 @@ waiting m (opens.Goes s true) c told begun going k h e =
     elim (leb_tells c.start k) [ inl p ↦ (let late = p.1 in subst (Homing k begun) (sym h.is) (sym h.homes_is, omega (arith, start, late))) | inr p ↦ absurd (clash (sym e ∙ p.0)) ]
 waiting m (opens.Goes s false) c told begun going k h e = absurd (clash (sym e))
 
-wanted : {M : Type 0} (g : Motion M) (view : M → Planner) (m : Machine) (k : ℕ) (done : List MotionTurn) (words : List WordMsg) (puts : List Put) (text : Text) (told : Option Told) (fresh : List BoardLine) (x : Seat M) → IsPlanning g view → (l : Live view m k done words puts text told fresh x)
+wanted : {M : Type 0} (g : Motion M) (view : M → Planner) (m : Machine) (k : ℕ) (done : List MotionTurn) (words : List WordMsg) (puts : List Put) (text : TextSofar) (told : Option Told) (fresh : List BoardLine) (x : Seat M) → IsPlanning g view → (l : Live view m k done words puts text told fresh x)
     → needs g.wants k x ≡ true → (x.heard ≤ k) × (x.heard ≡ k → (told ≡ None) ⊎ Homing k l.seen.begun l.seen.going)
 wanted g view m k done words puts text told fresh x is l e =
     let p = view x.machine in
@@ -198,15 +198,15 @@ heard_none m k w None e = refl
 heard_none m k w (Some t) e = e
 
 -- a live worker hears words
-record Spoken {M : Type 0} (view : M → Planner) (m : Machine) (k : ℕ) (done : List MotionTurn) (words : List WordMsg) (puts : List Put) (text : Text) (told after : Option Told) (fresh : List BoardLine) (from : Seen) (first : ℕ) (a : Seat M) : Type 0 where
+record Spoken {M : Type 0} (view : M → Planner) (m : Machine) (k : ℕ) (done : List MotionTurn) (words : List WordMsg) (puts : List Put) (text : TextSofar) (told after : Option Told) (fresh : List BoardLine) (from : Seen) (first : ℕ) (a : Seat M) : Type 0 where
   live : Live view m k done words puts text after fresh a
   low : a.heard ≤ k + 1
   early : first ≤ k → a.heard ≡ k + 1 → (told ≡ None) ⊎ Homing k live.seen.begun live.seen.going
   homing : Homing k from.begun from.going → Homing k live.seen.begun live.seen.going
 
-words_heard : {M : Type 0} (g : Motion M) (view : M → Planner) (m : Machine) (k i : ℕ) (done : List MotionTurn) (us : List WordMsg) (puts : List Put) (text : Text) (told : Option Told) (fresh : List BoardLine) (ws : List WordMsg) (x a : Seat M) → IsPlanning g view → length puts ≡ k
+words_heard : {M : Type 0} (g : Motion M) (view : M → Planner) (m : Machine) (k i : ℕ) (done : List MotionTurn) (us : List WordMsg) (puts : List Put) (text : TextSofar) (told : Option Told) (fresh : List BoardLine) (ws : List WordMsg) (x a : Seat M) → IsPlanning g view → length puts ≡ k
     → x.heard ≤ k + 1 → (l : Live view m k done us puts text told fresh x) → Goes (λ _ y w z. (needs g.wants k y ≡ true) × WordStep g.hears y w z) i x ws a
-    → Spoken view m k done (us ++ ws) puts text told (heard_in m k ws told) (fresh ++ fresh_in m k ws told) l.seen x.heard a ⊎ (Dead a × (AnyEnds ws ⊎ (a.out ≡ true)))
+    → Spoken view m k done (us ++ ws) puts text told (connecting_heard m k ws told) (fresh ++ fresh_in m k ws told) l.seen x.heard a ⊎ (Dead a × (AnyEnds ws ⊎ (a.out ≡ true)))
 words_heard g view m k i done us puts text told fresh [] x a is long few l h =
     let Of : List WordMsg → Type 0 = λ z. Spoken view m k done z puts text told told (fresh ++ []) l.seen x.heard a in
     let Fresh : List BoardLine → Type 0 = λ ls. Spoken view m k done us puts text told told ls l.seen x.heard a in
@@ -220,7 +220,7 @@ words_heard g view m k i done us puts text told fresh (w ∷ ws) x a is long few
     let next = heard m k w told in
     let own = lines_kept next (lines_in w.news) in
     let both : (fresh ++ own) ++ fresh_in m k ws next ≡ fresh ++ (own ++ fresh_in m k ws next) = append_assoc fresh own (fresh_in m k ws next) in
-    let Spoken_by : List WordMsg → List BoardLine → Type 0 = λ z ls. Spoken view m k done z puts text told (heard_in m k ws next) ls l.seen x.heard a in
+    let Spoken_by : List WordMsg → List BoardLine → Type 0 = λ z ls. Spoken view m k done z puts text told (connecting_heard m k ws next) ls l.seen x.heard a in
     elim (word_heard g view m k done us puts text told fresh x y w is long l took) [
       | inl on ↦ elim (words_heard g view m k (i + 1) done (us ++ w ∷ []) puts text next (fresh ++ own) ws y a is long (omega (arith, one, here)) on.live more) [
         | inl z ↦
@@ -263,14 +263,14 @@ ended_then true end e = absurd (clash e)
 abbrev Stops : ℕ → Piece → Type 0
 Stops heard p = (p.stop ≡ true) × (p.turn + 1 ≡ heard)
 
-reads_put : (p q : Planner) (seen : Seen) (ps : List Put) (bytes : List ℕ) (end : Bool) → IsPlannerOf p seen → ArePutBy p.machine seen ps → Reads p bytes end q
+reads_put : (p q : Planner) (seen : Seen) (ps : List Put) (bytes : List ℕ) (end : Bool) → IsPlannerOf p seen → ArePutBy p.machine seen ps → TakesText p bytes end q
     → (going : Option Going) × IsMore seen.going going × IsPlannerOf q (motion.read_on seen bytes end going) × ArePutBy q.machine (motion.read_on seen bytes end going) ps
 reads_put p q seen ps bytes end of put reads =
     let r = reads.1 seen of in
     let Of : Machine → Type 0 = λ n. ArePutBy n (motion.read_on seen bytes end r.0) ps in
     (r.0, r.1, r.2, subst Of (sym reads.0) (text_kept p.machine seen ps bytes end r.0 r.1 put))
 
-piece_read : {M : Type 0} (g : Motion M) (view : M → Planner) (m : Machine) (k now : ℕ) (done : List MotionTurn) (words : List WordMsg) (puts : List Put) (text : Text) (told : Option Told) (fresh : List BoardLine) (x y : Seat M) (p : Piece) → IsPlanning g view
+piece_read : {M : Type 0} (g : Motion M) (view : M → Planner) (m : Machine) (k now : ℕ) (done : List MotionTurn) (words : List WordMsg) (puts : List Put) (text : TextSofar) (told : Option Told) (fresh : List BoardLine) (x y : Seat M) (p : Piece) → IsPlanning g view
     → Live view m now done words puts text told fresh x → hungers g.hungry k x ≡ true → PieceStep g.reads x p y → Live view m now done words puts (read_on text p) told fresh y ⊎ (Dead y × (Stops x.heard p ⊎ (y.out ≡ true)))
 piece_read g view m k now done words puts text told fresh x y p is l hungry (_, halted, inl s) = let (stop, turn, _, quiet, _) = s in inr (inr quiet, inl (stop, turn))
 piece_read g view m k now done words puts text told fresh x y p is l hungry (_, halted, inr (inr s)) = inr (inr s.1, inr s.2)
@@ -299,7 +299,7 @@ piece_read g view m k now done words puts text told fresh x y p is l hungry (_, 
       fresh_are = l.fresh_are;
     })
 
-pieces_read : {M : Type 0} (g : Motion M) (view : M → Planner) (m : Machine) (k now i : ℕ) (done : List MotionTurn) (words : List WordMsg) (puts : List Put) (text : Text) (told : Option Told) (fresh : List BoardLine) (ps : List Piece) (x b : Seat M) → IsPlanning g view
+pieces_read : {M : Type 0} (g : Motion M) (view : M → Planner) (m : Machine) (k now i : ℕ) (done : List MotionTurn) (words : List WordMsg) (puts : List Put) (text : TextSofar) (told : Option Told) (fresh : List BoardLine) (ps : List Piece) (x b : Seat M) → IsPlanning g view
     → Live view m now done words puts text told fresh x → Goes (λ _ y p z. (hungers g.hungry k y ≡ true) × PieceStep g.reads y p z) i x ps b → Live view m now done words puts (read_all text ps) told fresh b ⊎ (Dead b × (AnyStops x.heard ps ⊎ (b.out ≡ true)))
 pieces_read g view m k now i done words puts text told fresh [] x b is l h = inl (subst (Live view m now done words puts text told fresh) h l)
 pieces_read g view m k now i done words puts text told fresh (p ∷ ps) x b is l (y, step, more) =
@@ -338,7 +338,7 @@ dead_goes g n k (t ∷ ts) x e d (y, step, more) =
     (made.0, dead_goes g n (k + 1) ts y e made.1 more)
 
 -- a planner that makes a turn has lines whose ticks begin in range
-early_in : (m : Machine) (c : Course) (o : Option Told) (begun : List Started) (going : Option Going) → IsTold m c o begun going → AreEarly m c → BeginInRange m o
+early_in : (m : Machine) (c : Course) (o : Option Told) (begun : List Started) (going : Option Going) → KnowsConnecting m c o begun going → AreEarly m c → BeginInRange m o
 early_in m c None begun going told early = tt
 early_in m c (Some t) begun going told early = λ b inside. subst (λ cs. (clocks_at cs b).first.clock < 2 ^ 62) told.lines (early told.connected b inside)
 
@@ -348,7 +348,7 @@ lose_none m k news fresh None taken = tt
 lose_none m k news fresh (Some t) taken = taken t refl
 
 -- what a live one puts is its planner's, or it is the last
-live_makes : {M : Type 0} (g : Motion M) (view : M → Planner) (m : Machine) (n k : ℕ) (all : List MotionTurn) (puts : List Put) (text : Text) (told : Option Told) (fresh : List BoardLine) (b y : Seat M) (t : MotionTurn) → IsPlanning g view → length all ≤ k + 1
+live_makes : {M : Type 0} (g : Motion M) (view : M → Planner) (m : Machine) (n k : ℕ) (all : List MotionTurn) (puts : List Put) (text : TextSofar) (told : Option Told) (fresh : List BoardLine) (b y : Seat M) (t : MotionTurn) → IsPlanning g view → length all ≤ k + 1
     → Live view m (k + 1) all [] puts text told fresh b → MakeStep n g.turns k b t.batches t.note y
     → (Live view m (k + 1) all [] (puts ++ put_of t ∷ []) text (told_on t.note.news told) [] y × BeginInRange m told × WereHeard fresh t.note.news × LoseNone m k t.note.news fresh told) ⊎ (IsBare n k t × Dead y × (t.note.out ≡ true))
 live_makes g view m n k all puts text told fresh b y t is size l (_, halted, _, inl s) =
@@ -422,11 +422,11 @@ soon_wants false false true false k n a b e = elim (leb_tells (suc k) 64) [
       elim (leb_tells (suc n) (k - 64 + 1)) [ inl q ↦ absurd (clash (sym q.0 ∙ subst At p.0 e)) | inr q ↦ omega (arith, q.1, late) ]
 ]
 
-wants_more : {M : Type 0} (g : Motion M) (view : M → Planner) (m : Machine) (k : ℕ) (done : List MotionTurn) (words : List WordMsg) (puts : List Put) (text : Text) (told : Option Told) (fresh : List BoardLine) (a : Seat M) → IsPlanning g view → Live view m k done words puts text told fresh a
+wants_more : {M : Type 0} (g : Motion M) (view : M → Planner) (m : Machine) (k : ℕ) (done : List MotionTurn) (words : List WordMsg) (puts : List Put) (text : TextSofar) (told : Option Told) (fresh : List BoardLine) (a : Seat M) → IsPlanning g view → Live view m k done words puts text told fresh a
     → needs g.wants k a ≡ false → (told ≡ None → k < a.heard) × (k < a.heard + 64)
 wants_more g view m k done words puts text told fresh a is l enough =
     let p = view a.machine in
-    let Of : Option Told → Type 0 = λ o. IsTold p.machine p.course o l.seen.begun l.seen.going in
+    let Of : Option Told → Type 0 = λ o. KnowsConnecting p.machine p.course o l.seen.begun l.seen.going in
     let Enough : Option ℕ → Type 0 = λ o. cond a.halted false (cond a.quiet (nat_lt (a.heard + 63) k) (is_wanted o a.heard)) ≡ false in
     let needed = subst Enough (is.wants a.machine k) enough in
     let waits = waits_by p.course.current p.course.start k in (
@@ -442,7 +442,7 @@ waits_now false false c false k n a b d e = absurd (clash (sym d))
 waits_now false false true true k n a b d e = elim (leb_tells (suc n) (k + 1)) [ inl p ↦ absurd (clash (sym p.0 ∙ e)) | inr p ↦ omega (arith, p.1) ]
 waits_now false false false true k n a b d e = elim (leb_tells (suc n) (k + 1)) [ inl p ↦ absurd (clash (sym p.0 ∙ e)) | inr p ↦ omega (arith, p.1) ]
 
-answers_over : {M : Type 0} (g : Motion M) (view : M → Planner) (m : Machine) (k : ℕ) (done : List MotionTurn) (puts : List Put) (text : Text) (told : Option Told) (fresh : List BoardLine) (t : MotionTurn) (a : Seat M) → IsPlanning g view → length done ≡ k
+answers_over : {M : Type 0} (g : Motion M) (view : M → Planner) (m : Machine) (k : ℕ) (done : List MotionTurn) (puts : List Put) (text : TextSofar) (told : Option Told) (fresh : List BoardLine) (t : MotionTurn) (a : Seat M) → IsPlanning g view → length done ≡ k
     → a.heard ≡ length (words_in (done ++ t ∷ [])) → (l : Live view m k done t.words puts text told fresh a) → needs g.wants k a ≡ false → HaveHeard (k + 1) (done ++ t ∷ []) [] l.seen.begun l.seen.going
 answers_over g view m k done puts text told fresh t a is size many l enough =
     let p = view a.machine in
@@ -451,7 +451,7 @@ answers_over g view m k done puts text told fresh t a is size many l enough =
     let wait = λ (w : waits_by p.course.current p.course.start k ≡ true). waits_now a.halted a.quiet p.course.connected (waits_by p.course.current p.course.start k) k a.heard l.halted l.quiet w needed in
     words_end p.machine p.course l.seen k a.heard done t l.is.going size many wait l.answers
 
-words_over : {M : Type 0} (g : Motion M) (view : M → Planner) (m : Machine) (k : ℕ) (done : List MotionTurn) (puts : List Put) (text : Text) (told : Option Told) (fresh : List BoardLine) (t : MotionTurn) (a : Seat M) → IsPlanning g view → length done ≡ k
+words_over : {M : Type 0} (g : Motion M) (view : M → Planner) (m : Machine) (k : ℕ) (done : List MotionTurn) (puts : List Put) (text : TextSofar) (told : Option Told) (fresh : List BoardLine) (t : MotionTurn) (a : Seat M) → IsPlanning g view → length done ≡ k
     → a.heard ≡ length (words_in (done ++ t ∷ [])) → Live view m k done t.words puts text told fresh a → needs g.wants k a ≡ false → Live view m (k + 1) (done ++ t ∷ []) [] puts text told fresh a
 words_over g view m k done puts text told fresh t a is size many l enough =
     record {
@@ -469,7 +469,7 @@ words_over g view m k done puts text told fresh t a is size many l enough =
     }
 
 -- all turns from here on are bare
-ends_here : {M : Type 0} (view : M → Planner) (m : Machine) (n k : ℕ) (done : List MotionTurn) (puts : List Put) (text : Text) (told : Option Told) (x : Seat M) (ts : List MotionTurn)
+ends_here : {M : Type 0} (view : M → Planner) (m : Machine) (n k : ℕ) (done : List MotionTurn) (puts : List Put) (text : TextSofar) (told : Option Told) (x : Seat M) (ts : List MotionTurn)
     → (l : Live view m k done [] puts text told [] x) → AreBare n k ts → ((begun : List Started) → StopsAt k x.heard l.seen.told begun ts []) → Ran m n k done puts text told x.heard ts
 ends_here view m n k done puts text told x ts l bare why =
     let e : k + 0 ≡ k = omega arith in
@@ -501,7 +501,7 @@ ends_here view m n k done puts text told x ts l bare why =
     }
 
 -- what is known of connecting stays so
-heard_some : (m : Machine) (k : ℕ) (ws : List WordMsg) (t : Told) → heard_in m k ws (Some t) ≡ Some t
+heard_some : (m : Machine) (k : ℕ) (ws : List WordMsg) (t : Told) → connecting_heard m k ws (Some t) ≡ Some t
 heard_some m k [] t = refl
 heard_some m k (w ∷ ws) t = heard_some m k ws t
 
@@ -509,8 +509,8 @@ some_none : {X : Type 0} {x : X} → Some x ≡ None → ⊥
 some_none e = cc
 
 -- from a turn on, in which no more of the text could be read
-stops_here : {M : Type 0} (view : M → Planner) (m : Machine) (n k : ℕ) (done : List MotionTurn) (puts : List Put) (text : Text) (told : Option Told) (fresh : List BoardLine) (x a : Seat M) (t : MotionTurn) (ts : List MotionTurn) → (l : Live view m k done [] puts text told [] x)
-    → (la : Spoken view m k done t.words puts text told (heard_in m k t.words told) fresh l.seen x.heard a) → HaveHeard (k + 1) (done ++ t ∷ []) [] la.live.seen.begun la.live.seen.going → AreBare n k (t ∷ ts) → x.heard ≤ k → a.heard ≡ x.heard + length t.words
+stops_here : {M : Type 0} (view : M → Planner) (m : Machine) (n k : ℕ) (done : List MotionTurn) (puts : List Put) (text : TextSofar) (told : Option Told) (fresh : List BoardLine) (x a : Seat M) (t : MotionTurn) (ts : List MotionTurn) → (l : Live view m k done [] puts text told [] x)
+    → (la : Spoken view m k done t.words puts text told (connecting_heard m k t.words told) fresh l.seen x.heard a) → HaveHeard (k + 1) (done ++ t ∷ []) [] la.live.seen.begun la.live.seen.going → AreBare n k (t ∷ ts) → x.heard ≤ k → a.heard ≡ x.heard + length t.words
     → AnyStops a.heard t.pieces → Ran m n k done puts text told x.heard (t ∷ ts)
 stops_here view m n k done puts text None fresh x a t ts l la answers bare low count stops =
     let e : k + 0 ≡ k = omega arith in
@@ -520,7 +520,7 @@ stops_here view m n k done puts text None fresh x a t ts l la answers bare low c
     let Stops_at : ℕ → ℕ → Type 0 = λ i j. (begun : List Started) → StopsAt i j l.seen.told begun (t ∷ ts) (t ∷ []) in
     let why : Stops_at k x.heard = λ begun. inr (record { stops = subst (λ i. AnyStops i t.pieces) count stops; low = omega (arith, below, count); early = λ late. inl l.told_is }, refl) in
     let OfPut : List Put → Type 0 = λ y. ArePutBy m l.seen y in
-    let Of : Option Told → Type 0 = λ o. IsTold (view x.machine).machine (view x.machine).course o l.seen.begun l.seen.going in
+    let Of : Option Told → Type 0 = λ o. KnowsConnecting (view x.machine).machine (view x.machine).course o l.seen.begun l.seen.going in
     let idle = subst Of l.told_is l.is.told in
     let none = none_heard (k + 1) (done ++ t ∷ []) in
     let Begun : List Started → Type 0 = λ z. HaveHeard (k + 1) (done ++ t ∷ []) [] z None in
@@ -585,8 +585,8 @@ stops_here view m n k done puts text (Some told) fresh x a t ts l la answers bar
     }
 
 -- one turn ahead
-one_ahead : (m : Machine) (n k : ℕ) (done : List MotionTurn) (puts : List Put) (text : Text) (told : Option Told) (taken after : ℕ) (t : MotionTurn) (ts : List MotionTurn) → after ≡ taken + length t.words → after ≤ k + 1
-    → (heard_in m k t.words told ≡ None → k < after) → k < after + 64 → BeginInRange m (heard_in m k t.words told) → WereHeard (fresh_in m k t.words told) t.note.news → LoseNone m k t.note.news (fresh_in m k t.words told) (heard_in m k t.words told) → Ran m n (k + 1) (done ++ t ∷ []) (puts ++ put_of t ∷ []) (read_all text t.pieces) (told_behind m k t told) after ts → Ran m n k done puts text told taken (t ∷ ts)
+one_ahead : (m : Machine) (n k : ℕ) (done : List MotionTurn) (puts : List Put) (text : TextSofar) (told : Option Told) (taken after : ℕ) (t : MotionTurn) (ts : List MotionTurn) → after ≡ taken + length t.words → after ≤ k + 1
+    → (connecting_heard m k t.words told ≡ None → k < after) → k < after + 64 → BeginInRange m (connecting_heard m k t.words told) → WereHeard (fresh_in m k t.words told) t.note.news → LoseNone m k t.note.news (fresh_in m k t.words told) (connecting_heard m k t.words told) → Ran m n (k + 1) (done ++ t ∷ []) (puts ++ put_of t ∷ []) (read_all text t.pieces) (told_behind m k t told) after ts → Ran m n k done puts text told taken (t ∷ ts)
 one_ahead m n k done puts text told taken after t ts number low here soon range own lines p =
     let e : k + 1 + length p.made ≡ k + length (t ∷ p.made) = omega arith in
     let f : after + length (words_in p.made) ≡ taken + length (t.words ++ words_in p.made) = omega (arith, number, length-append t.words (words_in p.made)) in
@@ -610,7 +610,7 @@ one_ahead m n k done puts text told taken after t ts number low here soon range 
       told_is = p.told_is;
       lines = (own, lines, p.lines);
       in_time =
-          let In_time : ℕ → Type 0 = λ i. (heard_in m k t.words told ≡ None → k < i) × (k < i + 64) × TookInTime m (k + 1) i p.made (told_behind m k t told) in
+          let In_time : ℕ → Type 0 = λ i. (connecting_heard m k t.words told ≡ None → k < i) × (k < i + 64) × TookInTime m (k + 1) i p.made (told_behind m k t told) in
           subst In_time number (here, soon, p.in_time);
       in_range = (range, p.in_range);
       ahead =
@@ -621,7 +621,7 @@ one_ahead m n k done puts text told taken after t ts number low here soon range 
       stops = subst (Stops_at (k + length (t ∷ p.made))) f (subst (λ i. Stops_at i (after + length (words_in p.made))) e p.stops);
     }
 
-live_goes : {M : Type 0} (g : Motion M) (view : M → Planner) (m : Machine) (n k : ℕ) (done : List MotionTurn) (puts : List Put) (text : Text) (told : Option Told) (ts : List MotionTurn) (x e : Seat M) → IsPlanning g view → length puts ≡ k → length done ≡ k
+live_goes : {M : Type 0} (g : Motion M) (view : M → Planner) (m : Machine) (n k : ℕ) (done : List MotionTurn) (puts : List Put) (text : TextSofar) (told : Option Told) (ts : List MotionTurn) (x e : Seat M) → IsPlanning g view → length puts ≡ k → length done ≡ k
     → x.heard ≡ length (words_in done) → x.heard ≤ k → Live view m k done [] puts text told [] x → Goes (MotionStep g n) k x ts e → Ran m n k done puts text told x.heard ts
 live_goes g view m n k done puts text told [] x e is long size words low l h = ends_here view m n k done puts text told x [] l tt (λ begun. refl)
 live_goes g view m n k done puts text told (t ∷ ts) x e is long size words low l (y, step, more) =
@@ -636,23 +636,23 @@ live_goes g view m n k done puts text told (t ∷ ts) x e is long size words low
           let db = pieces_dead g k 0 t.pieces a b d.0 fed in
           dies (dead_makes g n k b y t db make)
           (elim d.1 [ inl z ↦ inl z | inr z ↦ inr (note_out g n k b y t db (pieces_out g k 0 t.pieces a b z fed) make) ])
-      | inl la ↦ elim (pieces_read g view m k (k + 1) 0 all [] puts text (heard_in m k t.words told) (fresh_in m k t.words told) t.pieces a b is (words_over g view m k done puts text (heard_in m k t.words told) (fresh_in m k t.words told) t a is size many la.live enough) fed) [
+      | inl la ↦ elim (pieces_read g view m k (k + 1) 0 all [] puts text (connecting_heard m k t.words told) (fresh_in m k t.words told) t.pieces a b is (words_over g view m k done puts text (connecting_heard m k t.words told) (fresh_in m k t.words told) t a is size many la.live enough) fed) [
         | inr db ↦
             let bare = dead_makes g n k b y t db.0 make in
             elim db.1 [
               | inl stops ↦
-                  stops_here view m n k done puts text told (fresh_in m k t.words told) x a t ts l la (answers_over g view m k done puts text (heard_in m k t.words told) (fresh_in m k t.words told) t a is size many la.live enough)
+                  stops_here view m n k done puts text told (fresh_in m k t.words told) x a t ts l la (answers_over g view m k done puts text (connecting_heard m k t.words told) (fresh_in m k t.words told) t a is size many la.live enough)
                   (bare.0, dead_goes g n (k + 1) ts y e bare.1 more) low count stops
               | inr out ↦ dies bare (inr (note_out g n k b y t db.0 out make))
             ]
-        | inl lb ↦ elim (live_makes g view m n k all puts (read_all text t.pieces) (heard_in m k t.words told) (fresh_in m k t.words told) b y t is (omega (arith, longer)) lb make) [
+        | inl lb ↦ elim (live_makes g view m n k all puts (read_all text t.pieces) (connecting_heard m k t.words told) (fresh_in m k t.words told) b y t is (omega (arith, longer)) lb make) [
           | inr bare ↦ dies (bare.0, bare.1) (inr bare.2)
           | inl ly ↦
               let pieces = pieces_taken g k 0 t.pieces a b fed in
               let number : y.heard ≡ x.heard + length t.words = make.0 ∙ pieces ∙ count in
               let same : a.heard ≡ y.heard = sym (make.0 ∙ pieces) in
               let below = la.low in
-              let took = wants_more g view m k done t.words puts text (heard_in m k t.words told) (fresh_in m k t.words told) a is la.live enough in
+              let took = wants_more g view m k done t.words puts text (connecting_heard m k t.words told) (fresh_in m k t.words told) a is la.live enough in
               one_ahead m n k done puts text told x.heard y.heard t ts number (omega (arith, below, same))
               (λ none. let f = took.0 none in omega (arith, f, same))
               (let f = took.1 in omega (arith, f, same))
@@ -683,10 +683,10 @@ ran M g view n p ts e is fresh h =
     live_goes g view (view p).machine n 0 [] [] nothing_read None ts (seated g p) e is refl refl refl (omega arith) l h
 
 pub plans : (M : Type 0) (g : Motion M) (view : M → Planner) (n : ℕ) (p : M) (ts : List MotionTurn) (e : Seat M) (text : List ℕ) → IsPlanning g view → IsPlannerOf (view p) nothing_seen
-    → Goes (MotionStep g n) 0 (seated g p) ts e → AreRead nothing_read ts text → ∥ ((made : Plans (view p).machine n ts) × (made.seen.text ≡ text)) ∥₁
+    → Goes (MotionStep g n) 0 (seated g p) ts e → AreReadInOrder nothing_read ts text → ∥ ((made : Plans (view p).machine n ts) × (made.seen.text ≡ text)) ∥₁
 plans M g view n p ts e text is fresh h read = whole_plans (view p).machine n ts text (ran M g view n p ts e is fresh h) read
 
-pub planner_plans : (n : ℕ) (p : Planner) (ts : List MotionTurn) (e : Seat Planner) (text : List ℕ) → IsPlannerOf p nothing_seen → Goes (MotionStep planning n) 0 (seated planning p) ts e → AreRead nothing_read ts text
+pub planner_plans : (n : ℕ) (p : Planner) (ts : List MotionTurn) (e : Seat Planner) (text : List ℕ) → IsPlannerOf p nothing_seen → Goes (MotionStep planning n) 0 (seated planning p) ts e → AreReadInOrder nothing_read ts text
     → ∥ ((made : Plans p.machine n ts) × (made.seen.text ≡ text)) ∥₁
 planner_plans n p ts e text fresh h read =
     let is : IsPlanning planning (λ (q : Planner). q) = record { wants = λ x k. refl; hungry = λ x k. refl; hears = λ x y w h. h; reads = λ x y q h. h; turns = λ x y k bs note h. h } in

@@ -12,9 +12,9 @@ use Rattle.section_units.specs.Plans.{AreSentToOn}
 use Rattle.section_units.specs.Sent.{AreSentTo}
 use Rattle.step_feed.specs.Pacing.{units_of}
 use Rattle.link_work.specs.Turn.{Orders}
-use Rattle.laws_board.specs.sections.Parts.{AreOrdersOf, AreTracked, IsRun, MakesIn}
+use Rattle.laws_board.specs.sections.Parts.{AreOrdersOf, AreTracked, IsBoardRun, MakesIn}
 use Rattle.motion_work.specs.Boards.{parts_on}
-use Rattle.motion_work.specs.Seen.{AreMoves, AreSentBy, AreStarted, Started, lines_of, part_on}
+use Rattle.motion_work.specs.Seen.{AreMoves, AreSentBy, AreStarted, Started, planning_lines, part_on}
 use Rattle.motion_stream.specs.Wholes.{AreSentIn}
 use Rattle.motion_work.specs.Told.{Told}
 use Rattle.motion_work.proofs.Boardwise as boardwise
@@ -47,7 +47,7 @@ all_sent m n ts p t told =
 pub sent_on : (m : Machine) (clocks : List Clocks) (next b : ℕ) (begun : List Started) → b < length m.boards → AreMoves begun → AreSentBy m clocks next begun → All (AreSentTo (clocks_at clocks b) (board_at m b).freq next) (parts_on m clocks begun b)
 sent_on m clocks next b [] small moves h = All-nil (AreSentTo (clocks_at clocks b) (board_at m b).freq next)
 sent_on m clocks next b (s ∷ begun) small moves h =
-    let one = subst (λ kind. AreSentToOn m (lines_of kind s.end clocks) s.section.moves s.start b next (slice_index_or s.boards b [])) moves.0 (h.0 b small) in
+    let one = subst (λ kind. AreSentToOn m (planning_lines kind s.end clocks) s.section.moves s.start b next (slice_index_or s.boards b [])) moves.0 (h.0 b small) in
     All-cons (AreSentTo (clocks_at clocks b) (board_at m b).freq next) (part_on m clocks s b) (parts_on m clocks begun b)
     (record { sent = one.sent; later = one.later; are = one.are; behind = one.behind; is = record { in_order = one.is.in_order; longest = one.is.longest } })
     (sent_on m clocks next b begun small moves.1 h.1)
@@ -55,7 +55,7 @@ sent_on m clocks next b (s ∷ begun) small moves h =
 pub run_is : (m : Machine) (ts : List MotionTurn) (p : Plans m (length m.boards) ts) (t : Told) (b ready : ℕ) (own : ℕ → ℕ) (os : List Orders) → b < length m.boards → p.seen.told ≡ Some t → AreMoves p.seen.begun → length os ≤ length p.made
     → TookBatches b ts os → TookControls os → (k : AreTracked own (clocks_at t.clocks b) ready) → ready + 260 ≤ t.first → EndBefore k.until (parts_on m t.clocks p.seen.begun b)
     → (ready ≤ length os → (oid : ℕ) → All (λ s. of_stepper oid (units_of s.releases) ≢ [] → MakesIn oid (take ready os)) (parts_on m t.clocks p.seen.begun b))
-    → IsRun own (clocks_at t.clocks b) (board_at m b).freq (board_at m b).slots ready (parts_on m t.clocks p.seen.begun b) os
+    → IsBoardRun own (clocks_at t.clocks b) (board_at m b).freq (board_at m b).slots ready (parts_on m t.clocks p.seen.begun b) os
 run_is m ts p t b ready own os small told moves long took controls k early ends made =
     record {
       tracked = k;

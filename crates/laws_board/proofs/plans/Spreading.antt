@@ -11,7 +11,7 @@ use Rattle.motion_work.specs.Seen.{Started}
 use Rattle.motion_work.specs.Told.{Told, heard, told_at}
 use Rattle.motion_work.specs.Told as told
 use Rattle.session_work.specs.declared.table.MotionTurn.{MotionTurn}
-use Rattle.laws_board.specs.plans.Planned.{AreToldBy, Plans, heard_in, told_behind, told_of}
+use Rattle.laws_board.specs.plans.Planned.{AreToldBy, Plans, connecting_heard, told_behind, told_of}
 use Rattle.laws_board.proofs.plans.Beginning.{Spread, spread_of}
 
 -- no section starts before turn 1,260
@@ -27,7 +27,7 @@ heard_late : (m : Machine) (k : ℕ) (w : WordMsg) (o : Option Told) → IsLate 
 heard_late m k w None l = at_late (max k w.turn) (told.told_of m w)
 heard_late m k w (Some t) l = l
 
-words_late : (m : Machine) (k : ℕ) (ws : List WordMsg) (o : Option Told) → IsLate o → IsLate (heard_in m k ws o)
+words_late : (m : Machine) (k : ℕ) (ws : List WordMsg) (o : Option Told) → IsLate o → IsLate (connecting_heard m k ws o)
 words_late m k [] o l = l
 words_late m k (w ∷ ws) o l = words_late m k ws (heard m k w o) (heard_late m k w o l)
 
@@ -37,7 +37,7 @@ on_late ns (Some t) l = l
 
 pub turns_late : (m : Machine) (k : ℕ) (ts : List MotionTurn) (o : Option Told) → IsLate o → IsLate (told_of m k ts o)
 turns_late m k [] o l = l
-turns_late m k (t ∷ ts) o l = turns_late m (k + 1) ts (told_behind m k t o) (on_late t.note.news (heard_in m k t.words o) (words_late m k t.words o l))
+turns_late m k (t ∷ ts) o l = turns_late m (k + 1) ts (told_behind m k t o) (on_late t.note.news (connecting_heard m k t.words o) (words_late m k t.words o l))
 
 told_spread : (m : Machine) (o : Option Told) (begun : List Started) → AreToldBy m o begun → IsLate o → Spread 260 begun
 told_spread m None begun h l = subst (Spread 260) (sym h) tt

@@ -15,9 +15,9 @@ use Rattle.std.specs.List.{flat_map}
 use Rattle.wire_scene.specs.declared.scene.Switch.{Switch}
 use Rattle.host_reactor.specs.declared.ordered.Begun.{Begun}
 use Rattle.host_reactor.specs.declared.ordered.Known.{Known}
-use Rattle.host_reactor.specs.Notes.{noted, news_of, told, told_all}
+use Rattle.host_reactor.specs.Notes.{noted, news_of, known_behind, told_all}
 use Rattle.host_reactor.specs.Reactor.{reacts}
-use Rattle.host_reactor.specs.Report.{drift_line, drift_lines, first_lines, machine_line, pulse_at, pulse_line, pulse_lines, place_of, section_line}
+use Rattle.host_reactor.specs.Report.{drift_line, drift_lines, first_lines, machine_line, pulse_at, pulse_line, pulse_lines, stepper_place, section_line}
 use Rattle.host_reactor.specs.Runs.{Came, known_by}
 use Rattle.motion_work.specs.Puts.{ArePut}
 use Rattle.motion_work.specs.Seen.{Started}
@@ -70,7 +70,7 @@ no_head m b p (Some place) = refl
 no_heads : (m : Machine) (b : ℕ) (ps : List Pulse) → heads_of (flat_map (pulse_line m b) ps) ≡ []
 no_heads m b [] = refl
 no_heads m b (p ∷ ps) =
-    heads_append (pulse_line m b p) (flat_map (pulse_line m b) ps) ∙ ap (λ x. x ++ heads_of (flat_map (pulse_line m b) ps)) (no_head m b p (place_of 0 b p.stepper m.steppers)) ∙ no_heads m b ps
+    heads_append (pulse_line m b p) (flat_map (pulse_line m b) ps) ∙ ap (λ x. x ++ heads_of (flat_map (pulse_line m b) ps)) (no_head m b p (stepper_place 0 b p.stepper m.steppers)) ∙ no_heads m b ps
 
 states_no_heads : (m : Machine) (b : ℕ) (states : List State) → heads_of (pulse_lines m b states) ≡ []
 states_no_heads m b [] = refl
@@ -104,10 +104,10 @@ turn_tells m switches ss x k before t r spread long lines begun =
 -- which section was begun is known by that which was known to be, and the note
 all_begun : (m : Machine) (ns : List NoteNews) (r q : Known) → r.begun ≡ q.begun → (told_all m ns r).begun ≡ (told_all m ns q).begun
 all_begun m [] r q e = e
-all_begun m (news.Start section kind turn last moving ∷ ns) r q e = all_begun m ns (told m r (news.Start section kind turn last moving)) (told m q (news.Start section kind turn last moving)) refl
-all_begun m (news.Done section turn ∷ ns) r q e = all_begun m ns (told m r (news.Done section turn)) (told m q (news.Done section turn)) e
-all_begun m (news.Read end sections ∷ ns) r q e = all_begun m ns (told m r (news.Read end sections)) (told m q (news.Read end sections)) e
-all_begun m (news.Line board line from ∷ ns) r q e = all_begun m ns (told m r (news.Line board line from)) (told m q (news.Line board line from)) e
+all_begun m (news.Start section kind turn last moving ∷ ns) r q e = all_begun m ns (known_behind m r (news.Start section kind turn last moving)) (known_behind m q (news.Start section kind turn last moving)) refl
+all_begun m (news.Done section turn ∷ ns) r q e = all_begun m ns (known_behind m r (news.Done section turn)) (known_behind m q (news.Done section turn)) e
+all_begun m (news.Read end sections ∷ ns) r q e = all_begun m ns (known_behind m r (news.Read end sections)) (known_behind m q (news.Read end sections)) e
+all_begun m (news.Line board line from ∷ ns) r q e = all_begun m ns (known_behind m r (news.Line board line from)) (known_behind m q (news.Line board line from)) e
 
 note_begun : (m : Machine) (note : Option Note) (r q : Known) → r.begun ≡ q.begun → (noted m note r).begun ≡ (noted m note q).begun
 note_begun m None r q e = e

@@ -18,10 +18,10 @@ use Rattle.motion_stream.proofs.Planning.{are_planned}
 use Rattle.session_work.specs.declared.table.MotionTurn.{MotionTurn}
 use Rattle.laws_board.specs.plans.Answers.{TookNoneAhead}
 use Rattle.laws_board.proofs.plans.Answering.{HaveHeard, Homing, all_end, all_homing}
-use Rattle.laws_board.specs.plans.Planned.{AllInRange, AreBare, AreKnown, AreRead, AreToldBy, LastHomes, Plans, StopsAt, TakeUpLines, Text, TookInTime, nothing_read, puts_of, read_by, told_of, words_in}
+use Rattle.laws_board.specs.plans.Planned.{AllInRange, AreBare, AreKnown, AreReadInOrder, AreToldBy, LastHomes, Plans, StopsAt, TakeUpLines, TextSofar, TookInTime, nothing_read, puts_of, read_by, told_of, words_in}
 
 -- Turns of a planner from turn k on, behind these turns, these that were put, this text, this that was told and so many words.
-pub record Ran (m : Machine) (n k : ℕ) (done : List MotionTurn) (before : List Put) (text : Text) (told : Option Told) (taken : ℕ) (ts : List MotionTurn) : Type 0 where
+pub record Ran (m : Machine) (n k : ℕ) (done : List MotionTurn) (before : List Put) (text : TextSofar) (told : Option Told) (taken : ℕ) (ts : List MotionTurn) : Type 0 where
   pub planner : Planner
   pub seen : stream.Seen
   pub made : List MotionTurn
@@ -70,7 +70,7 @@ known_by m None all h = merely tt
 known_by m (Some t) all h =
     ∥∥₁_map (all_at (length m.boards) (λ b. (clocks_at t.clocks b).first.clock < 2 ^ 62 → AreKept (clocks_at t.clocks b)) (λ b inside. kept_at m t b h.1 inside)) (λ kept. (h.1, kept, h.2))
 
-pub whole_plans : (m : Machine) (n : ℕ) (ts : List MotionTurn) (text : List ℕ) (r : Ran m n 0 [] [] nothing_read None 0 ts) → AreRead nothing_read ts text → ∥ ((made : Plans m n ts) × (made.seen.text ≡ text)) ∥₁
+pub whole_plans : (m : Machine) (n : ℕ) (ts : List MotionTurn) (text : List ℕ) (r : Ran m n 0 [] [] nothing_read None 0 ts) → AreReadInOrder nothing_read ts text → ∥ ((made : Plans m n ts) × (made.seen.text ≡ text)) ∥₁
 whole_plans m n ts text r read =
     let read_text = read_by nothing_read r.made in
     let here = read r.made r.bare r.are in

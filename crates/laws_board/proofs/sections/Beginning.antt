@@ -8,7 +8,7 @@ use Rattle.link_work.specs.Turn.{Orders}
 use Rattle.laws_board.specs.sections.Events.{AreTicks}
 use Rattle.laws_board.specs.sections.Known.{Sent, sent_at, sent_in, Known, unknown, known_from, AreBelow}
 use Rattle.section_units.specs.Sections.{BoardSection, IsSection, of_stepper, all_steps, AreReleased}
-use Rattle.laws_board.specs.sections.Parts.{AreTracked, IsControl, MakesIn, IsRun, AreOrdersOf, AreInARow}
+use Rattle.laws_board.specs.sections.Parts.{AreTracked, IsControl, MakesIn, IsBoardRun, AreOrdersOf, AreInARow}
 use Rattle.laws_board.proofs.sections.Controlling.{stays_made, controls_good, controls_known, controls_make}
 use Rattle.laws_board.proofs.sections.Sectioning.{AreLater, none_later, nothing_sent, row_later, none_done, Splits, prepend, Needs}
 use Rattle.laws_board.proofs.sections.Spreading.{total_same, some_sections}
@@ -103,7 +103,7 @@ needs_made oid all (s ∷ ss) a (inl n) = All-head (λ x. of_stepper oid (units_
 needs_made oid all (s ∷ ss) a (inr n) = needs_made oid all ss (All-tail (λ x. of_stepper oid (units_of x.releases) ≢ [] → MakesIn oid all) s ss a) n
 
 -- a whole run
-pub run_splits : (own : ℕ → ℕ) (clocks : Clocks) (freq slots ready : ℕ) (ss : List BoardSection) (os : List Orders) → AreTicks own → IsRun own clocks freq slots ready ss os
+pub run_splits : (own : ℕ → ℕ) (clocks : Clocks) (freq slots ready : ℕ) (ss : List BoardSection) (os : List Orders) → AreTicks own → IsBoardRun own clocks freq slots ready ss os
     → Splits own slots (0 + length os) (sent_in 0 os) (λ oid. unknown) (λ oid. []) [] ss
 run_splits own clocks freq slots ready ss os ticks r =
     until_ready own clocks freq slots ready ticks r.tracked ss r.sections r.row ready os 0 (λ oid. unknown) (omega arith) (λ oid. refl)

@@ -8,8 +8,8 @@ use Rattle.plan_types.specs.declared.levels.Level.{Level}
 use Rattle.wire_scene.specs.declared.scene.Deed.{Deed}
 use Rattle.wire_scene.specs.declared.scene.Entry.{Entry}
 use Rattle.wire_scene.specs.declared.scene.Way.TheVariants.{Down, Up}
-use Rattle.wire_scene.specs.Wire.{Copy, Line, behind, connect_if, deed_of, put_on, put_with}
-use Rattle.board_world.specs.World.{run}
+use Rattle.wire_scene.specs.Wire.{Copy, Line, entries_behind, connect_if, deed_of, put_on, put_with}
+use Rattle.board_world.specs.World.{run_world}
 use Rattle.link_work.specs.Ends.{Ended, is_quiet, is_quiet_line, no_copies, some_idle, spoiled, stretch, unquiet}
 use Rattle.link_work.specs.Runs.{AreTurns}
 use Rattle.link_work.specs.Stands.{first_state}
@@ -42,7 +42,7 @@ free_with l turn bytes (Some deed) e f = absurd (let g : Some deed ≡ None = e 
 free_with l turn bytes None e f =
     let last = f.last in
     record {
-      entries = ap (behind l.number) f.entries;
+      entries = ap (entries_behind l.number) f.entries;
       later = f.later;
       last = omega arith;
       calm = f.calm;
@@ -83,8 +83,8 @@ clear_turn clock turn o l m t c =
     let l1 = after_host turn o t.resent l in
     let l2 = after_board clock turn l1 in
     let b = o.control.connected in
-    let down = free_all (line_for b l.down) turn (newly Down l.core (run (host_steps turn o t.resent) l.core)) (free_for b l.down turn (clear_free l.down turn c.0)) in
-    let up = free_all (line_for b l.up) turn (newly Up l1.core (run (board_steps clock turn l1.down.copies) l1.core)) (free_for b l.up turn (clear_free l.up turn c.1)) in
+    let down = free_all (line_for b l.down) turn (newly Down l.core (run_world (host_steps turn o t.resent) l.core)) (free_for b l.down turn (clear_free l.down turn c.0)) in
+    let up = free_all (line_for b l.up) turn (newly Up l1.core (run_world (board_steps clock turn l1.down.copies) l1.core)) (free_for b l.up turn (clear_free l.up turn c.1)) in
     subst (λ (x : LinkState). AreClear x (turn + 1)) (sym t.becomes) (free_clear l1.down turn down, free_clear l2.up turn up)
 
 -- so every turn is quiet

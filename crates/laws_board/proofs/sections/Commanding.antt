@@ -12,10 +12,10 @@ use Rattle.board_sim.specs.Rig as rig
 use Rattle.board_sim.specs.Fair.{Meant, commands_of, IsFairCommand, IsFairRunning, AreFair}
 use Rattle.board_sim.proofs.RigShut.{all_left_by}
 use Rattle.board_sim.proofs.RigStates.{all_tick}
-use Rattle.laws_board.specs.sections.Known.{AreQueued, Known, Sent, orders_in, IsLostFor}
+use Rattle.laws_board.specs.sections.Known.{AreQueued, Known, Sent, orders_sent, IsLostFor}
 use Rattle.laws_board.specs.sections.Timely.{IsTimely, AreTimely}
 use Rattle.laws_board.specs.sections.Finds.{AllFindHalted, AllSetNot, FindsHalted, SetsNot}
-use Rattle.laws_board.specs.sections.Courses.{Course, IsStopped, next_part, parts_of, course_of, course_behind, course_from, AreMadeFor, IsMadeBy, IsGoodOn, AreGoodOn, IsInTime, AreInTime, BeginLostOn, FindsFree}
+use Rattle.laws_board.specs.sections.Courses.{Course, IsStopped, next_part, course_parts, course_of, course_behind, course_from, AreMadeFor, IsMadeBy, IsGoodOn, AreGoodOn, IsInTime, AreInTime, BeginLostOn, FindsFree}
 use Rattle.laws_board.proofs.sections.Fits.{IsShutBy}
 use Rattle.laws_board.proofs.sections.Free.{board_acts}
 use Rattle.laws_board.proofs.sections.Taking.{shut_fair}
@@ -157,11 +157,11 @@ one_stands own stops slots by queued turn cs r c ticks f h k good timely time fi
 -- The board takes good commands: all are fair. It runs on, and stands as is known then; or it shut down, behind some of them that it took.
 abbrev pub AllStand : (ℕ → ℕ) → (ℕ → Option ℕ) → ℕ → ℕ → ℕ → (ℕ → Course) → Rig → List Sent → Type 0
 AllStand own stops slots by turn cs r ss =
-    let after = (takes_all r (commands_of (orders_in ss))).rig.controller in
-    AreFair r (orders_in ss)
+    let after = (takes_all r (commands_of (orders_sent ss))).rig.controller in
+    AreFair r (orders_sent ss)
     × ((BoardStands own stops slots by turn (λ oid. course_from oid (cs oid) ss) after × MadeOn own stops cs (λ oid. course_from oid (cs oid) ss) r.controller after)
     ⊎ (IsShutBy after × ((done more : List Sent) × (ss ≡ done ++ more)
-    × ((oid : ℕ) (m : List Pulse) → IsMadeBy own stops oid (stepper_at r.controller oid) (cs oid) m → AreMadeFor own stops (parts_of (course_from oid (cs oid) done)) m))))
+    × ((oid : ℕ) (m : List Pulse) → IsMadeBy own stops oid (stepper_at r.controller oid) (cs oid) m → AreMadeFor own stops (course_parts (course_from oid (cs oid) done)) m))))
 
 -- a part that is stopped behind a command was so before it, and the command sets no clock of its stepper
 set_since : (t : Bool) (stops : ℕ → Option ℕ) (by queued oid other clock : ℕ) (c : Course) → (other == oid) ≡ t → (IsStopped stops by (Some queued) → ⊥) → IsStopped stops by (cond t (next_part queued clock c) c).since
@@ -176,7 +176,7 @@ since_one : (stops : ℕ → Option ℕ) (by queued oid : ℕ) (c : Course) (m :
 since_one stops by queued oid c (cmd.ResetStepClock other clock) ticks time st = set_since (other == oid) stops by queued oid other clock c refl time st
 since_one stops by queued oid c m ticks time st = (st, tt)
 
-pub since_all : (stops : ℕ → Option ℕ) (by oid : ℕ) (c : Course) (ss : List Sent) → AreInTime stops by ss → IsStopped stops by (course_from oid c ss).since → IsStopped stops by c.since × AllSetNot oid (orders_in ss)
+pub since_all : (stops : ℕ → Option ℕ) (by oid : ℕ) (c : Course) (ss : List Sent) → AreInTime stops by ss → IsStopped stops by (course_from oid c ss).since → IsStopped stops by c.since × AllSetNot oid (orders_sent ss)
 since_all stops by oid c [] time st = (st, tt)
 since_all stops by oid c (s ∷ ss) time st =
     let rest = since_all stops by oid (course_behind oid c s) ss time.1 st in
@@ -191,8 +191,8 @@ finds_on stops by s cs r ms time finds oid st =
     (finds oid was.0).1 was.1
 
 pub all_stand : (own : ℕ → ℕ) → ((j k : ℕ) → j ≤ k → own j ≤ own k) → (stops : ℕ → Option ℕ) (slots by turn : ℕ) (ss : List Sent) (cs : ℕ → Course) (r : Rig) → BoardStands own stops slots by turn cs r.controller → by ≤ turn → AreQueued by ss
-    → ((oid : ℕ) → AreGoodOn own stops slots oid (cs oid) ss) → AreTimely (own turn) (orders_in ss) → AreInTime stops by ss
-    → ((oid : ℕ) → IsStopped stops by (cs oid).since → AllFindHalted oid r (orders_in ss)) → AllStand own stops slots by turn cs r ss
+    → ((oid : ℕ) → AreGoodOn own stops slots oid (cs oid) ss) → AreTimely (own turn) (orders_sent ss) → AreInTime stops by ss
+    → ((oid : ℕ) → IsStopped stops by (cs oid).since → AllFindHalted oid r (orders_sent ss)) → AllStand own stops slots by turn cs r ss
 all_stand own up stops slots by turn [] cs r f le old good timely time finds = (tt, inl (f, λ oid m k. k))
 all_stand own up stops slots by turn (s ∷ ss) cs r f le old good timely time finds =
     let one = one_stands own stops slots by s.turn turn cs r s.order.command s.order.ticks f (up s.turn turn (omega (arith, old.0, le))) old.0 (λ oid. (good oid).0) timely.0 time.0 (λ oid st. (finds oid st).0) in
@@ -200,7 +200,7 @@ all_stand own up stops slots by turn (s ∷ ss) cs r f le old good timely time f
     let after = (takes r s.order.command).rig in
     elim one.1 [
       | inl g ↦
-          let rest = all_stand own up stops slots by turn ss next after g.0 le old.1 (λ oid. (good oid).1) timely.1 time.1 (finds_on stops by s cs r (orders_in ss) time.0 finds) in (
+          let rest = all_stand own up stops slots by turn ss next after g.0 le old.1 (λ oid. (good oid).1) timely.1 time.1 (finds_on stops by s cs r (orders_sent ss) time.0 finds) in (
             (one.0, rest.0),
             elim rest.1 [
               | inl q ↦ inl (q.0, λ oid m k. q.1 oid m (g.1 oid m k))
@@ -209,8 +209,8 @@ all_stand own up stops slots by turn (s ∷ ss) cs r f le old good timely time f
           )
       | inr g ↦
           let (reason, t, first, state, may) = g in
-          let same = ap (λ (x : Controller). x.state) (all_left_by after (commands_of (orders_in ss)) (ap is_shut state)) ∙ state in (
-            (one.0, shut_fair after (orders_in ss) reason t first state),
+          let same = ap (λ (x : Controller). x.state) (all_left_by after (commands_of (orders_sent ss)) (ap is_shut state)) ∙ state in (
+            (one.0, shut_fair after (orders_sent ss) reason t first state),
             inr ((reason, t, first, same, may), ([], s ∷ ss, refl, λ oid m k. made_for own stops oid (stepper_at r.controller oid) (cs oid) m k)),
           )
     ]
@@ -226,8 +226,8 @@ one_lost own stops slots by queued turn cs r _ ticks f h good timely lost free =
 -- The board takes good commands, and behind them one that comes too late: all are fair, and it shut down, behind some of them that it took.
 abbrev pub AllLost : (ℕ → ℕ) → (ℕ → Option ℕ) → (ℕ → Course) → Rig → List Sent → List Sent → Type 0
 AllLost own stops cs r ss tail =
-    AreFair r (orders_in (ss ++ tail)) × IsShutBy (takes_all r (commands_of (orders_in (ss ++ tail)))).rig.controller × ((done more : List Sent) × (ss ≡ done ++ more)
-    × ((oid : ℕ) (m : List Pulse) → IsMadeBy own stops oid (stepper_at r.controller oid) (cs oid) m → AreMadeFor own stops (parts_of (course_from oid (cs oid) done)) m))
+    AreFair r (orders_sent (ss ++ tail)) × IsShutBy (takes_all r (commands_of (orders_sent (ss ++ tail)))).rig.controller × ((done more : List Sent) × (ss ≡ done ++ more)
+    × ((oid : ℕ) (m : List Pulse) → IsMadeBy own stops oid (stepper_at r.controller oid) (cs oid) m → AreMadeFor own stops (course_parts (course_from oid (cs oid) done)) m))
 
 -- which sets no clock
 lost_time : (own : ℕ → ℕ) (stops : ℕ → Option ℕ) (by turn : ℕ) (ks : ℕ → Known) (c : Cmd) (ticks : List ℕ) → IsLostFor own turn ks c ticks → IsInTime stops by turn c
@@ -236,27 +236,27 @@ lost_time own stops by turn ks c ticks i = tt
 
 pub all_lost : (own : ℕ → ℕ) → ((j k : ℕ) → j ≤ k → own j ≤ own k) → (stops : ℕ → Option ℕ) (slots by turn : ℕ) (ss : List Sent) (s : Sent) (tail : List Sent) (cs : ℕ → Course) (r : Rig) → BoardStands own stops slots by turn cs r.controller
     → by ≤ turn → AreQueued by (ss ++ s ∷ tail) → ((oid : ℕ) → AreGoodOn own stops slots oid (cs oid) ss) → BeginLostOn own stops slots (λ oid. course_from oid (cs oid) ss) (s ∷ tail)
-    → AreTimely (own turn) (orders_in (ss ++ s ∷ tail)) → AreInTime stops by ss
-    → ((takes_all r (commands_of (orders_in ss))).rig.controller.state ≡ Running → FindsFree (takes_all r (commands_of (orders_in ss))).rig.controller s.order.command)
-    → ((oid : ℕ) → IsStopped stops by (cs oid).since → AllFindHalted oid r (orders_in (ss ++ s ∷ tail))) → AllLost own stops cs r ss (s ∷ tail)
+    → AreTimely (own turn) (orders_sent (ss ++ s ∷ tail)) → AreInTime stops by ss
+    → ((takes_all r (commands_of (orders_sent ss))).rig.controller.state ≡ Running → FindsFree (takes_all r (commands_of (orders_sent ss))).rig.controller s.order.command)
+    → ((oid : ℕ) → IsStopped stops by (cs oid).since → AllFindHalted oid r (orders_sent (ss ++ s ∷ tail))) → AllLost own stops cs r ss (s ∷ tail)
 all_lost own up stops slots by turn [] s tail cs r f le old good lost timely time free finds =
     let h = up s.turn turn (omega (arith, old.0, le)) in
     let one = one_stands own stops slots by s.turn turn cs r s.order.command s.order.ticks f h old.0 lost.0 timely.0 (lost_time own stops by s.turn (λ oid. (cs oid).known) s.order.command s.order.ticks lost.1) (λ oid st. (finds oid st).0) in
     let (reason, t, first, state, may) = one_lost own stops slots by s.turn turn cs r s.order.command s.order.ticks f h lost.0 timely.0 lost.1 (free f.running) in
     let after = (takes r s.order.command).rig in
-    let same = ap (λ (x : Controller). x.state) (all_left_by after (commands_of (orders_in tail)) (ap is_shut state)) ∙ state in
-    ((one.0, shut_fair after (orders_in tail) reason t first state), (reason, t, first, same, may), ([], [], refl, λ oid m k. made_for own stops oid (stepper_at r.controller oid) (cs oid) m k))
+    let same = ap (λ (x : Controller). x.state) (all_left_by after (commands_of (orders_sent tail)) (ap is_shut state)) ∙ state in
+    ((one.0, shut_fair after (orders_sent tail) reason t first state), (reason, t, first, same, may), ([], [], refl, λ oid m k. made_for own stops oid (stepper_at r.controller oid) (cs oid) m k))
 all_lost own up stops slots by turn (x ∷ ss) s tail cs r f le old good lost timely time free finds =
     let one = one_stands own stops slots by x.turn turn cs r x.order.command x.order.ticks f (up x.turn turn (omega (arith, old.0, le))) old.0 (λ oid. (good oid).0) timely.0 time.0 (λ oid st. (finds oid st).0) in
     let next : ℕ → Course = λ oid. course_behind oid (cs oid) x in
     let after = (takes r x.order.command).rig in
     elim one.1 [
       | inl g ↦
-          let (fair, shut, stop) = all_lost own up stops slots by turn ss s tail next after g.0 le old.1 (λ oid. (good oid).1) lost timely.1 time.1 free (finds_on stops by x cs r (orders_in (ss ++ s ∷ tail)) time.0 finds) in
+          let (fair, shut, stop) = all_lost own up stops slots by turn ss s tail next after g.0 le old.1 (λ oid. (good oid).1) lost timely.1 time.1 free (finds_on stops by x cs r (orders_sent (ss ++ s ∷ tail)) time.0 finds) in
           let (done, more, is, made) = stop in
           ((one.0, fair), shut, (x ∷ done, more, ap (λ y. x ∷ y) is, λ oid m k. made oid m (g.1 oid m k)))
       | inr g ↦
           let (reason, t, first, state, may) = g in
-          let same = ap (λ (y : Controller). y.state) (all_left_by after (commands_of (orders_in (ss ++ s ∷ tail))) (ap is_shut state)) ∙ state in
-          ((one.0, shut_fair after (orders_in (ss ++ s ∷ tail)) reason t first state), (reason, t, first, same, may), ([], x ∷ ss, refl, λ oid m k. made_for own stops oid (stepper_at r.controller oid) (cs oid) m k))
+          let same = ap (λ (y : Controller). y.state) (all_left_by after (commands_of (orders_sent (ss ++ s ∷ tail))) (ap is_shut state)) ∙ state in
+          ((one.0, shut_fair after (orders_sent (ss ++ s ∷ tail)) reason t first state), (reason, t, first, same, may), ([], x ∷ ss, refl, λ oid m k. made_for own stops oid (stepper_at r.controller oid) (cs oid) m k))
     ]

@@ -3,8 +3,8 @@ use Rattle.std.proofs.Common.{◌≡◌, ℕ, suc, ◌+◌, ◌<◌, ◌≤◌, 
 use Rattle.std.proofs.lemmas.Bool.Decides.{leb_tells}
 use Rattle.std.specs.Prelude.{Bool}
 use Rattle.plan_types.specs.Numbers.{UpFrom}
-use Rattle.plan_types.specs.Board.{Group, last_of, end_of, ticks_before, ticks_from, left, unless_left, groups_from, last_before}
-use Rattle.board_sim.specs.Fair.{RiseFrom}
+use Rattle.plan_types.specs.Board.{Group, last_of, end_of, ticks_before, ticks_from, with_left, unless_left, groups_from, last_before}
+use Rattle.board_sim.specs.Fair.{GroupsRiseFrom}
 use Rattle.board_sim.proofs.Steps.{split_ticks}
 use Rattle.step_feed.specs.Rings.{one_from, count_from}
 use Rattle.laws_board.specs.sections.Known.{AreBelow}
@@ -41,7 +41,7 @@ last_least low x [] u some = absurd (omega arith)
 last_least low x (t ∷ []) u some = u.0
 last_least low x (t ∷ v ∷ ts) u some = omega (arith, u.0, last_least t t (v ∷ ts) u.1 (omega arith))
 
-pub all_counted : (now low : ℕ) (gs : List Group) → now ≤ low → RiseFrom low gs → length gs ≤ ends_from now gs
+pub all_counted : (now low : ℕ) (gs : List Group) → now ≤ low → GroupsRiseFrom low gs → length gs ≤ ends_from now gs
 all_counted now low [] h r = omega arith
 all_counted now low (g ∷ gs) h r =
     let one = one_at now (last_of 0 g.ticks) (omega (arith, h, last_least low 0 g.ticks r.1 r.0)) in
@@ -57,7 +57,7 @@ last_from x low t [] h = absurd (omega arith)
 last_from x low t (u ∷ us) h = elim (leb_tells (suc u) t) [ inl p ↦ rw p.0 (last_from x u t us (rw p.0 at h)) | inr p ↦ rw p.0 refl ]
 
 left_ends : (x e : ℕ) (up : Bool) (ls : List ℕ) (gs gf : List Group) → ends_from x gf ≤ ends_from x gs → (0 < length ls → last_of 0 ls ≡ e)
-    → ends_from x (left up ls gs gf) ≤ one_from x e + ends_from x gs
+    → ends_from x (with_left up ls gs gf) ≤ one_from x e + ends_from x gs
 left_ends x e up [] gs gf h same = omega (arith, h)
 left_ends x e up (v ∷ vs) gs gf h same =
     let one : last_of 0 (v ∷ vs) ≡ e = same (omega arith) in
@@ -79,7 +79,7 @@ last_any x y (t ∷ ts) h = refl
 
 end_left : (last t : ℕ) (up : Bool) (bs ls ts : List ℕ) (gs : List Group) → bs ++ ls ≡ ts
     → end_of (last_before (last_of last bs) t gs) (groups_from t gs) ≡ end_of (last_of last bs) gs
-    → end_of (unless_left ls (last_before (last_of last bs) t gs) (last_of last bs)) (left up ls gs (groups_from t gs)) ≡ end_of (last_of last ts) gs
+    → end_of (unless_left ls (last_before (last_of last bs) t gs) (last_of last bs)) (with_left up ls gs (groups_from t gs)) ≡ end_of (last_of last ts) gs
 end_left last t up bs [] ts gs e h = h ∙ ap (λ x. end_of (last_of last x) gs) (sym (append-nil bs) ∙ e)
 end_left last t up bs (v ∷ vs) ts gs e h = ap (λ x. end_of x gs) (sym (last_append last bs (v ∷ vs)) ∙ ap (last_of last) e)
 
@@ -93,7 +93,7 @@ pub end_push : (last : ℕ) (gs : List Group) (g : Group) → end_of last (gs ++
 end_push last [] g = refl
 end_push last (h ∷ gs) g = end_push (last_of last h.ticks) gs g
 
-pub end_least : (low last : ℕ) (g : Group) (gs : List Group) → RiseFrom low (g ∷ gs) → low ≤ end_of last (g ∷ gs)
+pub end_least : (low last : ℕ) (g : Group) (gs : List Group) → GroupsRiseFrom low (g ∷ gs) → low ≤ end_of last (g ∷ gs)
 end_least low last g [] r = last_least low last g.ticks r.1 r.0
 end_least low last g (h ∷ gs) r =
     let same : last_of last g.ticks ≡ last_of low g.ticks = last_any last low g.ticks r.0 in

@@ -13,7 +13,7 @@ use Rattle.board_sim.proofs.RigShut.{passes_left}
 use Rattle.board_sim.proofs.Steps.{only-append}
 use Rattle.board_world.specs.declared.event.Event.TheVariants.{Put, Control, Pass}
 use Rattle.board_world.specs.Orders.{plain, units_orders}
-use Rattle.board_world.specs.World.{Core, Step, Do, Turn, does, happens, after, run, start, AllFair}
+use Rattle.board_world.specs.World.{Core, Step, Do, Turn, does, after_event, world_after, run_world, new_world, AllFair}
 use Rattle.board_world.proofs.Runs.{ordered_by, start_ordered}
 use Rattle.link_work.specs.Turn.{Orders}
 use Rattle.link_work.specs.Runs.{queued_in}
@@ -35,17 +35,17 @@ use Rattle.laws_board.proofs.sections.Stepping.{Script, Finds, Going, Gone, Keep
 -- what a stepper's place makes of the time of a turn
 abbrev PlaceMoves : Script → ℕ → Core → ℕ → Type 0
 PlaceMoves p turn h oid =
-    let q = happens h (Pass (p.own (turn + 1))) in
+    let q = after_event h (Pass (p.own (turn + 1))) in
     SlotMoves oid (p.own turn) (p.own (turn + 1)) (stepper_at h.board.controller oid) (stepper_at q.board.controller oid) (only oid (does h (Pass (p.own (turn + 1)))).pulses)
 
 -- time passes on a board that runs
-going_moves : (p : Script) (turn : ℕ) (sent : List Sent) (h : Core) → Keeps p turn turn sent h → (r : Going p turn turn sent h) → (happens h (Pass (p.own (turn + 1)))).board.controller.tick ≡ p.own (turn + 1)
-    → BoardMoves h.board.controller (happens h (Pass (p.own (turn + 1)))).board.controller (does h (Pass (p.own (turn + 1)))).pulses × ((oid : ℕ) → PlaceMoves p turn h oid)
+going_moves : (p : Script) (turn : ℕ) (sent : List Sent) (h : Core) → Keeps p turn turn sent h → (r : Going p turn turn sent h) → (after_event h (Pass (p.own (turn + 1)))).board.controller.tick ≡ p.own (turn + 1)
+    → BoardMoves h.board.controller (after_event h (Pass (p.own (turn + 1)))).board.controller (does h (Pass (p.own (turn + 1)))).pulses × ((oid : ℕ) → PlaceMoves p turn h oid)
 going_moves p turn sent h k r tick =
     let t = p.own (turn + 1) in
     let m = passes_move h.board t h.made k.kept.kept r.stands.running k.kept.is in
     let ps = (does h (Pass t)).pulses in
-    let q = happens h (Pass t) in (
+    let q = after_event h (Pass t) in (
       m,
       λ oid.
           let From : ℕ → Type 0 = λ n. SlotMoves oid n q.board.controller.tick (stepper_at h.board.controller oid) (stepper_at q.board.controller oid) (only oid ps) in
@@ -53,11 +53,11 @@ going_moves p turn sent h k r tick =
           subst To tick (subst From k.tick (m.each oid)),
     )
 
-going_passes : (p : Script) (turn : ℕ) (sent : List Sent) (h : Core) → Keeps p turn turn sent h → Going p turn turn sent h → (happens h (Pass (p.own (turn + 1)))).board.controller.tick ≡ p.own (turn + 1)
-    → Going p turn (turn + 1) sent (happens h (Pass (p.own (turn + 1)))) × ((oid : ℕ) → AreBetween (p.own turn) (p.own (turn + 1)) (only oid (does h (Pass (p.own (turn + 1)))).pulses))
+going_passes : (p : Script) (turn : ℕ) (sent : List Sent) (h : Core) → Keeps p turn turn sent h → Going p turn turn sent h → (after_event h (Pass (p.own (turn + 1)))).board.controller.tick ≡ p.own (turn + 1)
+    → Going p turn (turn + 1) sent (after_event h (Pass (p.own (turn + 1)))) × ((oid : ℕ) → AreBetween (p.own turn) (p.own (turn + 1)) (only oid (does h (Pass (p.own (turn + 1)))).pulses))
 going_passes p turn sent h k r tick =
     let t = p.own (turn + 1) in
-    let q = happens h (Pass t) in
+    let q = after_event h (Pass t) in
     let ps = (does h (Pass t)).pulses in
     let (m, each) = going_moves p turn sent h k r tick in
     let between = λ (oid : ℕ).
@@ -88,12 +88,12 @@ going_passes p turn sent h k r tick =
     )
 
 pub pass_keeps : (p : Script) (turn : ℕ) (sent : List Sent) (h : Core) → Keeps p turn turn sent h
-    → Keeps p turn (turn + 1) sent (happens h (Pass (p.own (turn + 1)))) × ((oid : ℕ) → AreBetween (p.own turn) (p.own (turn + 1)) (only oid (does h (Pass (p.own (turn + 1)))).pulses))
+    → Keeps p turn (turn + 1) sent (after_event h (Pass (p.own (turn + 1)))) × ((oid : ℕ) → AreBetween (p.own turn) (p.own (turn + 1)) (only oid (does h (Pass (p.own (turn + 1)))).pulses))
 pass_keeps p turn sent h k =
     let t = p.own (turn + 1) in
     let up : p.own turn ≤ t = p.up turn in
     let tick = tick_passed h t k.ordered (rw k.tick up) in
-    let q = happens h (Pass t) in
+    let q = after_event h (Pass t) in
     let ps = (does h (Pass t)).pulses in
     let Between : List Pulse → Type 0 = λ x. (oid : ℕ) → AreBetween (p.own turn) t (only oid x) in
     let next : (Going p turn (turn + 1) sent q ⊎ Gone p q) × ((oid : ℕ) → AreBetween (p.own turn) t (only oid ps)) = elim k.state [
@@ -166,7 +166,7 @@ pub settled_finds : (p : Script) (turn : ℕ) (sent : List Sent) (h : Core) (ste
 settled_finds p turn sent h steps f = λ r oid st. f r.stands.running r.done r.left r.more (sym r.sent_is) r.front_is r.taken oid st
 
 abbrev QuietKeeps : Script → ℕ → ℕ → List Sent → List Step → List Step → Core → Type 0
-QuietKeeps p by turn sent steps rest h = AllFair h steps × Keeps p by turn sent (run steps h) × Finds p by turn sent (run steps h) rest
+QuietKeeps p by turn sent steps rest h = AllFair h steps × Keeps p by turn sent (run_world steps h) × Finds p by turn sent (run_world steps h) rest
 
 pub quiet_keep : (p : Script) (by turn : ℕ) (sent : List Sent) (steps rest : List Step) (h : Core) → AreQuiet steps → Keeps p by turn sent h → AllTimely h steps → AllHeed p.front p.tail h steps → Finds p by turn sent h (steps ++ rest)
     → QuietKeeps p by turn sent steps rest h
@@ -174,7 +174,7 @@ quiet_keep p by turn sent [] rest h q k timely heed finds = (tt, k, finds)
 quiet_keep p by turn sent (s ∷ steps) rest h q k timely heed finds =
     let one = quiet_keeps p by turn sent h s q.0 k timely.0 heed.0 (finds_first p by turn sent h s (steps ++ rest) finds) in
     let next = finds_next p by turn turn sent sent h s (steps ++ rest) k finds in
-    let more = quiet_keep p by turn sent steps rest (after h s) q.1 one.1 timely.1 heed.1 next in
+    let more = quiet_keep p by turn sent steps rest (world_after h s) q.1 one.1 timely.1 heed.1 next in
     ((one.0, more.0), more.1, more.2)
 
 -- before the first turn nothing is too late
@@ -192,7 +192,7 @@ time_first stops (s ∷ ss) h = (time_of stops s.turn s.order.command (h s.turn)
 
 abbrev TurnKeeps : Script → ℕ → List Sent → Orders → Core → List Step → Type 0
 TurnKeeps p turn sent o h steps =
-    AllFair h steps × Keeps p turn (turn + 1) (sent ++ sent_at turn (queued_in o)) (run steps h) × Makes (p.own turn) (p.own (turn + 1)) h.made (run steps h).made
+    AllFair h steps × Keeps p turn (turn + 1) (sent ++ sent_at turn (queued_in o)) (run_world steps h) × Makes (p.own turn) (p.own (turn + 1)) h.made (run_world steps h).made
 
 -- a turn
 turn_steps_keep : (p : Script) (turn : ℕ) (sent rest : List Sent) (o : Orders) (before rear : List Step) (h : Core) → AreQuiet before → AreQuiet rear → Keeps p turn turn sent h
@@ -206,24 +206,24 @@ turn_steps_keep p turn sent rest o before rear h bq rq k all timely heed finds =
     let us = units_orders o.batch.units in
     let pass = Do (Pass (p.own (turn + 1))) in
     let split : sent_at turn (queued_in o) ≡ sent_at turn cs ++ sent_at turn us = sent_append turn cs us in
-    let h1 = after h (Turn turn) in
+    let h1 = world_after h (Turn turn) in
     let others = before ++ pass ∷ rear in
     let k1 = (quiet_keeps p turn turn sent h (Turn turn) tt k tt tt (λ r oid st. tt)).1 in
     let f1 = finds_next p turn turn turn sent sent h (Turn turn) (Do (Control o.control) ∷ Do (Put o.batch) ∷ others) k finds in
-    let h2 = happens h1 (Control o.control) in
+    let h2 = after_event h1 (Control o.control) in
     let whole : ((sent ++ sent_at turn cs) ++ sent_at turn us) ++ rest ≡ p.all =
     ap (λ x. x ++ rest) (append_assoc sent (sent_at turn cs) (sent_at turn us) ∙ ap (λ x. sent ++ x) (sym split)) ∙ all in
     let k2 : Keeps p turn turn (sent ++ sent_at turn cs) h2 =
     queues_on p turn turn sent (sent_at turn us ++ rest) h1 (Control o.control) k1 (sym (append_assoc (sent ++ sent_at turn cs) (sent_at turn us) rest) ∙ whole) (up_at turn cs) refl refl refl in
     let f2 = finds_next p turn turn turn sent (sent ++ sent_at turn cs) h1 (Do (Control o.control)) (Do (Put o.batch) ∷ others) k1 f1 in
-    let h3 = happens h2 (Put o.batch) in
+    let h3 = after_event h2 (Put o.batch) in
     let k3 : Keeps p turn turn ((sent ++ sent_at turn cs) ++ sent_at turn us) h3 =
     queues_on p turn turn (sent ++ sent_at turn cs) rest h2 (Put o.batch) k2 whole (up_at turn us) refl refl refl in
     let f3 = finds_next p turn turn turn (sent ++ sent_at turn cs) ((sent ++ sent_at turn cs) ++ sent_at turn us) h2 (Do (Put o.batch)) others k2 f2 in
     let q = quiet_keep p turn turn ((sent ++ sent_at turn cs) ++ sent_at turn us) before (pass ∷ rear) h3 bq k3 (timely_front before (pass ∷ rear) h3 timely.1.1.1) (heed_front p.front p.tail before (pass ∷ rear) h3 heed.1.1.1) f3 in
-    let h4 = run before h3 in
+    let h4 = run_world before h3 in
     let k5 = pass_keeps p turn ((sent ++ sent_at turn cs) ++ sent_at turn us) h4 q.1 in
-    let h5 = after h4 pass in
+    let h5 = world_after h4 pass in
     let late = timely_behind before (pass ∷ rear) h3 timely.1.1.1 in
     let behind = heed_behind p.front p.tail before (pass ∷ rear) h3 heed.1.1.1 in
     let all_sent = (sent ++ sent_at turn cs) ++ sent_at turn us in
@@ -231,7 +231,7 @@ turn_steps_keep p turn sent rest o before rear h bq rq k all timely heed finds =
     let Found : List Step → Type 0 = λ x. Finds p turn (turn + 1) all_sent h5 x in
     let r = quiet_keep p turn (turn + 1) ((sent ++ sent_at turn cs) ++ sent_at turn us) rear [] h5 rq k5.0 late.1 behind.1 (subst Found (sym (append-nil rear)) f5) in
     let new = (does h4 (Pass (p.own (turn + 1)))).pulses in
-    let At : List Sent → Type 0 = λ x. Keeps p turn (turn + 1) x (run rear h5) in
+    let At : List Sent → Type 0 = λ x. Keeps p turn (turn + 1) x (run_world rear h5) in
     let To : Core → Type 0 = λ x. Keeps p turn (turn + 1) (sent ++ sent_at turn (queued_in o)) x in (
       (tt, (tt, (tt, fair_append before (pass ∷ rear) h3 q.0 (tt, r.0)))),
       subst To (sym (run_append before (pass ∷ rear) h3)) (subst At (append_assoc sent (sent_at turn cs) (sent_at turn us) ∙ ap (λ x. sent ++ x) (sym split)) r.1),
@@ -257,7 +257,7 @@ settled_first p turn sent (o ∷ os) steps h t s = s.0
 
 abbrev pub TurnsKeep : Script → ℕ → List Sent → List Orders → Core → List Step → Type 0
 TurnsKeep p turn sent os h steps =
-    AllFair h steps × Keeps p (turn + length os) (turn + length os) (sent ++ sent_in turn os) (run steps h) × Makes (p.own turn) (p.own (turn + length os)) h.made (run steps h).made
+    AllFair h steps × Keeps p (turn + length os) (turn + length os) (sent ++ sent_in turn os) (run_world steps h) × Makes (p.own turn) (p.own (turn + length os)) h.made (run_world steps h).made
 
 makes_both : (p : Script) (turn mid end : ℕ) (a b c : List Pulse) → turn ≤ mid → mid ≤ end → Makes (p.own turn) (p.own mid) a b → Makes (p.own mid) (p.own end) b c → Makes (p.own turn) (p.own end) a c
 makes_both p turn mid end a b c h k x y = (
@@ -289,22 +289,22 @@ turns_keep p turn sent rest (o ∷ os) steps h t k all timely settled heed =
     let whole : (mid ++ sent_in (turn + 1) os) ++ rest ≡ p.all = ap (λ x. x ++ rest) cut ∙ all in
     let a = turn_keeps p turn sent (sent_in (turn + 1) os ++ rest) o first h one k (sym (append_assoc mid (sent_in (turn + 1) os) rest) ∙ whole) (timely_front first later h all_timely) (heed_front p.front p.tail first later h all_heed)
     (settled_finds p turn sent h first settled.1) in
-    let next = settles p turn mid (run first h) a.1 (settled_first p (turn + 1) mid os later (run first h) more settled.2) in
-    let b = turns_keep p (turn + 1) mid rest os later (run first h) more next whole (timely_behind first later h all_timely) settled.2 (heed_behind p.front p.tail first later h all_heed) in
+    let next = settles p turn mid (run_world first h) a.1 (settled_first p (turn + 1) mid os later (run_world first h) more settled.2) in
+    let b = turns_keep p (turn + 1) mid rest os later (run_world first h) more next whole (timely_behind first later h all_timely) settled.2 (heed_behind p.front p.tail first later h all_heed) in
     let n : turn + 1 + length os ≡ turn + length (o ∷ os) = omega arith in
     let To : Core → Type 0 = λ x. Keeps p (turn + length (o ∷ os)) (turn + length (o ∷ os)) (sent ++ sent_in turn (o ∷ os)) x in
-    let On : ℕ → Type 0 = λ x. Keeps p x x (mid ++ sent_in (turn + 1) os) (run later (run first h)) in
-    let Here : List Sent → Type 0 = λ x. Keeps p (turn + length (o ∷ os)) (turn + length (o ∷ os)) x (run later (run first h)) in
+    let On : ℕ → Type 0 = λ x. Keeps p x x (mid ++ sent_in (turn + 1) os) (run_world later (run_world first h)) in
+    let Here : List Sent → Type 0 = λ x. Keeps p (turn + length (o ∷ os)) (turn + length (o ∷ os)) x (run_world later (run_world first h)) in
     let Made : Core → Type 0 = λ x. Makes (p.own turn) (p.own (turn + length (o ∷ os))) h.made x.made in
-    let Until : ℕ → Type 0 = λ x. Makes (p.own turn) (p.own x) h.made (run later (run first h)).made in
+    let Until : ℕ → Type 0 = λ x. Makes (p.own turn) (p.own x) h.made (run_world later (run_world first h)).made in
     subst At (sym are) (
       fair_append first later h a.0 b.0,
       subst To (sym (run_append first later h)) (subst Here cut (subst On n b.1)),
-      subst Made (sym (run_append first later h)) (subst Until n (makes_both p turn (turn + 1) (turn + 1 + length os) h.made (run first h).made (run later (run first h)).made (omega arith) (omega arith) a.2 b.2)),
+      subst Made (sym (run_append first later h)) (subst Until n (makes_both p turn (turn + 1) (turn + 1 + length os) h.made (run_world first h).made (run_world later (run_world first h)).made (omega arith) (omega arith) a.2 b.2)),
     )
 
 -- a board to which nothing was told
-pub begins : (p : Script) (b : BoardDef) (pins : List (List Level)) → p.own 0 ≡ b.start → p.slots ≡ b.slots → Keeps p 0 0 [] (start b pins)
+pub begins : (p : Script) (b : BoardDef) (pins : List (List Level)) → p.own 0 ≡ b.start → p.slots ≡ b.slots → Keeps p 0 0 [] (new_world b pins)
 unfolding new_controller
 begins p b pins first slots = record {
   ordered = start_ordered b pins;

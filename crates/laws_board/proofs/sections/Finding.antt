@@ -4,7 +4,7 @@ use Rattle.std.proofs.lemmas.List.{take_all, length-map}
 use Rattle.std.specs.List.{flat_map}
 use Rattle.plan_types.specs.declared.levels.Level.{Level}
 use Rattle.plan_types.specs.declared.machine.BoardDef.{BoardDef}
-use Rattle.board_world.specs.World.{Step, on_wire, run, start}
+use Rattle.board_world.specs.World.{Step, on_wire, run_world, new_world}
 use Rattle.board_world.proofs.Runs.{ordered, start_ordered}
 use Rattle.link_core.specs.Core.{Link, queued, sent, InStep}
 
@@ -15,10 +15,10 @@ all_taken l s none idle =
     s.each_once ∙ ap (λ n. flat_map (λ cs. cs) (take n l.blocks)) all ∙ ap (flat_map (λ cs. cs)) (take_all (length l.blocks) l.blocks (omega arith))
     ∙ sym (ap (λ w. flat_map (λ cs. cs) l.blocks ++ w) none ∙ append-nil (flat_map (λ cs. cs) l.blocks))
 
-pub idle_took : (b : BoardDef) (pins : List (List Level)) (steps : List Step) → (run steps (start b pins)).link.waiting ≡ [] → (run steps (start b pins)).link.acked ≡ sent (run steps (start b pins)).link
-    → (run steps (start b pins)).taken ≡ (run steps (start b pins)).queued
+pub idle_took : (b : BoardDef) (pins : List (List Level)) (steps : List Step) → (run_world steps (new_world b pins)).link.waiting ≡ [] → (run_world steps (new_world b pins)).link.acked ≡ sent (run_world steps (new_world b pins)).link
+    → (run_world steps (new_world b pins)).taken ≡ (run_world steps (new_world b pins)).queued
 idle_took b pins steps none idle =
-    let h = run steps (start b pins) in
-    let o = ordered steps (start b pins) (start_ordered b pins) in
+    let h = run_world steps (new_world b pins) in
+    let o = ordered steps (new_world b pins) (start_ordered b pins) in
     let long : length h.link.taken ≡ length h.queued = ap length (all_taken h.link o.in_step none idle ∙ o.carried) ∙ length-map h.queued on_wire in
     o.first ∙ take_all (length h.link.taken) h.queued (omega (arith, long))

@@ -14,7 +14,7 @@ use Rattle.board_step.proofs.Whole.{whole}
 use Rattle.msg_code.specs.declared.cmd.Cmd.{Cmd}
 use Rattle.msg_code.specs.declared.cmd.Cmd.TheVariants as cmd
 use Rattle.board_sim.specs.Board.{Controller, Done, stepper_at, with_stepper, quiet, is_none_pending, first_of, refusal, takes_triple, queue_step, set_dir, reset, make_stepper, acts, timer_too_close, command_request}
-use Rattle.board_sim.specs.Fair.{IsFairOn, IsFairCommand, steps_taken, meant_on, meant_by, only, RiseFrom}
+use Rattle.board_sim.specs.Fair.{IsFairOn, IsFairCommand, steps_taken, meant_on, meant_by, only, GroupsRiseFrom}
 use Rattle.board_sim.proofs.Steps.{only_same, only_other, rise_push, rise_up, end_any}
 use Rattle.board_sim.specs.Halted.{is_halted}
 use Rattle.board_world.specs.Units.{IsMade, FindsStepper}
@@ -30,7 +30,7 @@ pub record StepperFits (now slots : ℕ) (q : Pending) (k : Known) : Type 0 wher
   pub slots_are : q.slots ≡ slots
   pub up : q.up ≡ k.up
   pub clock : end_of q.last q.groups ≡ k.clock
-  pub rises : RiseFrom now q.groups
+  pub rises : GroupsRiseFrom now q.groups
   pub few : (x : ℕ) → ends_from x q.groups ≤ count_from x k.ends
 
 abbrev pub SlotFits : ℕ → ℕ → Option Pending → Known → Type 0
@@ -210,9 +210,9 @@ pub room_left : (own : ℕ → ℕ) (slots turn now : ℕ) (q : Pending) (k : Kn
 room_left own slots turn now q k t ticks s h good =
     omega (arith, s.slots_are, all_counted now now q.groups (omega arith) s.rises, s.few now, counts_fall (own turn) now k.ends h, good.room)
 
-follows : (now : ℕ) (q : Pending) (first clock : ℕ) → end_of q.last q.groups ≡ clock → RiseFrom now q.groups → clock < first → Follows now q.last q.groups first
+follows : (now : ℕ) (q : Pending) (first clock : ℕ) → end_of q.last q.groups ≡ clock → GroupsRiseFrom now q.groups → clock < first → Follows now q.last q.groups first
 follows now q first clock e r h = behind q.last q.groups e r where
-  behind : (last : ℕ) (gs : List Group) → end_of last gs ≡ clock → RiseFrom now gs → Follows now last gs first
+  behind : (last : ℕ) (gs : List Group) → end_of last gs ≡ clock → GroupsRiseFrom now gs → Follows now last gs first
   behind last [] e r = tt
   behind last (g ∷ gs) e r = (end_least now last g gs r, rw e h)
 
@@ -236,7 +236,7 @@ refusal_is now q t late some room e =
     ]
 
 -- the ticks of a fair triple go on from those that pend
-goes_on : (now last : ℕ) (gs : List Group) (ticks : List ℕ) → RiseFrom now gs → Follows now last gs (slice_index ticks 0) → TicksRise ticks
+goes_on : (now last : ℕ) (gs : List Group) (ticks : List ℕ) → GroupsRiseFrom now gs → Follows now last gs (slice_index ticks 0) → TicksRise ticks
     → (gs ≡ [] → now ≤ slice_index ticks 0) → 0 < length ticks → UpFrom (end_of now gs) ticks
 goes_on now last gs [] r h rise at some = absurd (omega arith)
 goes_on now last [] (t ∷ ts) r h rise at some = rise_up now t ts rise (at refl)

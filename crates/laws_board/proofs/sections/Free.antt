@@ -10,7 +10,7 @@ use Rattle.msg_code.specs.declared.cmd.Cmd.{Cmd}
 use Rattle.msg_code.specs.declared.cmd.Cmd.TheVariants as cmd
 use Rattle.board_sim.specs.Board.{Controller}
 use Rattle.board_sim.specs.Board as board
-use Rattle.board_sim.specs.Rig.{Rig, Slot, slot_at, levels_of, halts, becomes, make_trigger, make_endstop, start, expires_at_once, set_timeout, trigger, home, happens_to, acts, acts_running, takes}
+use Rattle.board_sim.specs.Rig.{Rig, Slot, slot_at, levels_of, halts, becomes, make_trigger, make_endstop, start_trigger, expires_at_once, set_timeout, trigger, home, happens_to, acts, acts_running, takes}
 use Rattle.board_sim.specs.RigRuns.{has, IsUnbound, IsNoBind}
 use Rattle.board_sim.proofs.Unbound.{takes_free}
 
@@ -48,7 +48,7 @@ endstop_same : (r : Rig) (oid pin : ℕ) (o : Option ℕ) → (make_endstop r oi
 endstop_same r oid pin None = refl
 endstop_same r oid pin (Some p) = refl
 
-start_same : (r : Rig) (oid : ℕ) (o : Option Slot) (clock every reason : ℕ) → IsFree r → slot_at r oid ≡ o → (start r oid o clock every reason).controller ≡ r.controller
+start_same : (r : Rig) (oid : ℕ) (o : Option Slot) (clock every reason : ℕ) → IsFree r → slot_at r oid ≡ o → (start_trigger r oid o clock every reason).controller ≡ r.controller
 start_same r oid None clock every reason free at = refl
 start_same r oid (Some s) clock every reason free at = becomes_same r oid s (trig.started r.controller.tick clock every reason s.trigger) free at
 

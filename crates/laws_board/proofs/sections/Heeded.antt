@@ -6,7 +6,7 @@ use Rattle.plan_types.specs.declared.levels.Level.{Level}
 use Rattle.plan_types.specs.declared.machine.BoardDef.{BoardDef}
 use Rattle.plan_types.specs.Clock.{turn_ns}
 use Rattle.plan_types.specs.Lines.{Clocks, lines_tick}
-use Rattle.board_world.specs.World.{Step, start}
+use Rattle.board_world.specs.World.{Step, new_world}
 use Rattle.step_feed.specs.Units.{StepUnit}
 use Rattle.step_feed.specs.Pacing.{ArePaced, Release, batch_at, units_of}
 use Rattle.link_work.specs.Turn.{Orders}
@@ -18,7 +18,7 @@ use Rattle.section_units.proofs.Fronting.{of_front, paced_front}
 use Rattle.section_units.proofs.Lateness.{late_one_by_one}
 use Rattle.laws_board.specs.sections.Events.{AreTicks, AreTurnsOf}
 use Rattle.laws_board.specs.sections.Known.{sent_in}
-use Rattle.laws_board.specs.sections.Parts.{AreInARow, AreOrdersOf, AreTracked, IsRun}
+use Rattle.laws_board.specs.sections.Parts.{AreInARow, AreOrdersOf, AreTracked, IsBoardRun}
 use Rattle.laws_board.specs.sections.Timely.{AllTimely, TakesSoon}
 use Rattle.laws_board.proofs.sections.Beginning.{run_splits}
 use Rattle.laws_board.proofs.sections.Clocks.{ticks_up}
@@ -141,7 +141,7 @@ head_first own clocks slots ready ticks tracked e [] r = tt
 head_first own clocks slots ready ticks tracked e (s ∷ ss) r = let row = r.0.row in omega (arith, row)
 
 -- what is queued is cut, and what the cut is of
-pub run_walked : (own : ℕ → ℕ) (clocks : Clocks) (freq slots ready n turns : ℕ) (ss : List BoardSection) (os : List Orders) → AreTicks own → IsRun own clocks freq slots ready ss os → All (AreSentTo clocks freq turns) ss → length os ≤ turns → ((k : ℕ) → own (k + (n + 7)) < own k + 2 ^ 31)
+pub run_walked : (own : ℕ → ℕ) (clocks : Clocks) (freq slots ready n turns : ℕ) (ss : List BoardSection) (os : List Orders) → AreTicks own → IsBoardRun own clocks freq slots ready ss os → All (AreSentTo clocks freq turns) ss → length os ≤ turns → ((k : ℕ) → own (k + (n + 7)) < own k + 2 ^ 31)
     → (w : IsWalked own n 0 os) × (x : IsTimed own slots n (sent_in 0 os)) × (length x.front ≤ length w.cut.front)
 run_walked own clocks freq slots ready n turns ss os ticks r sent within far =
     let e : n + 5 + 2 ≡ n + 7 = omega arith in
@@ -155,7 +155,7 @@ run_walked own clocks freq slots ready n turns ss os ticks r sent within far =
     (w, t.0, t.1)
 
 pub taken_soon : (b : BoardDef) (pins : List (List Level)) (own : ℕ → ℕ) (clocks : Clocks) (ready n turns : ℕ) (ss : List BoardSection) (os : List Orders) (steps : List Step) (t : AreTurnsOf own 0 os steps) → AreTicks own → own 0 ≡ b.start
-    → IsRun own clocks b.freq b.slots ready ss os → All (AreSentTo clocks b.freq turns) ss → length os ≤ turns → ((k : ℕ) → own (k + (n + 7)) < own k + 2 ^ 31) → TakesSoon n os own 0 os steps (start b pins) t → AllTimely (start b pins) steps
+    → IsBoardRun own clocks b.freq b.slots ready ss os → All (AreSentTo clocks b.freq turns) ss → length os ≤ turns → ((k : ℕ) → own (k + (n + 7)) < own k + 2 ^ 31) → TakesSoon n os own 0 os steps (new_world b pins) t → AllTimely (new_world b pins) steps
 taken_soon b pins own clocks ready n turns ss os steps t ticks first r sent within far soon =
     let x = (run_walked own clocks b.freq b.slots ready n turns ss os ticks r sent within far).1 in
-    timed_timely b pins own n os steps t ticks first x (soon_enough n (length x.front) os own 0 os steps (start b pins) t (omega arith) soon)
+    timed_timely b pins own n os steps t ticks first x (soon_enough n (length x.front) os own 0 os steps (new_world b pins) t (omega arith) soon)

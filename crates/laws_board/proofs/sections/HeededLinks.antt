@@ -9,8 +9,8 @@ use Rattle.plan_types.specs.declared.levels.Level.{Level}
 use Rattle.plan_types.specs.Clock.{board_tick, clock_of}
 use Rattle.plan_types.specs.Lines.{Clocks}
 use Rattle.wire_scene.specs.declared.scene.Entry.{Entry}
-use Rattle.board_world.specs.World.{Core, Step, run, start}
-use Rattle.link_work.specs.Ends.{EndSo, Ended, last_of, spoiled}
+use Rattle.board_world.specs.World.{Core, Step, run_world, new_world}
+use Rattle.link_work.specs.Ends.{EndSo, Ended, last_link, spoiled}
 use Rattle.link_work.specs.Limits.{AllKeepLimits}
 use Rattle.link_work.specs.Runs.{AreTurns, queued_in}
 use Rattle.link_work.specs.Stands.{first_state}
@@ -22,7 +22,7 @@ use Rattle.section_units.specs.Sent.{AreSentTo}
 use Rattle.laws_board.specs.sections.Events.{AreOwn, AreTurnsOf}
 use Rattle.laws_board.specs.sections.Known.{Sent, sent_in}
 use Rattle.laws_board.specs.sections.Links.{ends_of, steps_of, steps_of_turn}
-use Rattle.laws_board.specs.sections.Parts.{IsRun}
+use Rattle.laws_board.specs.sections.Parts.{IsBoardRun}
 use Rattle.laws_board.specs.sections.Timely.{AllTimely, ControlsKeep}
 use Rattle.laws_board.proofs.sections.Heeded.{run_walked}
 use Rattle.laws_board.proofs.sections.Heeding.{TakesEnough, orders_length, timed_timely}
@@ -80,7 +80,7 @@ ControlsSoFar all = (done : List Orders) (o : Orders) (os : List Orders) → all
 pub enough_from : (b : BoardDef) (pins : List (List Level)) (board : ℕ) (entries : List Entry) (clock : BoardClock) (n size last turn : ℕ) (all done os : List Orders) (l m : LinkState) (t : AreTurns clock turn os l m)
     (past : List Ended) (h : Core) → h ≡ l.core → turn ≡ length done → all ≡ done ++ os → ControlsSoFar all → last ≤ length all → AreFew (take last all) → (last < length all → size < length (flat_map queued_in (take last all)))
     → EndSo clock 0 done (first_state b pins board entries) past
-    → last_of (first_state b pins board entries) past ≡ l → ((k : ℕ) → spoiled (take k (past ++ ends_of clock turn os l m t)) ≤ n)
+    → last_link (first_state b pins board entries) past ≡ l → ((k : ℕ) → spoiled (take k (past ++ ends_of clock turn os l m t)) ≤ n)
     → TakesEnough n size all (board_tick clock) turn os (steps_of clock turn os l m t) h (turns_are clock turn os l m t).1
 unfolding turns_are
 enough_from b pins board entries clock n size most turn all done [] l m t past h same long cut limits short few full e last spare = tt
@@ -95,11 +95,11 @@ enough_from b pins board entries clock n size most turn all done (o ∷ os) l m 
     (let front : take k all ≡ take k done = ap (take k) cut ∙ take-append-le k done (o ∷ os) (omega (arith, back, long)) in
     let kept = keep_limits (take k done) (controls_front k done (limits done o os cut)) (subst (λ x. AreFew x) front (few_front k most all within few)) in
     let got = most_at b pins board entries clock n k done past (omega (arith, back, long)) kept e few_now in
-    let here : length (last_of first past).core.taken ≡ length h.taken = ap (λ (x : LinkState). length x.core.taken) last ∙ ap (λ (x : Core). length x.taken) (sym same) in
+    let here : length (last_link first past).core.taken ≡ length h.taken = ap (λ (x : LinkState). length x.core.taken) last ∙ ap (λ (x : Core). length x.taken) (sym same) in
     let one = ap (λ x. length (flat_map queued_in x)) front in
     omega (arith, got, here, one)) in
     let steps = steps_of_turn clock turn o t.1.resent l in
-    let same_then : run steps h ≡ t.0.core = ap (run steps) same ∙ sym (turn_runs clock turn o t.1.resent l) ∙ ap (λ (x : LinkState). x.core) (sym t.1.becomes) in
+    let same_then : run_world steps h ≡ t.0.core = ap (run_world steps) same ∙ sym (turn_runs clock turn o t.1.resent l) ∙ ap (λ (x : LinkState). x.core) (sym t.1.becomes) in
     let From : LinkState → Type 0 = λ x. IsTurn clock turn o x t.0 in
     let ends = end_snoc clock 0 turn done o first past t.0 (omega (arith, long)) e (subst From (sym last) t.1) in
     let few_then : (k : ℕ) → spoiled (take k ((past ++ now ∷ []) ++ later)) ≤ n = λ k. let At : List Ended → Type 0 = λ x. spoiled (take k x) ≤ n in subst At (sym (append_assoc past (now ∷ []) later)) (spare k) in (
@@ -107,7 +107,7 @@ enough_from b pins board entries clock n size most turn all done (o ∷ os) l m 
         | inl p ↦ (turn - n, omega (arith, long, size_all), taken_to (turn - n) (omega arith) p.1, inl (omega arith))
         | inr p ↦ (most, short, taken_to most (omega (arith, p.1)) (omega arith), inr (full (omega (arith, p.1, long, size_all))))
       ],
-      enough_from b pins board entries clock n size most (turn + 1) all (done ++ o ∷ []) os t.0 m t.2 (past ++ now ∷ []) (run steps h) same_then (omega (arith, long, length-append done (o ∷ [])))
+      enough_from b pins board entries clock n size most (turn + 1) all (done ++ o ∷ []) os t.0 m t.2 (past ++ now ∷ []) (run_world steps h) same_then (omega (arith, long, length-append done (o ∷ [])))
           (cut ∙ sym (append_assoc done (o ∷ []) os)) limits short few full ends (last_append first past (now ∷ [])) few_then,
     )
 
@@ -117,7 +117,7 @@ pub enough_owned : (b : BoardDef) (n size : ℕ) (all : List Orders) (own : ℕ 
     → TakesEnough n size all own turn os steps h (turns_owned b own last turn os steps o within t)
 unfolding turns_owned
 enough_owned b n size all own last turn [] steps h o within t s = tt
-enough_owned b n size all own last turn (x ∷ os) steps h o within t s = (s.0, enough_owned b n size all own last (turn + 1) os t.1 (run t.0 h) o (next_within turn last x os within) t.4 s.1)
+enough_owned b n size all own last turn (x ∷ os) steps h o within t s = (s.0, enough_owned b n size all own last (turn + 1) os t.1 (run_world t.0 h) o (next_within turn last x os within) t.4 s.1)
 
 -- so many turns are less than half a round of the 32-bit clock
 pub ten_seconds : (b : BoardDef) (turns n : ℕ) (own : ℕ → ℕ) → AreOwn b turns own → n ≤ 10_000 → (k : ℕ) → own (k + (n + 7)) < own k + 2 ^ 31
@@ -125,10 +125,10 @@ ten_seconds b turns n own o small k = omega (arith, own_few b turns own o (n + 7
 
 -- the last turn may pass the limits
 pub few_heeded : (b : BoardDef) (pins : List (List Level)) (board : ℕ) (entries : List Entry) (own : ℕ → ℕ) (clocks : Clocks) (ready n turns : ℕ) (ss : List BoardSection) (os : List Orders) (l : LinkState)
-    (t : AreTurns (clock_of b) 0 os (first_state b pins board entries) l) → AreOwn b (length os) own → IsRun own clocks b.freq b.slots ready ss os → All (AreSentTo clocks b.freq turns) ss → length os ≤ turns
+    (t : AreTurns (clock_of b) 0 os (first_state b pins board entries) l) → AreOwn b (length os) own → IsBoardRun own clocks b.freq b.slots ready ss os → All (AreSentTo clocks b.freq turns) ss → length os ≤ turns
     → ((done : List Orders) (o : Orders) (rest : List Orders) → os ≡ done ++ (o ∷ rest) → ControlsKeep done)
     → ((k : ℕ) → spoiled (take k (ends_of (clock_of b) 0 os (first_state b pins board entries) l t)) ≤ n) → ((k : ℕ) → own (k + (n + 7)) < own k + 2 ^ 31)
-    → AllTimely (start b pins) (steps_of (clock_of b) 0 os (first_state b pins board entries) l t)
+    → AllTimely (new_world b pins) (steps_of (clock_of b) 0 os (first_state b pins board entries) l t)
 few_heeded b pins board entries own clocks ready n turns ss os l t o r sent within controls few far =
     let clock = clock_of b in
     let first : LinkState = first_state b pins board entries in
@@ -140,15 +140,15 @@ few_heeded b pins board entries own clocks ready n turns ss os l t o r sent with
     let taken = (turns_are clock 0 os first l t).1 in
     let low : 0 + length os ≤ length os = omega arith in
     timed_timely b pins own n os steps (turns_owned b own (length os) 0 os steps o low taken) ticks (own_first b (length os) own o) x
-    (enough_owned b n (length x.front) os own (length os) 0 os steps (start b pins) o low taken (enough_from b pins board entries clock n (length x.front) w.count 0 os [] os first l t [] (start b pins) refl refl refl controls w.short w.few full refl refl few))
+    (enough_owned b n (length x.front) os own (length os) 0 os steps (new_world b pins) o low taken (enough_from b pins board entries clock n (length x.front) w.count 0 os [] os first l t [] (new_world b pins) refl refl refl controls w.short w.few full refl refl few))
 
 controls_split : (xs ys : List Orders) → ControlsKeep (xs ++ ys) → ControlsKeep xs
 controls_split [] ys c = tt
 controls_split (x ∷ xs) ys c = (c.0, c.1, controls_split xs ys c.2)
 
 pub all_heeded : (b : BoardDef) (pins : List (List Level)) (board : ℕ) (entries : List Entry) (own : ℕ → ℕ) (clocks : Clocks) (ready n turns : ℕ) (ss : List BoardSection) (os : List Orders) (l : LinkState)
-    (t : AreTurns (clock_of b) 0 os (first_state b pins board entries) l) → AreOwn b (length os) own → IsRun own clocks b.freq b.slots ready ss os → All (AreSentTo clocks b.freq turns) ss → length os ≤ turns
+    (t : AreTurns (clock_of b) 0 os (first_state b pins board entries) l) → AreOwn b (length os) own → IsBoardRun own clocks b.freq b.slots ready ss os → All (AreSentTo clocks b.freq turns) ss → length os ≤ turns
     → ControlsKeep os → ((k : ℕ) → spoiled (take k (ends_of (clock_of b) 0 os (first_state b pins board entries) l t)) ≤ n) → ((k : ℕ) → own (k + (n + 7)) < own k + 2 ^ 31)
-    → AllTimely (start b pins) (steps_of (clock_of b) 0 os (first_state b pins board entries) l t)
+    → AllTimely (new_world b pins) (steps_of (clock_of b) 0 os (first_state b pins board entries) l t)
 all_heeded b pins board entries own clocks ready n turns ss os l t o r sent within controls few far =
     few_heeded b pins board entries own clocks ready n turns ss os l t o r sent within (λ done x rest cut. controls_split done (x ∷ rest) (subst (λ x. ControlsKeep x) cut controls)) few far

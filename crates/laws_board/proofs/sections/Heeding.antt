@@ -10,13 +10,13 @@ use Rattle.board_sim.specs.Fair.{Meant}
 use Rattle.board_world.specs.declared.event.Event.{Event}
 use Rattle.board_world.specs.declared.event.Event.TheVariants.{Put, Control, Pass}
 use Rattle.board_world.specs.Orders.{plain, units_orders}
-use Rattle.board_world.specs.World.{Core, Step, Do, Turn, takes_in, orders_of, happens, after, run, start}
+use Rattle.board_world.specs.World.{Core, Step, Do, Turn, takes_in, orders_of, after_event, world_after, run_world, new_world}
 use Rattle.board_world.proofs.Runs.{ordered_by}
 use Rattle.link_work.specs.Turn.{Orders}
 use Rattle.link_work.specs.Runs.{queued_in}
 use Rattle.link_work.proofs.Sending.{run_append}
-use Rattle.laws_board.specs.sections.Events.{AreQuiet, AreTicks, AreTurnsOf, IsQuiet}
-use Rattle.laws_board.specs.sections.Known.{Sent, sent_at, sent_in, orders_in}
+use Rattle.laws_board.specs.sections.Events.{AreQuiet, AreTicks, AreTurnsOf, QueuesNothing}
+use Rattle.laws_board.specs.sections.Known.{Sent, sent_at, sent_in, orders_sent}
 use Rattle.laws_board.specs.sections.Timely.{AllTimely, AreTimely, IsTimelyAt, TakesSoon}
 use Rattle.laws_board.proofs.sections.Clocks.{ticks_up}
 use Rattle.laws_board.proofs.sections.Latest.{AllLast, BeginPast}
@@ -44,7 +44,7 @@ pub record HasEnough (p : Plan) (n turn most : ℕ) : Type 0 where
   pub taken : length first ≤ most
   pub enough : (turn ≤ low + n) ⊎ (length p.front < length first)
 
-pub orders_length : (ss : List Sent) → length (orders_in ss) ≡ length ss
+pub orders_length : (ss : List Sent) → length (orders_sent ss) ≡ length ss
 orders_length [] = refl
 orders_length (s ∷ ss) = omega (arith, orders_length ss)
 
@@ -59,14 +59,14 @@ next_timely p n turn most by sent h e heed has now taken k none running = elim k
       let (reason, tick, first, state, may) = d.shut in
       absurd (shut_runs h.board.controller.state reason tick first running state)
   | inl r ↦
-      let g = happens h e in
+      let g = after_event h e in
       let o = ordered_by h e k.ordered in
       let ms = takes_in h e in
       let c = length g.link.taken in
       let same : g.queued ≡ h.queued = ap (λ x. h.queued ++ x) none ∙ append-nil h.queued in
-      let later : (h.taken ++ ms) ++ drop c g.queued ≡ orders_in sent = ap (λ x. x ++ drop c g.queued) o.first ∙ take-append-drop c g.queued ∙ same ∙ sym k.queued in
-      let Left : List Meant → List Sent → Type 0 = λ t s. (t ++ ms) ++ drop c g.queued ≡ orders_in s in
-      let At : List Sent → Type 0 = λ s. Left (orders_in r.done) s in
+      let later : (h.taken ++ ms) ++ drop c g.queued ≡ orders_sent sent = ap (λ x. x ++ drop c g.queued) o.first ∙ take-append-drop c g.queued ∙ same ∙ sym k.queued in
+      let Left : List Meant → List Sent → Type 0 = λ t s. (t ++ ms) ++ drop c g.queued ≡ orders_sent s in
+      let At : List Sent → Type 0 = λ s. Left (orders_sent r.done) s in
       let To : List Meant → Type 0 = λ t. Left t sent in
       let firsts = left_first r.done r.left ms (drop c g.queued) (subst At r.sent_is (subst To (sym r.taken) later)) in
       let (l, others, left, is) = firsts in
@@ -98,7 +98,7 @@ next_timely p n turn most by sent h e heed has now taken k none running = elim k
             absurd (omega (arith, long, both, low, taken, many, q))
       ] in
       let t = p.own turn in
-      let timely : AreTimely t (orders_in l) = elim (cuts l (others ++ k.rest) r.more p.tail here) [
+      let timely : AreTimely t (orders_sent l) = elim (cuts l (others ++ k.rest) r.more p.tail here) [
         | inl q ↦
             let Last : List Sent → Type 0 = λ x. AllLast p.own n x in
             last_timely p.own p.up n has.low turn l (last_front p.own n l q.0 (subst Last q.1 last)) (front_since has.low l (others ++ k.rest) since) soon
@@ -111,11 +111,11 @@ next_timely p n turn most by sent h e heed has now taken k none running = elim k
             let at = (since_behind has.low r.more (s ∷ m) mine).0 in
             let up = own_up p.own p.up turn (s.turn + n + 1) (omega (arith, at, soon)) in
             let Timely : List Meant → Type 0 = λ x. AreTimely (p.own (s.turn + n + 1)) x in
-            let rear = part_front (p.own (s.turn + n + 1)) (orders_in m) (orders_in (others ++ k.rest)) (subst Timely (orders_append m (others ++ k.rest)) past.2) in
+            let rear = part_front (p.own (s.turn + n + 1)) (orders_sent m) (orders_sent (others ++ k.rest)) (subst Timely (orders_append m (others ++ k.rest)) past.2) in
             let Here : List Meant → Type 0 = λ x. AreTimely t x in
-            subst Here (sym (ap orders_in cut ∙ orders_append r.more (s ∷ m)))
-            (timely_append t (orders_in r.more) (orders_in (s ∷ m)) (last_timely p.own p.up n has.low turn r.more last (front_since has.low r.more (s ∷ m) mine) soon)
-            (one_before t (p.own (s.turn + n + 1)) s.order.command s.order.ticks up past.1, all_before t (p.own (s.turn + n + 1)) (orders_in m) up rear))
+            subst Here (sym (ap orders_sent cut ∙ orders_append r.more (s ∷ m)))
+            (timely_append t (orders_sent r.more) (orders_sent (s ∷ m)) (last_timely p.own p.up n has.low turn r.more last (front_since has.low r.more (s ∷ m) mine) soon)
+            (one_before t (p.own (s.turn + n + 1)) s.order.command s.order.ticks up past.1, all_before t (p.own (s.turn + n + 1)) (orders_sent m) up rear))
       ] in
       let Tick : ℕ → Type 0 = λ x. AreTimely x ms in
       let Orders : List Meant → Type 0 = λ x. AreTimely t x in
@@ -127,27 +127,27 @@ next_timely p n turn most by sent h e heed has now taken k none running = elim k
     front_since low (s ∷ ss) ts a = (a.0, front_since low ss ts a.1)
 
 -- steps that queue nothing and let no time pass
-step_timely : (p : Plan) (n turn most by : ℕ) (sent : List Sent) (h : Core) (s : Step) → IsQuiet s → IsHeeded p n → HasEnough p n by most → turn ≤ by + 1 → most ≤ length h.taken → Holds p turn sent h → IsTimelyAt h s
+step_timely : (p : Plan) (n turn most by : ℕ) (sent : List Sent) (h : Core) (s : Step) → QueuesNothing s → IsHeeded p n → HasEnough p n by most → turn ≤ by + 1 → most ≤ length h.taken → Holds p turn sent h → IsTimelyAt h s
 step_timely p n turn most by sent h (Turn k) q heed has now taken holds = tt
 step_timely p n turn most by sent h (Do (Put b)) q heed has now taken holds = absurd q
 step_timely p n turn most by sent h (Do (Control c)) q heed has now taken holds = absurd q
 step_timely p n turn most by sent h (Do (Pass t)) q heed has now taken holds = absurd q
 step_timely p n turn most by sent h (Do e) q heed has now taken holds = λ on. next_timely p n turn most by sent h e heed has now taken holds refl on
 
-taken_after : (most : ℕ) (h : Core) (s : Step) → most ≤ length h.taken → most ≤ length (after h s).taken
+taken_after : (most : ℕ) (h : Core) (s : Step) → most ≤ length h.taken → most ≤ length (world_after h s).taken
 taken_after most h (Turn k) low = low
 taken_after most h (Do e) low = omega (arith, low, length-append h.taken (takes_in h e))
 
 quiet_timely : (p : Plan) (n turn most by : ℕ) (sent : List Sent) (steps : List Step) (h : Core) → AreQuiet steps → IsHeeded p n → HasEnough p n by most → turn ≤ by + 1 → most ≤ length h.taken → Holds p turn sent h
-    → AllTimely h steps × Holds p turn sent (run steps h) × (most ≤ length (run steps h).taken)
+    → AllTimely h steps × Holds p turn sent (run_world steps h) × (most ≤ length (run_world steps h).taken)
 quiet_timely p n turn most by sent [] h q heed has now taken k = (tt, k, taken)
 quiet_timely p n turn most by sent (s ∷ steps) h q heed has now taken k =
     let one = step_timely p n turn most by sent h s q.0 heed has now taken k in
-    let rest = quiet_timely p n turn most by sent steps (after h s) q.1 heed has now (taken_after most h s taken) (quiet_holds p turn sent h s q.0 k one).2 in
+    let rest = quiet_timely p n turn most by sent steps (world_after h s) q.1 heed has now (taken_after most h s taken) (quiet_holds p turn sent h s q.0 k one).2 in
     ((one, rest.0), rest.1, rest.2)
 
 abbrev TurnTimely : Plan → ℕ → List Sent → Orders → Core → List Step → Type 0
-TurnTimely p turn sent o h steps = AllTimely h steps × Holds p (turn + 1) (sent ++ sent_at turn (queued_in o)) (run steps h)
+TurnTimely p turn sent o h steps = AllTimely h steps × Holds p (turn + 1) (sent ++ sent_at turn (queued_in o)) (run_world steps h)
 
 turn_steps_timely : (p : Plan) (n turn most : ℕ) (sent rest : List Sent) (o : Orders) (before rear : List Step) (h : Core) → AreQuiet before → AreQuiet rear → IsHeeded p n → HasEnough p n turn most → most ≤ length h.taken → Holds p turn sent h
     → (sent ++ sent_at turn (queued_in o)) ++ rest ≡ p.front ++ p.tail
@@ -157,22 +157,22 @@ turn_steps_timely p n turn most sent rest o before rear h bq rq heed has taken k
     let us = units_orders o.batch.units in
     let pass = Do (Pass (p.own (turn + 1))) in
     let split : sent_at turn (queued_in o) ≡ sent_at turn cs ++ sent_at turn us = sent_append turn cs us in
-    let h1 = after h (Turn turn) in
+    let h1 = world_after h (Turn turn) in
     let k1 = (quiet_holds p turn sent h (Turn turn) tt k tt).2 in
-    let h2 = happens h1 (Control o.control) in
+    let h2 = after_event h1 (Control o.control) in
     let whole : ((sent ++ sent_at turn cs) ++ sent_at turn us) ++ rest ≡ p.front ++ p.tail =
     ap (λ x. x ++ rest) (append_assoc sent (sent_at turn cs) (sent_at turn us) ∙ ap (λ x. sent ++ x) (sym split)) ∙ all in
     let k2 : Holds p turn (sent ++ sent_at turn cs) h2 =
     queues_on p turn sent (sent_at turn us ++ rest) h1 (Control o.control) k1 (sym (append_assoc (sent ++ sent_at turn cs) (sent_at turn us) rest) ∙ whole) refl refl refl in
-    let h3 = happens h2 (Put o.batch) in
+    let h3 = after_event h2 (Put o.batch) in
     let k3 : Holds p turn ((sent ++ sent_at turn cs) ++ sent_at turn us) h3 = queues_on p turn (sent ++ sent_at turn cs) rest h2 (Put o.batch) k2 whole refl refl refl in
     let t3 = taken_after most h2 (Do (Put o.batch)) (taken_after most h1 (Do (Control o.control)) taken) in
     let q = quiet_timely p n turn most turn ((sent ++ sent_at turn cs) ++ sent_at turn us) before h3 bq heed has (omega arith) t3 k3 in
-    let h4 = run before h3 in
+    let h4 = run_world before h3 in
     let k5 = pass_holds p turn ((sent ++ sent_at turn cs) ++ sent_at turn us) h4 q.1 in
-    let h5 = after h4 pass in
+    let h5 = world_after h4 pass in
     let r = quiet_timely p n (turn + 1) most turn ((sent ++ sent_at turn cs) ++ sent_at turn us) rear h5 rq heed has (omega arith) (taken_after most h4 pass q.2) k5 in
-    let At : List Sent → Type 0 = λ x. Holds p (turn + 1) x (run rear h5) in
+    let At : List Sent → Type 0 = λ x. Holds p (turn + 1) x (run_world rear h5) in
     let To : Core → Type 0 = λ x. Holds p (turn + 1) (sent ++ sent_at turn (queued_in o)) x in (
       (tt, (λ on. tt, (λ on. tt, timely_join before (pass ∷ rear) h3 q.0 (λ on. tt, r.0)))),
       subst To (sym (run_append before (pass ∷ rear) h3)) (subst At (append_assoc sent (sent_at turn cs) (sent_at turn us) ∙ ap (λ x. sent ++ x) (sym split)) r.1),
@@ -183,7 +183,7 @@ abbrev pub TakesEnough : (n size : ℕ) (all : List Orders) (own : ℕ → ℕ) 
 TakesEnough n size all own turn [] steps h t = Unit {0}
 TakesEnough n size all own turn (o ∷ os) steps h t =
     ((low : ℕ) × (low ≤ length all) × (length (flat_map queued_in (take low all)) ≤ length h.taken) × ((turn ≤ low + n) ⊎ (size < length (flat_map queued_in (take low all)))))
-    × TakesEnough n size all own (turn + 1) os t.1 (run t.0 h) t.4
+    × TakesEnough n size all own (turn + 1) os t.1 (run_world t.0 h) t.4
 
 has_enough : (p : Plan) (n turn low most : ℕ) (all : List Orders) → sent_in 0 all ≡ p.front ++ p.tail → low ≤ length all → length (flat_map queued_in (take low all)) ≤ most
     → (turn ≤ low + n) ⊎ (length p.front < length (flat_map queued_in (take low all))) → HasEnough p n turn most
@@ -216,15 +216,15 @@ turns_timely p n all is heed turn sent rest (o ∷ os) steps h t k whole soon =
     let a = turn_steps_timely p n turn (length h.taken) sent (sent_in (turn + 1) os ++ rest) o one.before one.after h one.before_quiet one.after_quiet heed has (omega arith) k (sym (append_assoc mid (sent_in (turn + 1) os) rest) ∙ on) in
     let At : List Step → Type 0 = λ x. TurnTimely p turn sent o h x in
     let here = subst At (sym one.are) a in
-    let b = turns_timely p n all is heed (turn + 1) mid rest os later (run first h) more here.1 on soon.1 in
+    let b = turns_timely p n all is heed (turn + 1) mid rest os later (run_world first h) more here.1 on soon.1 in
     let To : List Step → Type 0 = λ x. AllTimely h x in
     subst To (sym are) (timely_join first later h here.0 b)
 
 pub timed_timely : (b : BoardDef) (pins : List (List Level)) (own : ℕ → ℕ) (n : ℕ) (os : List Orders) (steps : List Step) (t : AreTurnsOf own 0 os steps) → AreTicks own → own 0 ≡ b.start → (x : IsTimed own b.slots n (sent_in 0 os))
-    → TakesEnough n (length x.front) os own 0 os steps (start b pins) t → AllTimely (start b pins) steps
+    → TakesEnough n (length x.front) os own 0 os steps (new_world b pins) t → AllTimely (new_world b pins) steps
 timed_timely b pins own n os steps t ticks first x soon =
     let p : Plan = record { own = own; slots = b.slots; front = x.front; tail = x.tail; up = ticks_up own ticks; good = x.good; lost = x.lost } in
-    turns_timely p n os (sym x.is) (record { last = x.last; past = x.past }) 0 [] [] os steps (start b pins) t (starts p b pins first refl) (append-nil (sent_in 0 os) ∙ sym x.is) soon
+    turns_timely p n os (sym x.is) (record { last = x.last; past = x.past }) 0 [] [] os steps (new_world b pins) t (starts p b pins first refl) (append-nil (sent_in 0 os) ∙ sym x.is) soon
 
 -- a board that takes soon takes enough
 pub soon_enough : (n size : ℕ) (all : List Orders) (own : ℕ → ℕ) (turn : ℕ) (os : List Orders) (steps : List Step) (h : Core) (t : AreTurnsOf own turn os steps) → turn + length os ≤ length all → TakesSoon n all own turn os steps h t
@@ -234,5 +234,5 @@ soon_enough n size all own turn (o ∷ os) steps h t within soon =
     let most = ap length soon.0.1 in
     let both = length-append (flat_map queued_in (take (turn - n) all)) soon.0.0 in (
       (turn - n, omega (arith, within), omega (arith, most, both), inl (omega arith)),
-      soon_enough n size all own (turn + 1) os t.1 (run t.0 h) t.4 (omega (arith, within)) soon.1,
+      soon_enough n size all own (turn + 1) os t.1 (run_world t.0 h) t.4 (omega (arith, within)) soon.1,
     )

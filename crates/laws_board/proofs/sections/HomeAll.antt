@@ -14,7 +14,7 @@ use Rattle.link_work.specs.Turn.{Orders}
 use Rattle.laws_board.specs.sections.Events.{AreTicks}
 use Rattle.laws_board.specs.sections.Known.{Sent, sent_at, sent_in, AreBelow, IsLostFor}
 use Rattle.laws_board.specs.sections.Parts.{AreTracked, IsMaking, Makes, MakesIn}
-use Rattle.laws_board.specs.sections.Courses.{Course, parts_of, no_course, course_of, course_from, courses, AreBeforeTurn, AreMadeFor, IsGoodOn, AreGoodOn, BeginLostOn}
+use Rattle.laws_board.specs.sections.Courses.{Course, course_parts, no_course, course_of, course_from, courses, AreBeforeTurn, AreMadeFor, IsGoodOn, AreGoodOn, BeginLostOn}
 use Rattle.laws_board.specs.sections.Courses as course
 use Rattle.laws_board.specs.sections.Homes.{RunSection, IsMovesIn, IsSectionBy, AreInTurn, SetsClock, IsControlIn, AreSet, SetsAny, HasUnits, IsHomeRun, AreFrontsIn, AreBeforeFirst, AreReleasedBy, AreReleasedIn, BeginLeftOf, IsLeftOf, IsSplitIn}
 use Rattle.laws_board.proofs.sections.Clocks.{ticks_rise}
@@ -86,7 +86,7 @@ same_sound own stops slots oid c d sent z ss made is x = record {
   begun = x.begun;
   fronts = λ ps k.
       let (early, late, are, old, rest, soon) = x.fronts ps k in
-      let At : Course → Type 0 = λ y. AreMadeFor own stops (parts_of y) early in
+      let At : Course → Type 0 = λ y. AreMadeFor own stops (course_parts y) early in
       (early, late, are, subst At is old, rest, soon);
   whole = x.whole;
 }
@@ -292,7 +292,7 @@ run_split own clocks freq slots ready stops ss os ticks r =
     let x = λ (oid : ℕ). run_sound own clocks freq slots ready stops ss os ticks r oid in
     let begun = begin_left own stops slots last ss (courses z.front) z.tail (λ oid. (x oid).lost) (λ oid. (x oid).begun) (until_out last ss ready r.row ready os 0 (omega arith) (omega arith)) in
     let Fronts : ℕ → List Pulse → Type 0 = λ oid y. AreFrontsIn own oid ss y × AreBeforeFirst own z.tail y in
-    let fronts_of : (oid : ℕ) (ps : List Pulse) → AreMadeFor own stops (parts_of (courses z.front oid)) ps → Fronts oid ps = λ oid ps k.
+    let fronts_of : (oid : ℕ) (ps : List Pulse) → AreMadeFor own stops (course_parts (courses z.front oid)) ps → Fronts oid ps = λ oid ps k.
     (let (early, late, is, old, rest, soon) = (x oid).fronts ps k in
     let none : early ≡ [] = empty_part own stops None [] [] early refl old in
     subst (Fronts oid) (sym (is ∙ ap (λ y. y ++ late) none)) (rest, soon)) in
@@ -313,8 +313,8 @@ all_front : (own : ℕ → ℕ) (stops : ℕ → Option ℕ) (slots : ℕ) (ss :
 all_front own stops slots ss os x w = sym (append-nil x.front) ∙ ap (λ y. x.front ++ y) (sym (x.whole w)) ∙ x.are
 
 pub run_fronts : (own : ℕ → ℕ) (clocks : Clocks) (freq slots ready : ℕ) (stops : ℕ → Option ℕ) (ss : List RunSection) (os : List Orders) → AreTicks own → IsHomeRun own clocks freq slots ready stops ss os → AreReleasedIn ss
-    → (oid : ℕ) (ps : List Pulse) → AreMadeFor own stops (parts_of (courses (sent_in 0 os) oid)) ps → AreFrontsIn own oid ss ps
+    → (oid : ℕ) (ps : List Pulse) → AreMadeFor own stops (course_parts (courses (sent_in 0 os) oid)) ps → AreFrontsIn own oid ss ps
 run_fronts own clocks freq slots ready stops ss os ticks r w oid ps k =
     let x = run_split own clocks freq slots ready stops ss os ticks r in
-    let At : List Sent → Type 0 = λ y. AreMadeFor own stops (parts_of (courses y oid)) ps in
+    let At : List Sent → Type 0 = λ y. AreMadeFor own stops (course_parts (courses y oid)) ps in
     x.fronts oid ps (subst At (sym (all_front own stops slots ss os x w)) k)

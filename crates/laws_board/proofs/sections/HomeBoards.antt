@@ -10,7 +10,7 @@ use Rattle.msg_code.specs.declared.talk.State.{State}
 use Rattle.section_units.specs.Sections.{base_of}
 use Rattle.wire_scene.specs.declared.scene.Entry.{Entry}
 use Rattle.board_sim.specs.Fair.{only}
-use Rattle.board_world.specs.World.{Core, Step, run, start}
+use Rattle.board_world.specs.World.{Core, Step, run_world, new_world}
 use Rattle.link_work.specs.Runs.{AreTurns, queued_in}
 use Rattle.link_work.specs.Stands.{first_state}
 use Rattle.link_work.specs.Turn.{LinkState, Orders}
@@ -38,7 +38,7 @@ settled_head stops front clock turn sent (o ∷ os) l m t s =
     let (mid, one, more) = t in
     let first = steps_of_turn clock turn o one.resent l in
     let later = steps_of clock (turn + 1) os mid m more in
-    let is : mid.core ≡ run first l.core = ap (λ (x : LinkState). x.core) one.becomes ∙ turn_runs clock turn o one.resent l in
+    let is : mid.core ≡ run_world first l.core = ap (λ (x : LinkState). x.core) one.becomes ∙ turn_runs clock turn o one.resent l in
     let At : Core → Type 0 = λ h. AreSettled stops front (board_tick clock) (turn + 1) (sent ++ sent_at turn (queued_in o)) os later h (turns_are clock (turn + 1) os mid m more).1 in
     (s.0, s.1, subst At is (settled_head stops front clock (turn + 1) (sent ++ sent_at turn (queued_in o)) os mid m more s.2))
 
@@ -48,7 +48,7 @@ pub settled_owned : (b : BoardDef) (stops : ℕ → Option ℕ) (front : List Se
 unfolding turns_owned
 settled_owned b stops front own last turn sent [] steps h o within t s = s
 settled_owned b stops front own last turn sent (x ∷ os) steps h o within t s =
-    (s.0, s.1, settled_owned b stops front own last (turn + 1) (sent ++ sent_at turn (queued_in x)) os t.1 (run t.0 h) o (next_within turn last x os within) t.4 s.2)
+    (s.0, s.1, settled_owned b stops front own last (turn + 1) (sent ++ sent_at turn (queued_in x)) os t.1 (run_world t.0 h) o (next_within turn last x os within) t.4 s.2)
 
 abbrev pub steps_told : (clock : BoardClock) (turn : ℕ) (os : List Orders) (states : List State) (l m : LinkState) → AreTold clock turn os states l m → List Step
 steps_told clock turn os states l m t = steps_of clock turn os l m (turns_told clock turn os states l m t)
@@ -124,15 +124,15 @@ pub record Cut (x : OnBoard) (own : ℕ → ℕ) (ready from to : ℕ) (stops : 
   pub span : IsHomeSpan x.board x.pins own x.clocks ready stops ss before during behind first second
   pub from_is : length before ≡ from
   pub to_is : length before + length during ≡ to
-  pub made : Made (run first (start x.board x.pins)) (run (first ++ second) (start x.board x.pins)) (told_in from to x)
+  pub made : Made (run_world first (new_world x.board x.pins)) (run_world (first ++ second) (new_world x.board x.pins)) (told_in from to x)
 
 cut_here : (x : OnBoard) (place : ℕ) (entries : List Entry) (ready from to : ℕ) (ss : List RunSection) (turns : ℕ) (k : IsHomeBoard place entries ready turns ss x) (before during behind : List Orders)
     → length before ≡ from → length before + length during ≡ to → length (before ++ (during ++ behind)) ≡ turns → IsHomeRun k.own x.clocks x.board.freq x.board.slots ready k.stops ss (before ++ (during ++ behind))
     → (t : AreTold (clock_of x.board) 0 (before ++ (during ++ behind)) x.states (first_state x.board x.pins place entries) k.end)
-    → AllTimely (start x.board x.pins) (steps_told (clock_of x.board) 0 (before ++ (during ++ behind)) x.states (first_state x.board x.pins place entries) k.end t)
+    → AllTimely (new_world x.board x.pins) (steps_told (clock_of x.board) 0 (before ++ (during ++ behind)) x.states (first_state x.board x.pins place entries) k.end t)
     → (split : IsSplitIn k.own k.stops x.board.slots ss (before ++ (during ++ behind)))
     → SettledTold k.stops split.front (clock_of x.board) 0 [] (before ++ (during ++ behind)) x.states (first_state x.board x.pins place entries) k.end t
-    → AllHeed split.front split.tail (start x.board x.pins) (steps_told (clock_of x.board) 0 (before ++ (during ++ behind)) x.states (first_state x.board x.pins place entries) k.end t)
+    → AllHeed split.front split.tail (new_world x.board x.pins) (steps_told (clock_of x.board) 0 (before ++ (during ++ behind)) x.states (first_state x.board x.pins place entries) k.end t)
     → Cut x k.own ready from to k.stops ss
 cut_here x place entries ready from to ss turns k before during behind from_is to_is all_is r t timely split settled heed =
     let clock = clock_of x.board in
@@ -140,7 +140,7 @@ cut_here x place entries ready from to ss turns k before during behind from_is t
     let all = length-append before (during ++ behind) in
     let both = length-append during behind in
     let l = first_state x.board x.pins place entries in
-    let h = start x.board x.pins in
+    let h = new_world x.board x.pins in
     let a = length before in
     let d = a + length during in
     let s = split_at k.stops split.front clock 0 a [] before (during ++ behind) x.states l k.end t (omega arith) settled in
@@ -152,8 +152,8 @@ cut_here x place entries ready from to ss turns k before during behind from_is t
     let states : x.states ≡ s.first ++ (u.first ++ u.second) = s.are ∙ ap (λ y. s.first ++ y) u.are in
     let t1 = turns_are clock 0 before l s.mid (turns_told clock 0 before s.first l s.mid s.one) in
     let t2 = turns_are clock a during s.mid u.mid (turns_told clock a during u.first s.mid u.mid u.one) in
-    let early : s.mid.core ≡ run first h = t1.0 in
-    let late : u.mid.core ≡ run (first ++ second) h = t2.0 ∙ ap (run second) t1.0 ∙ sym (run_append first second h) in
+    let early : s.mid.core ≡ run_world first h = t1.0 in
+    let late : u.mid.core ≡ run_world (first ++ second) h = t2.0 ∙ ap (run_world second) t1.0 ∙ sym (run_append first second h) in
     let Timely : List Step → Type 0 = λ y. AllTimely h y in
     let Heed : List Step → Type 0 = λ y. AllHeed split.front split.tail h y in
     let one_within : 0 + a ≤ turns = omega (arith, all, all_is) in
@@ -184,7 +184,7 @@ cut_here x place entries ready from to ss turns k before during behind from_is t
       from_is = from_is;
       to_is = to_is;
       made = ap (λ (c : Core). c.made) (sym late) ∙ sym (told_made clock a during u.first s.mid u.mid u.one) ∙ ap (λ (c : Core). c.made ++ pulses_in u.first) early
-          ∙ ap (λ y. (run first h).made ++ y) (sym within);
+          ∙ ap (λ y. (run_world first h).made ++ y) (sym within);
     }
 
 pub cut_at : (x : OnBoard) (place : ℕ) (entries : List Entry) (ready from to turns : ℕ) (ss : List RunSection) (k : IsHomeBoard place entries ready turns ss x) → from ≤ to → to ≤ turns → Cut x k.own ready from to k.stops ss
@@ -199,8 +199,8 @@ cut_at x place entries ready from to turns ss k order within =
     let one : length before ≡ from = length-take-le from x.orders (omega (arith, order, within, k.count)) in
     let two : length during ≡ to - from = length-take-le (to - from) rest (omega (arith, order, within, k.count, length-drop from x.orders)) in
     let At : List Orders → Type 0 = λ o. length o ≡ turns → IsHomeRun k.own x.clocks x.board.freq x.board.slots ready k.stops ss o → (t : AreTold clock 0 o x.states l k.end)
-    → AllTimely (start x.board x.pins) (steps_told clock 0 o x.states l k.end t)
-    → (split : IsSplitIn k.own k.stops x.board.slots ss o) → SettledTold k.stops split.front clock 0 [] o x.states l k.end t → AllHeed split.front split.tail (start x.board x.pins) (steps_told clock 0 o x.states l k.end t) → Cut x k.own ready from to k.stops ss in
+    → AllTimely (new_world x.board x.pins) (steps_told clock 0 o x.states l k.end t)
+    → (split : IsSplitIn k.own k.stops x.board.slots ss o) → SettledTold k.stops split.front clock 0 [] o x.states l k.end t → AllHeed split.front split.tail (new_world x.board x.pins) (steps_told clock 0 o x.states l k.end t) → Cut x k.own ready from to k.stops ss in
     subst At (sym cut) (cut_here x place entries ready from to ss turns k before during behind one (omega (arith, one, two, order))) k.count k.run_is k.told k.timely k.split k.settled k.heed
 
 same_made : (a b c : List Pulse) (h : List Pulse) → h ≡ a ++ b → h ≡ a ++ c → b ≡ c
@@ -212,8 +212,8 @@ told_section place entries ready turns from to x past s later k begin order with
     let c = cut_at x place entries ready from to turns (past ++ s ∷ later) k order within in
     let Next : ℕ → Type 0 = λ n. NextBehind n later in
     let (pulses, made, fits) = section_is x.board x.pins k.own x.clocks ready k.stops past s later c.before c.during c.behind c.first c.second c.span (omega (arith, c.from_is, begin)) (subst Next (sym c.to_is) next) in
-    let h1 = run c.first (start x.board x.pins) in
-    let same = same_made h1.made pulses (told_in from to x) (run (c.first ++ c.second) (start x.board x.pins)).made made c.made in
+    let h1 = run_world c.first (new_world x.board x.pins) in
+    let same = same_made h1.made pulses (told_in from to x) (run_world (c.first ++ c.second) (new_world x.board x.pins)).made made c.made in
     let At : List Pulse → Type 0 = λ y. Fits x.board.freq (base_of x.clocks s.section) (only oid y) (s.section.plan oid) in
     subst At same (fits oid)
 
@@ -224,5 +224,5 @@ told_between place entries ready turns from to x past later k over order within 
     let Next : ℕ → Type 0 = λ n. NextBehind n later in
     let Over : ℕ → Type 0 = λ n. AreOverBy n past in
     let same = between_is x.board x.pins k.own x.clocks ready k.stops past later c.before c.during c.behind c.first c.second c.span (subst Over (sym c.from_is) over) (subst Next (sym c.to_is) next) in
-    let h1 = run c.first (start x.board x.pins) in
-    sym (same_made h1.made [] (told_in from to x) (run (c.first ++ c.second) (start x.board x.pins)).made (same ∙ sym (append-nil h1.made)) c.made)
+    let h1 = run_world c.first (new_world x.board x.pins) in
+    sym (same_made h1.made [] (told_in from to x) (run_world (c.first ++ c.second) (new_world x.board x.pins)).made (same ∙ sym (append-nil h1.made)) c.made)

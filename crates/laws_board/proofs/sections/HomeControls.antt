@@ -11,8 +11,8 @@ use Rattle.board_world.specs.Orders.{plain}
 use Rattle.step_feed.specs.Units.{StepUnit}
 use Rattle.section_units.specs.Sections.{BoardSection}
 use Rattle.laws_board.specs.sections.Known.{sent_at, AreBelow}
-use Rattle.laws_board.specs.sections.Courses.{Part, Course, parts_of, next_part, course_of, course_from, AreMadeFor, MaySetClock, IsGoodOn, AreGoodOn}
-use Rattle.laws_board.specs.sections.Homes.{RunSection, AreInTurn, SetsClock, IsControlIn, IsSetting, Sets}
+use Rattle.laws_board.specs.sections.Courses.{Part, Course, course_parts, next_part, course_of, course_from, AreMadeFor, MaySetClock, IsGoodOn, AreGoodOn}
+use Rattle.laws_board.specs.sections.Homes.{RunSection, AreInTurn, SetsClock, IsControlIn, IsSetting, SomeSets}
 use Rattle.laws_board.proofs.sections.Controlling.{one_made}
 use Rattle.laws_board.proofs.sections.Waiting.{Frame, base}
 use Rattle.laws_board.proofs.sections.HomeTurns.{NotYet, Begun, Stage, begins_apart, empty_part}
@@ -49,7 +49,7 @@ sets_for f stops oid turn clock false s c0 c ls us st h none soon is made stop =
   clash : false ≡ true → ⊥
   clash e = cc
 sets_for f stops oid turn clock true s c0 c ls us (inl n) h none soon is made stop =
-    let Same : List Part → Type 0 = λ x. (ps : List Pulse) → AreMadeFor f.own stops (parts_of c) ps → AreMadeFor f.own stops x ps in
+    let Same : List Part → Type 0 = λ x. (ps : List Pulse) → AreMadeFor f.own stops (course_parts c) ps → AreMadeFor f.own stops x ps in
     let At : ℕ → Type 0 = λ x. Begun f stops oid true s c0 (next_part turn x c) [] us in
     let On : List ℕ → Type 0 = λ x. Begun f stops oid true s c0 (next_part turn clock c) x us in (
       record { made = made; over = n.idle turn soon },
@@ -111,7 +111,7 @@ made_on oid turn c m e = one_made oid c.known m [] e
 -- the part began with one of the commands, and goes on behind it
 abbrev pub AllWent : Frame → (ℕ → Option ℕ) → ℕ → ℕ → Bool → BoardSection → Course → Course → List Cmd → List ℕ → List StepUnit → Type 0
 AllWent f stops oid turn homes s c0 c cs ls us =
-    AreGoodOn f.own stops f.slots oid c (sent_at turn (map plain cs)) × Went f stops oid homes s c0 (course_from oid c (sent_at turn (map plain cs))) ls us (Sets oid cs)
+    AreGoodOn f.own stops f.slots oid c (sent_at turn (map plain cs)) × Went f stops oid homes s c0 (course_from oid c (sent_at turn (map plain cs))) ls us (SomeSets oid cs)
 
 -- a part that has begun stays so
 begun_one : (f : Frame) (stops : ℕ → Option ℕ) (oid turn : ℕ) (homes : Bool) (s : BoardSection) (later : List RunSection) (c0 c : Course) (m : Cmd) (ls : List ℕ) (us : List StepUnit) → Begun f stops oid homes s c0 c ls us
@@ -140,7 +140,7 @@ begun_one f stops oid turn homes s later c0 c m ls us g i start row h fresh made
 
 pub begun_all : (f : Frame) (stops : ℕ → Option ℕ) (oid turn : ℕ) (homes : Bool) (s : BoardSection) (later : List RunSection) (c0 : Course) (cs : List Cmd) (c : Course) (ls : List ℕ) (us : List StepUnit) → Begun f stops oid homes s c0 c ls us
     → All (IsControlIn f.clocks (now_of homes s ∷ later) turn) cs → s.start ≡ f.start → AreInTurn s.end later → turn ≤ s.end + 5 → (turn + 252 ≤ f.start → ls ≡ [])
-    → (Sets oid cs → c.known.made ≡ true) → (homes ≡ true → s.start ≤ turn + 254 → turn + 252 ≤ s.start → stops turn ≡ Some s.end)
+    → (SomeSets oid cs → c.known.made ≡ true) → (homes ≡ true → s.start ≤ turn + 254 → turn + 252 ≤ s.start → stops turn ≡ Some s.end)
     → AreGoodOn f.own stops f.slots oid c (sent_at turn (map plain cs)) × Begun f stops oid homes s c0 (course_from oid c (sent_at turn (map plain cs))) ls us
 begun_all f stops oid turn homes s later c0 [] c ls us g i start row h fresh made stop = (tt, g)
 begun_all f stops oid turn homes s later c0 (m ∷ cs) c ls us g i start row h fresh made stop =
@@ -151,7 +151,7 @@ begun_all f stops oid turn homes s later c0 (m ∷ cs) c ls us g i start row h f
 
 pub controls_went : (f : Frame) (stops : ℕ → Option ℕ) (oid turn : ℕ) (homes : Bool) (s : BoardSection) (later : List RunSection) (c0 : Course) (cs : List Cmd) (c : Course) (ls : List ℕ) (us : List StepUnit)
     → Stage f stops oid homes s c0 c ls us → All (IsControlIn f.clocks (now_of homes s ∷ later) turn) cs → s.start ≡ f.start → AreInTurn s.end later → turn ≤ s.end + 5 → (turn + 252 ≤ f.start → ls ≡ [])
-    → (Sets oid cs → c.known.made ≡ true) → (homes ≡ true → s.start ≤ turn + 254 → turn + 252 ≤ s.start → stops turn ≡ Some s.end) → AllWent f stops oid turn homes s c0 c cs ls us
+    → (SomeSets oid cs → c.known.made ≡ true) → (homes ≡ true → s.start ≤ turn + 254 → turn + 252 ≤ s.start → stops turn ≡ Some s.end) → AllWent f stops oid turn homes s c0 c cs ls us
 controls_went f stops oid turn homes s later c0 [] c ls us st i start row h fresh made stop = (tt, went_on f stops oid homes s c0 c ls us ⊥ (λ e. e) st)
 controls_went f stops oid turn homes s later c0 (m ∷ cs) c ls us st i start row h fresh made stop =
     let P : Cmd → Type 0 = λ x. IsControlIn f.clocks (now_of homes s ∷ later) turn x in

@@ -13,7 +13,7 @@ use Rattle.plan_types.specs.Clock.{clock_of}
 use Rattle.plan_types.specs.Lines.{Clocks}
 use Rattle.board_sim.specs.Board.{is_shut}
 use Rattle.board_sim.specs.Fair.{Meant}
-use Rattle.board_world.specs.World.{Core, Step, Do, Turn, after, run, start}
+use Rattle.board_world.specs.World.{Core, Step, Do, Turn, world_after, run_world, new_world}
 use Rattle.wire_scene.specs.declared.scene.Entry.{Entry}
 use Rattle.link_work.specs.Ends.{spoiled}
 use Rattle.link_work.specs.Runs.{AreTurns, queued_in}
@@ -22,7 +22,7 @@ use Rattle.link_work.specs.Turn.{LinkState, Orders}
 use Rattle.laws_board.specs.sections.Courses.{AllHeed, AreSettled, courses}
 use Rattle.laws_board.specs.sections.Events.{AreOwn, AreTurnsOf, IsTurnOf}
 use Rattle.laws_board.specs.sections.Homes.{AreSettledOn, IsHomeRun, IsSplitIn, RunSection, lost_at}
-use Rattle.laws_board.specs.sections.Known.{Sent, orders_in, sent_at, sent_in}
+use Rattle.laws_board.specs.sections.Known.{Sent, orders_sent, sent_at, sent_in}
 use Rattle.laws_board.specs.sections.Links.{ends_of, steps_of}
 use Rattle.laws_board.specs.sections.Runs.{AreSpilled}
 use Rattle.laws_board.specs.sections.Timely.{AllTimely, AreTimely, ControlsKeep, IsTimelyAt}
@@ -49,7 +49,7 @@ not_running s e on = let f = sym (ap is_shut on) ∙ e in cc
 
 shut_timely : (steps : List Step) (h : Core) → is_shut h.board.controller.state ≡ true → AllTimely h steps
 shut_timely [] h e = tt
-shut_timely (s ∷ steps) h e = (at s, shut_timely steps (after h s) (ap is_shut (shut_step h s e) ∙ e))
+shut_timely (s ∷ steps) h e = (at s, shut_timely steps (world_after h s) (ap is_shut (shut_step h s e) ∙ e))
   where
     at : (s : Step) → IsTimelyAt h s
     at (Do x) = λ on. absurd (not_running h.board.controller.state e on)
@@ -61,25 +61,25 @@ Enough n size all turn h = (low : ℕ) × (low ≤ length all) × (length (flat_
 
 -- a turn of a board that runs
 going_turn : (p : Script) (n turn low : ℕ) (all sofar os : List Orders) (sent : List Sent) (o : Orders) (steps : List Step) (h : Core) → IsTurnOf p.own turn o steps → sent_in 0 all ≡ p.all → AreLasting p.own n all
-    → sent ++ sent_in turn (o ∷ os) ≡ p.all → orders_in sent ≡ flat_map queued_in sofar → Keeps p turn turn sent h → Going p turn turn sent h → low ≤ length all → length (flat_map queued_in (take low all)) ≤ length h.taken
+    → sent ++ sent_in turn (o ∷ os) ≡ p.all → orders_sent sent ≡ flat_map queued_in sofar → Keeps p turn turn sent h → Going p turn turn sent h → low ≤ length all → length (flat_map queued_in (take low all)) ≤ length h.taken
     → turn ≤ low + n → AllTimely h steps
 going_turn p n turn low all sofar os sent o steps h t is lasting whole queue k r short taken soon =
     let xs = take low all in
     let ys = drop low all in
     let first = flat_map queued_in xs in
-    let left = orders_in r.left in
+    let left = orders_sent r.left in
     let new = queued_in o in
     let later = flat_map queued_in os in
     let both : xs ++ ys ≡ all = take-append-drop low all in
-    let queued : h.taken ++ left ≡ orders_in sent = ap (λ x. x ++ left) (sym r.taken) ∙ sym (orders_append r.done r.left) ∙ ap orders_in (sym r.sent_is) in
-    let all_is : orders_in sent ++ (new ++ later) ≡ first ++ flat_map queued_in ys =
-    ap (λ x. orders_in sent ++ x) (sym (sent_orders turn (o ∷ os))) ∙ sym (orders_append sent (sent_in turn (o ∷ os))) ∙ ap orders_in (whole ∙ sym is) ∙ sent_orders 0 all ∙ ap (flat_map queued_in) (sym both) ∙ flat_map-append queued_in xs ys in
+    let queued : h.taken ++ left ≡ orders_sent sent = ap (λ x. x ++ left) (sym r.taken) ∙ sym (orders_append r.done r.left) ∙ ap orders_sent (sym r.sent_is) in
+    let all_is : orders_sent sent ++ (new ++ later) ≡ first ++ flat_map queued_in ys =
+    ap (λ x. orders_sent sent ++ x) (sym (sent_orders turn (o ∷ os))) ∙ sym (orders_append sent (sent_in turn (o ∷ os))) ∙ ap orders_sent (whole ∙ sym is) ∙ sent_orders 0 all ∙ ap (flat_map queued_in) (sym both) ∙ flat_map-append queued_in xs ys in
     let (more, took) = spoiled.begins first (flat_map queued_in ys) h.taken (left ++ (new ++ later)) (sym (append_assoc h.taken left (new ++ later)) ∙ ap (λ x. x ++ (new ++ later)) queued ∙ all_is) taken in
     let others = more ++ (left ++ new) in
-    let cut : orders_in sent ++ new ≡ first ++ others =
+    let cut : orders_sent sent ++ new ≡ first ++ others =
     ap (λ x. x ++ new) (sym queued ∙ ap (λ x. x ++ left) (sym took)) ∙ append_assoc (first ++ more) left new ∙ append_assoc first more (left ++ new) in
     let rest : others ++ later ≡ flat_map queued_in ys =
-    append_cancel_left first (others ++ later) (flat_map queued_in ys) (sym (append_assoc first others later) ∙ ap (λ x. x ++ later) (sym cut) ∙ append_assoc (orders_in sent) new later ∙ all_is) in
+    append_cancel_left first (others ++ later) (flat_map queued_in ys) (sym (append_assoc first others later) ∙ ap (λ x. x ++ later) (sym cut) ∙ append_assoc (orders_sent sent) new later ∙ all_is) in
     let long : length xs ≡ low = length-take-le low all short in
     let lasts = lasting xs ys [] turn (sym both ∙ ap (λ x. xs ++ x) (sym (append-nil ys))) (omega (arith, long, soon)) in
     let Timely : List Meant → Type 0 = λ x. AreTimely (p.own (turn + 1)) x in
@@ -89,7 +89,7 @@ going_turn p n turn low all sofar os sent o steps h t is lasting whole queue k r
     (record { ordered = k.ordered; queued = sym k.queued ∙ queue; tick = k.tick }) took (ap (λ x. x ++ new) (sym queue) ∙ cut) timely).0
 
 one_turn : (p : Script) (n turn : ℕ) (all sofar os : List Orders) (sent : List Sent) (o : Orders) (steps : List Step) (h : Core) → IsTurnOf p.own turn o steps → sent_in 0 all ≡ p.all → AreLasting p.own n all
-    → sent ++ sent_in turn (o ∷ os) ≡ p.all → orders_in sent ≡ flat_map queued_in sofar → Keeps p turn turn sent h → Enough n (length p.front) all turn h → AllTimely h steps
+    → sent ++ sent_in turn (o ∷ os) ≡ p.all → orders_sent sent ≡ flat_map queued_in sofar → Keeps p turn turn sent h → Enough n (length p.front) all turn h → AllTimely h steps
 one_turn p n turn all sofar os sent o steps h t is lasting whole queue k (low, short, taken, enough) = elim k.state [
   | inl r ↦ elim enough [
     | inl soon ↦ going_turn p n turn low all sofar os sent o steps h t is lasting whole queue k r short taken soon
@@ -102,7 +102,7 @@ one_turn p n turn all sofar os sent o steps h t is lasting whole queue k (low, s
 
 -- turn by turn
 turns_timely : (p : Script) (n : ℕ) (all : List Orders) → sent_in 0 all ≡ p.all → AreLasting p.own n all → (turn : ℕ) (sofar os : List Orders) (sent : List Sent) (steps : List Step) (h : Core) (t : AreTurnsOf p.own turn os steps)
-    → sent ++ sent_in turn os ≡ p.all → orders_in sent ≡ flat_map queued_in sofar → Keeps p turn turn sent h → AreSettled p.stops p.front p.own turn sent os steps h t → AllHeed p.front p.tail h steps
+    → sent ++ sent_in turn os ≡ p.all → orders_sent sent ≡ flat_map queued_in sofar → Keeps p turn turn sent h → AreSettled p.stops p.front p.own turn sent os steps h t → AllHeed p.front p.tail h steps
     → TakesEnough n (length p.front) all p.own turn os steps h t → AllTimely h steps
 turns_timely p n all is lasting turn sofar [] sent steps h t whole queue k settled heed enough = let At : List Step → Type 0 = λ x. AllTimely h x in subst At (sym t) tt
 turns_timely p n all is lasting turn sofar (o ∷ os) sent steps h t whole queue k settled heed enough =
@@ -114,10 +114,10 @@ turns_timely p n all is lasting turn sofar (o ∷ os) sent steps h t whole queue
     let on : mid ++ sent_in (turn + 1) os ≡ p.all = append_assoc sent new (sent_in (turn + 1) os) ∙ whole in
     let timely = one_turn p n turn all sofar os sent o first h one is lasting whole queue k enough.0 in
     let a = turn_keeps p turn sent (sent_in (turn + 1) os) o first h one k on timely (heed_front p.front p.tail first later h heed_all) (settled_finds p turn sent h first settled.1) in
-    let next = settles p turn mid (run first h) a.1 (settled_first p (turn + 1) mid os later (run first h) more settled.2) in
-    let queue_on : orders_in mid ≡ flat_map queued_in (sofar ++ o ∷ []) =
-    orders_append sent new ∙ ap (λ x. orders_in sent ++ x) (orders_at turn (queued_in o)) ∙ ap (λ x. x ++ queued_in o) queue ∙ ap (λ x. flat_map queued_in sofar ++ x) (sym (append-nil (queued_in o))) ∙ sym (flat_map-append queued_in sofar (o ∷ [])) in
-    let rest = turns_timely p n all is lasting (turn + 1) (sofar ++ o ∷ []) os mid later (run first h) more on queue_on next settled.2 (heed_behind p.front p.tail first later h heed_all) enough.1 in
+    let next = settles p turn mid (run_world first h) a.1 (settled_first p (turn + 1) mid os later (run_world first h) more settled.2) in
+    let queue_on : orders_sent mid ≡ flat_map queued_in (sofar ++ o ∷ []) =
+    orders_append sent new ∙ ap (λ x. orders_sent sent ++ x) (orders_at turn (queued_in o)) ∙ ap (λ x. x ++ queued_in o) queue ∙ ap (λ x. flat_map queued_in sofar ++ x) (sym (append-nil (queued_in o))) ∙ sym (flat_map-append queued_in sofar (o ∷ [])) in
+    let rest = turns_timely p n all is lasting (turn + 1) (sofar ++ o ∷ []) os mid later (run_world first h) more on queue_on next settled.2 (heed_behind p.front p.tail first later h heed_all) enough.1 in
     let At : List Step → Type 0 = λ x. AllTimely h x in
     subst At (sym are) (timely_join first later h timely rest)
 
@@ -143,10 +143,10 @@ walked os front (t ∷ tail) few is = elim (leb_tells (suc t.turn) (length os)) 
 -- a whole run
 pub home_timely : (b : BoardDef) (pins : List (List Level)) (board : ℕ) (entries : List Entry) (own : ℕ → ℕ) (clocks : Clocks) (ready n m turns : ℕ) (stops : ℕ → Option ℕ) (ss : List RunSection) (os : List Orders) (l : LinkState)
     (t : AreTurns (clock_of b) 0 os (first_state b pins board entries) l) → AreOwn b (length os) own → IsHomeRun own clocks b.freq b.slots ready stops ss os → (split : IsSplitIn own stops b.slots ss os)
-    → AreSettledOn stops split.front (clock_of b) 0 [] os (first_state b pins board entries) l t → AllHeed split.front split.tail (start b pins) (steps_of (clock_of b) 0 os (first_state b pins board entries) l t)
+    → AreSettledOn stops split.front (clock_of b) 0 [] os (first_state b pins board entries) l t → AllHeed split.front split.tail (new_world b pins) (steps_of (clock_of b) 0 os (first_state b pins board entries) l t)
     → AreSpilled turns m (map (λ s. s.section) ss) → length os ≤ turns → ((done : List Orders) (o : Orders) (rest : List Orders) → os ≡ done ++ (o ∷ rest) → ControlsKeep done)
     → ((k : ℕ) → spoiled (take k (ends_of (clock_of b) 0 os (first_state b pins board entries) l t)) ≤ n) → ((k : ℕ) → own (k + (n + m + 2)) < own k + 2 ^ 31)
-    → AllTimely (start b pins) (steps_of (clock_of b) 0 os (first_state b pins board entries) l t)
+    → AllTimely (new_world b pins) (steps_of (clock_of b) 0 os (first_state b pins board entries) l t)
 home_timely b pins board entries own clocks ready n m turns stops ss os l t o r split settled heed spilled within controls few far =
     let clock = clock_of b in
     let first : LinkState = first_state b pins board entries in
@@ -174,6 +174,6 @@ home_timely b pins board entries own clocks ready n m turns stops ss os l t o r 
     (split_soon clocks b.freq b.slots r.tracked.until last ready stops ss (courses split.front) split.tail r.row r.sections split.begun) (omega (arith, length-take-le k os h, near)) in
     let w = walked os split.front split.tail units (sym split.are) in
     let size = length split.front in
-    turns_timely p n os refl (home_lasting own clocks b.freq b.slots ready n m turns stops ss os o.ticks r spilled within far) 0 [] os [] steps (start b pins) taken refl refl (begins p b pins (own_first b last own o) refl)
-    (settled_owned b stops split.front own last 0 [] os steps (start b pins) o low were (settled_head stops split.front clock 0 [] os first l t settled)) heed
-    (enough_owned b n size os own last 0 os steps (start b pins) o low were (enough_from b pins board entries clock n size w.count 0 os [] os first l t [] (start b pins) refl refl refl controls w.short w.few w.full refl refl few))
+    turns_timely p n os refl (home_lasting own clocks b.freq b.slots ready n m turns stops ss os o.ticks r spilled within far) 0 [] os [] steps (new_world b pins) taken refl refl (begins p b pins (own_first b last own o) refl)
+    (settled_owned b stops split.front own last 0 [] os steps (new_world b pins) o low were (settled_head stops split.front clock 0 [] os first l t settled)) heed
+    (enough_owned b n size os own last 0 os steps (new_world b pins) o low were (enough_from b pins board entries clock n size w.count 0 os [] os first l t [] (new_world b pins) refl refl refl controls w.short w.few w.full refl refl few))

@@ -11,10 +11,10 @@ use Rattle.step_feed.specs.Pacing.{Release, ArePaced, batch_at, units_of, pendin
 use Rattle.section_units.specs.Sections.{AreBefore, BoardSection, of_stepper}
 use Rattle.link_work.specs.Turn.{Orders}
 use Rattle.laws_board.specs.sections.Known.{Sent, sent_at, sent_in, AreBelow}
-use Rattle.laws_board.specs.sections.Courses.{Course, course_of, course_behind, course_from, IsFrom, IsStopped, AreGoodOn, AreMadeFor, parts_of}
+use Rattle.laws_board.specs.sections.Courses.{Course, course_of, course_behind, course_from, IsFrom, IsStopped, AreGoodOn, AreMadeFor, course_parts}
 use Rattle.laws_board.specs.sections.Courses as course
 use Rattle.laws_board.specs.sections.Events.{AreTicks}
-use Rattle.laws_board.specs.sections.Homes.{RunSection, AreBeforeFirst, AreFrontsIn, AreInTurn, IsControlIn, AreSet, SetsAny, HasUnits, Sets}
+use Rattle.laws_board.specs.sections.Homes.{RunSection, AreBeforeFirst, AreFrontsIn, AreInTurn, IsControlIn, AreSet, SetsAny, HasUnits, SomeSets}
 use Rattle.laws_board.proofs.sections.Clocks.{ticks_rise}
 use Rattle.laws_board.proofs.sections.Controlling.{one_made}
 use Rattle.laws_board.proofs.sections.Stepping.{course_append}
@@ -109,8 +109,8 @@ hands_over f stops oid homes s later c0 c sent z ls us Q ends st out row x = rec
 
 -- the last section so far
 last_fronts : (f : Frame) (stops : ℕ → Option ℕ) (oid : ℕ) (homes : Bool) (s : BoardSection) (later : List RunSection) (c0 c : Course) (ls : List ℕ) (us : List StepUnit) (Q : List StepUnit → Type 0) → EndsBy f.own stops oid homes s
-    → StageWith f stops oid homes s c0 Q c ls us → (ps : List Pulse) → AreMadeFor f.own stops (parts_of c) ps
-    → (early : List Pulse) × (late : List Pulse) × (ps ≡ early ++ late) × AreMadeFor f.own stops (parts_of c0) early × AreFrontsIn f.own oid (now_of homes s ∷ later) late × course.AreBefore (f.own (s.end + 5)) late
+    → StageWith f stops oid homes s c0 Q c ls us → (ps : List Pulse) → AreMadeFor f.own stops (course_parts c) ps
+    → (early : List Pulse) × (late : List Pulse) × (ps ≡ early ++ late) × AreMadeFor f.own stops (course_parts c0) early × AreFrontsIn f.own oid (now_of homes s ∷ later) late × course.AreBefore (f.own (s.end + 5)) late
 last_fronts f stops oid homes s later c0 c ls us Q ends st ps k =
     let (first, second, are, older, mine) = stage_fronts f stops oid homes s later c0 c ls us Q ends st ps k in
     let (own, same, begins, before) = mine in
@@ -137,12 +137,12 @@ AfterControls f stops oid homes s c0 c turn o os ls us =
     let sent = sent_at turn (map plain o.control.commands) in
     AreGoodOn f.own stops f.slots oid c sent × StageWith f stops oid homes s c0 (Promise oid homes s (turn + 1) os) (course_from oid c sent) ls us
 
-keeps_promise : (oid turn : ℕ) (homes : Bool) (s : BoardSection) (o : Orders) (os : List Orders) (us : List StepUnit) → Promise oid homes s turn (o ∷ os) us → (Sets oid o.control.commands → ⊥) → Promise oid homes s (turn + 1) os us
+keeps_promise : (oid turn : ℕ) (homes : Bool) (s : BoardSection) (o : Orders) (os : List Orders) (us : List StepUnit) → Promise oid homes s turn (o ∷ os) us → (SomeSets oid o.control.commands → ⊥) → Promise oid homes s (turn + 1) os us
 keeps_promise oid turn homes s o os us q unset = λ h some long. elim (q h some (omega (arith, long))) [ inl x ↦ absurd (unset x.2) | inr x ↦ x ]
 
 controls_on : (f : Frame) (stops : ℕ → Option ℕ) (oid : ℕ) (homes : Bool) (s : BoardSection) (nx : ℕ → List Orders → Split) (later : List RunSection) (g : Ground f stops oid homes s nx later) (c0 c : Course) (turn : ℕ) (o : Orders) (os : List Orders) (ls : List ℕ) (vs : List StepUnit)
     → StageWith f stops oid homes s c0 (Promise oid homes s turn (o ∷ os)) c ls vs → All (IsControlIn f.clocks (now_of homes s ∷ later) turn) o.control.commands → turn ≤ s.end + 5 → (turn + 252 ≤ f.start → ls ≡ [])
-    → (Sets oid o.control.commands → c.known.made ≡ true) → AfterControls f stops oid homes s c0 c turn o os ls vs
+    → (SomeSets oid o.control.commands → c.known.made ≡ true) → AfterControls f stops oid homes s c0 c turn o os ls vs
 controls_on f stops oid homes s nx later g c0 c turn o os ls vs (inl n) i h fresh made =
     let (good, went) = controls_went f stops oid turn homes s later c0 o.control.commands c ls vs (inl n.0) i g.start_is g.row h fresh made (λ e. g.stop e turn) in
     (good, elim went [ inl w ↦ inl (w.0, keeps_promise oid turn homes s o os vs n.1 w.1) | inr w ↦ inr w ])
@@ -202,7 +202,7 @@ over_on f stops oid homes s nx later g o os turn from c0 c before (r ∷ rs) soo
           let rear = λ (x : List StepUnit). sent_at turn (units_orders (drop 1 x)) ++ sent_in (turn + 1) os in
           let behind_it = sent_at turn (units_orders more) ++ sent_in (turn + 1) os in
           let Lost : Course → Type 0 = λ x. LostOn f.own stops f.slots oid x (t ∷ []) in
-          let Made : Course → List Pulse → Type 0 = λ x ps. AreMadeFor f.own stops (parts_of x) ps in
+          let Made : Course → List Pulse → Type 0 = λ x ps. AreMadeFor f.own stops (course_parts x) ps in
           record {
             are = append_assoc cs a (t ∷ rear o.batch.units) ∙ ap (λ x. cs ++ (a ++ t ∷ rear x)) units ∙ ap (λ x. cs ++ x) (sym (append_assoc a (t ∷ []) behind_it) ∙ ap (λ x. x ++ behind_it) (sym (unit_is turn u)))
                 ∙ sym (first_part turn o u more (sent_in (turn + 1) os) units);

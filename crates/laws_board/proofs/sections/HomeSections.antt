@@ -13,7 +13,7 @@ use Rattle.section_units.specs.Sections.{AreBefore, BoardSection, section_steps,
 use Rattle.link_work.specs.Turn.{Orders}
 use Rattle.laws_board.specs.sections.Known.{Sent, sent_in, AreBelow, sent_at}
 use Rattle.laws_board.specs.sections.Runs.{Begins}
-use Rattle.laws_board.specs.sections.Courses.{Part, Course, parts_of, course_from, IsSince, IsStopped, AreBeforeStop, AreMadeFor, IsGoodOn, AreGoodOn}
+use Rattle.laws_board.specs.sections.Courses.{Part, Course, course_parts, course_from, IsSince, IsStopped, AreBeforeStop, AreMadeFor, IsGoodOn, AreGoodOn}
 use Rattle.laws_board.specs.sections.Courses as course
 use Rattle.laws_board.specs.sections.Homes.{RunSection, AreInTurn, IsControlIn, AreOrdersIn, SetsIn, AreSet, SetsAny, HasUnits, AreFrontsIn, AreReleasedIn, AreBeforeFirst}
 use Rattle.laws_board.proofs.sections.Stepping.{course_append}
@@ -68,8 +68,8 @@ pub record Sound (own : ℕ → ℕ) (stops : ℕ → Option ℕ) (slots oid : �
   pub good : AreGoodOn own stops slots oid c x.front
   pub lost : LostOn own stops slots oid (course_from oid c x.front) x.tail
   pub begun : LeftOn ss oid (course_from oid c x.front).since x.tail
-  pub fronts : (ps : List Pulse) → AreMadeFor own stops (parts_of (course_from oid c x.front)) ps
-      → (early : List Pulse) × (late : List Pulse) × (ps ≡ early ++ late) × AreMadeFor own stops (parts_of c0) early × AreFrontsIn own oid ss late × AreBeforeFirst own x.tail late
+  pub fronts : (ps : List Pulse) → AreMadeFor own stops (course_parts (course_from oid c x.front)) ps
+      → (early : List Pulse) × (late : List Pulse) × (ps ≡ early ++ late) × AreMadeFor own stops (course_parts c0) early × AreFrontsIn own oid ss late × AreBeforeFirst own x.tail late
   pub whole : AreReleasedIn ss → x.tail ≡ []
 
 -- what is queued of sections, turn by turn, up to the first unit that is left five turns behind the end of its section
@@ -101,7 +101,7 @@ ahead_sound own stops slots oid c0 c d first sent ss good is z x =
     let At : Course → Type 0 = λ y. AreGoodOn own stops slots oid y z.front in
     let same : course_from oid c (first ++ z.front) ≡ course_from oid d z.front = course_append oid c first z.front ∙ ap (λ y. course_from oid y z.front) is in
     let Lost : Course → Type 0 = λ y. LostOn own stops slots oid y z.tail in
-    let Made : List Pulse → Course → Type 0 = λ ps y. AreMadeFor own stops (parts_of y) ps in
+    let Made : List Pulse → Course → Type 0 = λ ps y. AreMadeFor own stops (course_parts y) ps in
     record {
       are = append_assoc first z.front z.tail ∙ ap (λ y. first ++ y) x.are;
       good = good_on_append own stops slots oid c first z.front good (subst At (sym is) x.good);
@@ -201,8 +201,8 @@ EndsBy own stops oid homes s = (since : ℕ) (late : List Pulse) → stops since
 
 -- a section so far
 pub stage_fronts : (f : Frame) (stops : ℕ → Option ℕ) (oid : ℕ) (homes : Bool) (s : BoardSection) (later : List RunSection) (c0 c : Course) (ls : List ℕ) (us : List StepUnit) (Q : List StepUnit → Type 0) → EndsBy f.own stops oid homes s
-    → StageWith f stops oid homes s c0 Q c ls us → (ps : List Pulse) → AreMadeFor f.own stops (parts_of c) ps
-    → (early : List Pulse) × (late : List Pulse) × (ps ≡ early ++ late) × AreMadeFor f.own stops (parts_of c0) early
+    → StageWith f stops oid homes s c0 Q c ls us → (ps : List Pulse) → AreMadeFor f.own stops (course_parts c) ps
+    → (early : List Pulse) × (late : List Pulse) × (ps ≡ early ++ late) × AreMadeFor f.own stops (course_parts c0) early
     × ((first : List Pulse) × (late ≡ first ++ []) × Begins first (section_steps oid s) × course.AreBefore (f.own (s.end + 5)) first)
 stage_fronts f stops oid homes s later c0 c ls us Q ends (inl n) ps k =
     let At : List Part → Type 0 = λ x. AreMadeFor f.own stops x ps in

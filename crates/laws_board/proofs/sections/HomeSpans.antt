@@ -8,7 +8,7 @@ use Rattle.plan_types.specs.Lines.{Clocks}
 use Rattle.plan_types.specs.Plan.{AreSpaced, Fits}
 use Rattle.board_sim.specs.Fair.{only}
 use Rattle.board_sim.proofs.Steps.{only-append}
-use Rattle.board_world.specs.World.{Core, Step, run, start}
+use Rattle.board_world.specs.World.{Core, Step, run_world, new_world}
 use Rattle.link_work.specs.Turn.{Orders}
 use Rattle.link_work.proofs.Sending.{run_append}
 use Rattle.section_units.specs.Sections.{BoardSection, base_of, section_steps}
@@ -54,13 +54,13 @@ pub record Halves (own : ℕ → ℕ) (ss : List RunSection) (a d : ℕ) (start_
 
 pub halves : (b : BoardDef) (pins : List (List Level)) (own : ℕ → ℕ) (clocks : Clocks) (ready : ℕ) (stops : ℕ → Option ℕ) (ss : List RunSection) (before during behind : List Orders) (first second : List Step)
     → IsHomeSpan b pins own clocks ready stops ss before during behind first second
-    → Halves own ss (length before) (length before + length during) [] (run first (start b pins)).made (run (first ++ second) (start b pins)).made
+    → Halves own ss (length before) (length before + length during) [] (run_world first (new_world b pins)).made (run_world (first ++ second) (new_world b pins)).made
 halves b pins own clocks ready stops ss before during behind first second r =
     let p = script_of b pins own clocks ready stops ss before during behind first second r in
     let a = length before in
     let d = a + length during in
-    let h0 = start b pins in
-    let h1 = run first h0 in
+    let h0 = new_world b pins in
+    let h1 = run_world first h0 in
     let s1 = sent_in 0 before in
     let s2 = sent_in a during in
     let s3 = sent_in d behind in
@@ -80,7 +80,7 @@ halves b pins own clocks ready stops ss before during behind first second r =
     record {
       sofar = subst To zero_more k1.2;
       new = subst Last late k2.2;
-      fronts = subst Front late (λ oid. r.split.fronts oid (only oid (run second h1).made) (keeps_fronts p d (s1 ++ s2) (run second h1) k2.1 oid));
+      fronts = subst Front late (λ oid. r.split.fronts oid (only oid (run_world second h1).made) (keeps_fronts p d (s1 ++ s2) (run_world second h1) k2.1 oid));
     }
 
 -- pulses before a tick
@@ -159,7 +159,7 @@ next_down m n (s ∷ ss) h x = omega (arith, x, h)
 pub section_is : (b : BoardDef) (pins : List (List Level)) (own : ℕ → ℕ) (clocks : Clocks) (ready : ℕ) (stops : ℕ → Option ℕ) (past : List RunSection) (s : RunSection) (later : List RunSection)
     (before during behind : List Orders) (first second : List Step) → IsHomeSpan b pins own clocks ready stops (past ++ s ∷ later) before during behind first second → length before + 1 ≡ s.section.start
     → NextBehind (length before + length during) later
-    → (pulses : List Pulse) × Made (run first (start b pins)) (run (first ++ second) (start b pins)) pulses × ((oid : ℕ) → Fits b.freq (base_of clocks s.section) (only oid pulses) (s.section.plan oid))
+    → (pulses : List Pulse) × Made (run_world first (new_world b pins)) (run_world (first ++ second) (new_world b pins)) pulses × ((oid : ℕ) → Fits b.freq (base_of clocks s.section) (only oid pulses) (s.section.plan oid))
 section_is b pins own clocks ready stops past s later before during behind first second r begin ends =
     let a = length before in
     let d = a + length during in
@@ -169,8 +169,8 @@ section_is b pins own clocks ready stops past s later before during behind first
     let (over, row) = row_split ready past s later r.run_is.row in
     let (end, low, rest) = row in
     let plan = λ (oid : ℕ). planned own clocks b.freq b.slots r.run_is.tracked.until stops oid s.homes s.section rest.1 (All-head P s later each.1) in
-    let h1 = run first (start b pins) in
-    let late = run (first ++ second) (start b pins) in (
+    let h1 = run_world first (new_world b pins) in
+    let late = run_world (first ++ second) (new_world b pins) in (
       q.new.0,
       q.new.1,
       λ oid.
@@ -208,7 +208,7 @@ row_behind e (t ∷ past) later row =
 -- between sections there are none
 pub between_is : (b : BoardDef) (pins : List (List Level)) (own : ℕ → ℕ) (clocks : Clocks) (ready : ℕ) (stops : ℕ → Option ℕ) (past later : List RunSection)
     (before during behind : List Orders) (first second : List Step) → IsHomeSpan b pins own clocks ready stops (past ++ later) before during behind first second → AreOverBy (length before) past
-    → NextBehind (length before + length during) later → (run (first ++ second) (start b pins)).made ≡ (run first (start b pins)).made
+    → NextBehind (length before + length during) later → (run_world (first ++ second) (new_world b pins)).made ≡ (run_world first (new_world b pins)).made
 between_is b pins own clocks ready stops past later before during behind first second r over ends =
     let a = length before in
     let d = a + length during in
@@ -216,8 +216,8 @@ between_is b pins own clocks ready stops past later before during behind first s
     let P : RunSection → Type 0 = λ (x : RunSection). IsSectionBy x.homes clocks b.freq b.slots r.run_is.tracked.until stops x.section in
     let each = all_split P past later r.run_is.sections in
     let (end, low, row) = row_behind ready past later r.run_is.row in
-    let h1 = run first (start b pins) in
-    let late = run (first ++ second) (start b pins) in
+    let h1 = run_world first (new_world b pins) in
+    let late = run_world (first ++ second) (new_world b pins) in
     let none = λ (oid : ℕ).
     let (old, next, is, gone, here) = fronts_split own oid past later (only oid late.made) (q.fronts oid) in
     let made : only oid late.made ≡ only oid h1.made ++ only oid q.new.0 = ap (only oid) q.new.1 ∙ only-append oid h1.made q.new.0 in

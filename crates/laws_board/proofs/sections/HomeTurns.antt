@@ -9,7 +9,7 @@ use Rattle.step_feed.specs.Pacing.{Release, ArePaced, batch_at, pending, units_o
 use Rattle.step_feed.specs.Rings.{count_from}
 use Rattle.section_units.specs.Sections.{AreBegunBy, AreChained, BoardSection, IsUnit, of_stepper, section_steps, steps_said}
 use Rattle.laws_board.specs.sections.Known.{Sent, sent_at, AreBelow}
-use Rattle.laws_board.specs.sections.Courses.{Part, Course, parts_of, next_part, course_behind, course_from, IsStopped, AreMadeFor, MaySetClock, AreGoodOn}
+use Rattle.laws_board.specs.sections.Courses.{Part, Course, course_parts, next_part, course_behind, course_from, IsStopped, AreMadeFor, MaySetClock, AreGoodOn}
 use Rattle.laws_board.proofs.sections.Entering.{said_told, told_by}
 use Rattle.laws_board.proofs.sections.Lists.{sent_append}
 use Rattle.laws_board.proofs.sections.Stepping.{course_append}
@@ -29,7 +29,7 @@ pub record NotYet (f : Frame) (stops : ℕ → Option ℕ) (oid : ℕ) (homes : 
   pub units : AreBegunBy homes f.clocks (base f) us
   pub all : steps_said oid false us ≡ section_steps oid s
   pub idle : (n : ℕ) → f.start ≤ n + 254 → IsStopped stops n c.since ⊎ AreBelow (f.own n) c.known.ends
-  pub same : parts_of c ≡ parts_of c0
+  pub same : course_parts c ≡ course_parts c0
   pub made : us ≢ [] → c.known.made ≡ true
 
 -- or it has
@@ -39,7 +39,7 @@ pub record Begun (f : Frame) (stops : ℕ → Option ℕ) (oid : ℕ) (homes : B
   pub since : c.since ≡ Some turn
   pub soon : homes ≡ false → f.start ≤ turn + 250
   pub stop : stops turn ≡ stop_of homes s
-  pub past : (ps : List Pulse) → AreMadeFor f.own stops c.past ps → AreMadeFor f.own stops (parts_of c0) ps
+  pub past : (ps : List Pulse) → AreMadeFor f.own stops c.past ps → AreMadeFor f.own stops (course_parts c0) ps
   pub again : ls ≡ [] → homes ≡ true → AreBegunBy true f.clocks (base f) us × (steps_said oid false us ≡ section_steps oid s) × (c.known.steps ≡ [])
 
 abbrev pub Stage : Frame → (ℕ → Option ℕ) → ℕ → Bool → BoardSection → Course → Course → List ℕ → List StepUnit → Type 0
@@ -79,7 +79,7 @@ true_false e = cc
 
 -- a command sets the clock for a homing section
 pub begins_apart : (f : Frame) (stops : ℕ → Option ℕ) (oid : ℕ) (s : BoardSection) (c0 c : Course) (us : List StepUnit) (turn : ℕ) → AreBegunBy true f.clocks (base f) us → steps_said oid false us ≡ section_steps oid s
-    → (us ≢ [] → c.known.made ≡ true) → stops turn ≡ Some s.end → ((ps : List Pulse) → AreMadeFor f.own stops (parts_of c) ps → AreMadeFor f.own stops (parts_of c0) ps)
+    → (us ≢ [] → c.known.made ≡ true) → stops turn ≡ Some s.end → ((ps : List Pulse) → AreMadeFor f.own stops (course_parts c) ps → AreMadeFor f.own stops (course_parts c0) ps)
     → Begun f stops oid true s c0 (next_part turn (base f % 2 ^ 32) c) [] us
 begins_apart f stops oid s c0 c us turn units all made stop past = record {
   goes = record {
@@ -143,7 +143,7 @@ first_unit f stops oid s c0 turn c ls u us own n i soon due slots goes_on =
     ap (course_from oid c) sent ∙ ap (λ x. course_from oid x (sent_at turn (unit_orders v))) first ∙ is in
     let Then : Course → Type 0 = λ x. Begun f stops oid false s c0 x (u.last ∷ ls) us in
     let Lasts : List ℕ → Type 0 = λ x. Goes f oid (section_steps oid s) (behind_unit oid c1.known v) (u.last ∷ x) us in
-    let Same : List Part → Type 0 = λ x. (ps : List Pulse) → AreMadeFor f.own stops (parts_of c) ps → AreMadeFor f.own stops x ps in (
+    let Same : List Part → Type 0 = λ x. (ps : List Pulse) → AreMadeFor f.own stops (course_parts c) ps → AreMadeFor f.own stops x ps in (
       subst Good (sym sent) ((λ _. may), subst From (sym first) good),
       subst Then (sym last) (record {
         goes = subst Lasts (sym n.none) next;

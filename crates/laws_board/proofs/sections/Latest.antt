@@ -17,7 +17,7 @@ use Rattle.link_work.specs.Runs.{queued_in}
 use Rattle.section_units.specs.Late.{LateOneByOne}
 use Rattle.section_units.specs.Sections.{BoardSection, ticks_meant}
 use Rattle.laws_board.specs.sections.Events.{AreTicks}
-use Rattle.laws_board.specs.sections.Known.{Sent, sent_at, sent_in, orders_in}
+use Rattle.laws_board.specs.sections.Known.{Sent, sent_at, sent_in, orders_sent}
 use Rattle.laws_board.specs.sections.Parts.{AreOrdersOf, AreTracked}
 use Rattle.laws_board.specs.sections.Timely.{AreTimely, IsTimely}
 use Rattle.laws_board.proofs.sections.Clocks.{over_made}
@@ -48,7 +48,7 @@ AllLast own n (s ∷ ss) = Lasts own n s × AllLast own n ss
 -- commands of which the first one is too late, and the others are timely for as long as it is
 abbrev pub BeginPast : (ℕ → ℕ) → ℕ → List Sent → Type 0
 BeginPast own n [] = Unit {0}
-BeginPast own n (s ∷ ss) = IsPast own s.turn s.order.command s.order.ticks × Lasts own n s × AreTimely (own (s.turn + n + 1)) (orders_in ss)
+BeginPast own n (s ∷ ss) = IsPast own s.turn s.order.command s.order.ticks × Lasts own n s × AreTimely (own (s.turn + n + 1)) (orders_sent ss)
 
 pub record IsCut (own : ℕ → ℕ) (n : ℕ) (sent : List Sent) : Type 0 where
   pub front : List Sent
@@ -112,7 +112,7 @@ units_last : (t x k : ℕ) (ss : List BoardSection) → t < x + 2 ^ 31 → AllFi
 units_last t x k [] h a = tt
 units_last t x k (s ∷ ss) h a = lasting_append t (batch_at k s.releases) (units_at k ss) (batch_last t x k s.releases h a.0) (units_last t x k ss h a.1)
 
-orders_last : (t x turn : ℕ) (ss : List BoardSection) (os : List Orders) → t < x + 2 ^ 31 → AllFirsts x ss → AreOrdersOf ss turn os → AreTimely t (orders_in (sent_in turn os))
+orders_last : (t x turn : ℕ) (ss : List BoardSection) (os : List Orders) → t < x + 2 ^ 31 → AllFirsts x ss → AreOrdersOf ss turn os → AreTimely t (orders_sent (sent_in turn os))
 orders_last t x turn ss [] h a orders = tt
 orders_last t x turn ss (o ∷ os) h a orders =
     let Timely : List Meant → Type 0 = λ y. AreTimely t y in
@@ -120,8 +120,8 @@ orders_last t x turn ss (o ∷ os) h a orders =
     let here = timely_append t (map plain o.control.commands) (units_orders o.batch.units) (controls_timely t o.control.commands orders.0)
     (units_timely t o.batch.units (subst On (sym orders.1) (units_last t x turn ss h a))) in
     let rest = orders_last t x (turn + 1) ss os h a orders.2 in
-    subst Timely (sym (orders_append (sent_at turn (queued_in o)) (sent_in (turn + 1) os) ∙ ap (λ y. y ++ orders_in (sent_in (turn + 1) os)) (orders_at turn (queued_in o))))
-    (timely_append t (queued_in o) (orders_in (sent_in (turn + 1) os)) here rest)
+    subst Timely (sym (orders_append (sent_at turn (queued_in o)) (sent_in (turn + 1) os) ∙ ap (λ y. y ++ orders_sent (sent_in (turn + 1) os)) (orders_at turn (queued_in o))))
+    (timely_append t (queued_in o) (orders_sent (sent_in (turn + 1) os)) here rest)
 
 -- one unit
 abbrev pub IsFar : (ℕ → ℕ) → ℕ → Type 0
@@ -137,7 +137,7 @@ one_past f r i late =
 
 -- the units of a turn, and what is queued behind them
 abbrev Behind : Frame → List Release → List Sent → Type 0
-Behind f rs later = (t x : ℕ) → t < x + 2 ^ 31 → FirstsFrom x rs → x < lines_tick f.clocks ((f.end + 1) * turn_ns) → AreTimely t (orders_in later)
+Behind f rs later = (t x : ℕ) → t < x + 2 ^ 31 → FirstsFrom x rs → x < lines_tick f.clocks ((f.end + 1) * turn_ns) → AreTimely t (orders_sent later)
 
 -- it is cut in the turn, or behind it
 abbrev IsIn : ℕ → List Sent → Type 0
@@ -188,9 +188,9 @@ turn_cut f n turn P (r ∷ rs) later far rank from late behind next =
                 let inside = rank.0.up in
                 let within = rank.0.high in
                 let OnMeant : List Meant → Type 0 = λ x. AreTimely t x in
-                let here : AreTimely t (orders_in others) = subst OnMeant (sym (orders_at turn (units_orders (batch_at turn rs)))) (units_timely t (batch_at turn rs) (batch_last t u.first turn rs now rank.3)) in
-                let rest : AreTimely t (orders_in (others ++ later)) = subst OnMeant (sym (orders_append others later))
-                (timely_append t (orders_in others) (orders_in later) here (one_behind t u.first now (after_firsts u.first turn rs rank.3) (omega (arith, inside, within)))) in
+                let here : AreTimely t (orders_sent others) = subst OnMeant (sym (orders_at turn (units_orders (batch_at turn rs)))) (units_timely t (batch_at turn rs) (batch_last t u.first turn rs now rank.3)) in
+                let rest : AreTimely t (orders_sent (others ++ later)) = subst OnMeant (sym (orders_append others later))
+                (timely_append t (orders_sent others) (orders_sent later) here (one_behind t u.first now (after_firsts u.first turn rs rank.3) (omega (arith, inside, within)))) in
                 let c : IsCut f.own n (sent_at turn (unit_orders u) ++ (others ++ later)) = record {
                   front = ahead_of_step turn u;
                   tail = step_sent turn u ∷ (others ++ later);

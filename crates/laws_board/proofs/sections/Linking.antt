@@ -21,12 +21,12 @@ use Rattle.wire_scene.specs.declared.wire.Fate.{Fate}
 use Rattle.wire_scene.specs.declared.wire.Fate.TheVariants.{Lost, Last, Stays, Garbled}
 use Rattle.wire_scene.specs.Wire.{Copy}
 use Rattle.board_world.specs.declared.event.Event.TheVariants as event
-use Rattle.board_world.specs.World.{Core, Step, Do, Turn, run, start, after, happens}
+use Rattle.board_world.specs.World.{Core, Step, Do, Turn, run_world, new_world, world_after, after_event}
 use Rattle.link_work.specs.Turn.{LinkState, Orders, after_board, after_host, after_replies, board_steps, come, comes, host_steps, resends, sends, IsTurn}
 use Rattle.link_work.specs.Runs.{AreTurns}
 use Rattle.link_work.proofs.Sending.{run_append}
 use Rattle.link_work.proofs.Steps.{AllOf, all_append, all_come, all_resent, all_sent}
-use Rattle.laws_board.specs.sections.Events.{IsQuiet, AreOwn, AreQuiet, IsTurnOf, AreTurnsOf, AreTicks}
+use Rattle.laws_board.specs.sections.Events.{QueuesNothing, AreOwn, AreQuiet, IsTurnOf, AreTurnsOf, AreTicks}
 use Rattle.laws_board.specs.sections.Links.{steps_of_turn, steps_of, AreTold, pulses_in, turns_told}
 
 -- two tests of one fact agree
@@ -35,11 +35,11 @@ same_bool true b P f g = sym (g.1 (f.0 refl))
 same_bool false true P f g = f.1 (g.0 refl)
 same_bool false false P f g = refl
 
-are_quiet : (steps : List Step) → AllOf IsQuiet steps → AreQuiet steps
+are_quiet : (steps : List Step) → AllOf QueuesNothing steps → AreQuiet steps
 are_quiet [] a = tt
 are_quiet (s ∷ steps) a = (a.0, are_quiet steps a.1)
 
-comes_quiet : (way : Way) (fate : Fate) → AllOf IsQuiet (comes way fate)
+comes_quiet : (way : Way) (fate : Fate) → AllOf QueuesNothing (comes way fate)
 comes_quiet Down Lost = (tt, tt)
 comes_quiet Down Last = (tt, tt)
 comes_quiet Down Stays = (tt, (tt, tt))
@@ -49,8 +49,8 @@ comes_quiet Up Last = (tt, (tt, tt))
 comes_quiet Up Stays = (tt, (tt, (tt, tt)))
 comes_quiet Up Garbled = (tt, tt)
 
-come_quiet : (way : Way) (turn : ℕ) (copies : List Copy) → AllOf IsQuiet (come way turn copies)
-come_quiet way turn copies = all_come IsQuiet way (λ fate. comes_quiet way fate) turn copies
+come_quiet : (way : Way) (turn : ℕ) (copies : List Copy) → AllOf QueuesNothing (come way turn copies)
+come_quiet way turn copies = all_come QueuesNothing way (λ fate. comes_quiet way fate) turn copies
 
 -- the steps of a link's turn are those of a turn
 pub one_turn : (clock : BoardClock) (turn : ℕ) (o : Orders) (resent : Bool) (l : LinkState) → IsTurnOf (board_tick clock) turn o (steps_of_turn clock turn o resent l)
@@ -65,12 +65,12 @@ one_turn clock turn o resent l =
       after = up;
       are = ap (λ x. Turn turn ∷ Do (event.Control o.control) ∷ Do (event.Put o.batch) ∷ x)
           (ap (λ x. sent ++ x) (append_assoc down (pass ∷ []) up) ∙ sym (append_assoc sent down (pass ∷ up)));
-      before_quiet = are_quiet (sent ++ down) (all_append IsQuiet sent down (all_append IsQuiet (resends resent) (sends 12) (all_resent IsQuiet tt resent) (all_sent IsQuiet tt 12)) (come_quiet Down turn m.down.copies));
+      before_quiet = are_quiet (sent ++ down) (all_append QueuesNothing sent down (all_append QueuesNothing (resends resent) (sends 12) (all_resent QueuesNothing tt resent) (all_sent QueuesNothing tt 12)) (come_quiet Down turn m.down.copies));
       after_quiet = are_quiet up (come_quiet Up turn (after_board clock turn m).up.copies);
     }
 
 pub turn_runs : (clock : BoardClock) (turn : ℕ) (o : Orders) (resent : Bool) (l : LinkState)
-    → (after_replies turn (after_board clock turn (after_host turn o resent l))).core ≡ run (steps_of_turn clock turn o resent l) l.core
+    → (after_replies turn (after_board clock turn (after_host turn o resent l))).core ≡ run_world (steps_of_turn clock turn o resent l) l.core
 turn_runs clock turn o resent l =
     let m = after_host turn o resent l in
     let host = host_steps turn o resent in
@@ -79,14 +79,14 @@ turn_runs clock turn o resent l =
     sym (run_append host (board ++ up) l.core ∙ run_append board up m.core)
 
 unfoldable pub turns_are : (clock : BoardClock) (turn : ℕ) (os : List Orders) (l m : LinkState) (t : AreTurns clock turn os l m)
-    → (m.core ≡ run (steps_of clock turn os l m t) l.core) × AreTurnsOf (board_tick clock) turn os (steps_of clock turn os l m t)
+    → (m.core ≡ run_world (steps_of clock turn os l m t) l.core) × AreTurnsOf (board_tick clock) turn os (steps_of clock turn os l m t)
 turns_are clock turn [] l m t = (ap (λ (x : LinkState). x.core) t, refl)
 turns_are clock turn (o ∷ os) l m t =
     let (mid, one, more) = t in
     let first = steps_of_turn clock turn o one.resent l in
     let later = steps_of clock (turn + 1) os mid m more in
     let rest = turns_are clock (turn + 1) os mid m more in (
-      rest.0 ∙ ap (λ h. run later h) (ap (λ (x : LinkState). x.core) one.becomes ∙ turn_runs clock turn o one.resent l) ∙ sym (run_append first later l.core),
+      rest.0 ∙ ap (λ h. run_world later h) (ap (λ (x : LinkState). x.core) one.becomes ∙ turn_runs clock turn o one.resent l) ∙ sym (run_append first later l.core),
       (first, later, refl, one_turn clock turn o one.resent l, rest.1),
     )
 
@@ -175,7 +175,7 @@ told_both clock turn os states l m t = (turns_told clock turn os states l m t, t
 
 -- A turn of a link that makes a pulse leaves the board running.
 abbrev LeavesBoard : Step → Type 0
-LeavesBoard s = (h : Core) → (after h s).board ≡ h.board
+LeavesBoard s = (h : Core) → (world_after h s).board ≡ h.board
 
 comes_leave : (fate : Fate) → AllOf LeavesBoard (comes Up fate)
 comes_leave Lost = (λ h. refl, tt)
@@ -183,9 +183,9 @@ comes_leave Last = (λ h. refl, (λ h. refl, tt))
 comes_leave Stays = (λ h. refl, (λ h. refl, (λ h. refl, tt)))
 comes_leave Garbled = (λ h. refl, tt)
 
-run_leaves : (steps : List Step) (h : Core) → AllOf LeavesBoard steps → (run steps h).board ≡ h.board
+run_leaves : (steps : List Step) (h : Core) → AllOf LeavesBoard steps → (run_world steps h).board ≡ h.board
 run_leaves [] h a = refl
-run_leaves (s ∷ steps) h a = run_leaves steps (after h s) a.1 ∙ a.0 h
+run_leaves (s ∷ steps) h a = run_leaves steps (world_after h s) a.1 ∙ a.0 h
 
 comes_leave_way : (way : Way) (turn : ℕ) (copies : List Copy) → way ≡ Up → AllOf LeavesBoard (come way turn copies)
 comes_leave_way way turn copies e =
@@ -204,16 +204,16 @@ pulse_runs clock turn o l m t more =
     let down = come Down turn n.down.copies in
     let until = board_tick clock (turn + 1) in
     let up = come Up turn (after_board clock turn n).up.copies in
-    let h1 = run host l.core in
-    let h2 = run down h1 in
-    let h3 = happens h2 (event.Pass until) in
-    let h4 = run up h3 in
+    let h1 = run_world host l.core in
+    let h2 = run_world down h1 in
+    let h3 = after_event h2 (event.Pass until) in
+    let h4 = run_world up h3 in
     let is : m.core ≡ h4 =
     ap (λ (x : LinkState). x.core) t.becomes ∙ turn_runs clock turn o t.resent l ∙ run_append host (board_steps clock turn n.down.copies ++ up) l.core
-    ∙ run_append (board_steps clock turn n.down.copies) up h1 ∙ ap (run up) (run_append down (Do (event.Pass until) ∷ []) h1) in
-    let given = after (after (after l.core (Turn turn)) (Do (event.Control o.control))) (Do (event.Put o.batch)) in
+    ∙ run_append (board_steps clock turn n.down.copies) up h1 ∙ ap (run_world up) (run_append down (Do (event.Pass until) ∷ []) h1) in
+    let given = world_after (world_after (world_after l.core (Turn turn)) (Do (event.Control o.control))) (Do (event.Put o.batch)) in
     let host_made : h1.made ≡ l.core.made =
-    quiet_made quiet given (are_quiet quiet (all_append IsQuiet (resends t.resent) (sends 12) (all_resent IsQuiet tt t.resent) (all_sent IsQuiet tt 12))) ∙ append-nil (l.core.made ++ []) ∙ append-nil l.core.made in
+    quiet_made quiet given (are_quiet quiet (all_append QueuesNothing (resends t.resent) (sends 12) (all_resent QueuesNothing tt t.resent) (all_sent QueuesNothing tt 12))) ∙ append-nil (l.core.made ++ []) ∙ append-nil l.core.made in
     let down_made : h2.made ≡ h1.made = quiet_made down h1 (are_quiet down (come_quiet Down turn n.down.copies)) in
     let up_made : h4.made ≡ h3.made = quiet_made up h3 (are_quiet up (come_quiet Up turn (after_board clock turn n).up.copies)) in
     let up_board : h4.board ≡ h3.board = run_leaves up h3 (comes_leave_way Up turn (after_board clock turn n).up.copies refl) in

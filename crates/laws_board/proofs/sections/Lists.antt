@@ -3,7 +3,7 @@ use Rattle.std.proofs.Common.{◌≡◌, ℕ, zero, suc, ◌+◌, ◌-◌, ◌�
 use Rattle.msg_code.specs.declared.cmd.Cmd.{Cmd}
 use Rattle.msg_code.specs.declared.cmd.Cmd.TheVariants as cmd
 use Rattle.board_sim.specs.Fair.{Meant}
-use Rattle.laws_board.specs.sections.Known.{AreQueued, Sent, sent_at, orders_in, Known, knows, known_from, AreGoodFrom, IsLostFor, BeginLost}
+use Rattle.laws_board.specs.sections.Known.{AreQueued, Sent, sent_at, orders_sent, Known, knows, known_from, AreGoodFrom, IsLostFor, BeginLost}
 use Rattle.laws_board.proofs.sections.Taking.{AreOld}
 
 pub cons_same : {X : Type 0} (x y : X) (xs ys : List X) → x ∷ xs ≡ y ∷ ys → (x ≡ y) × (xs ≡ ys)
@@ -40,19 +40,19 @@ same_place (w ∷ xs) x ys [] u vs e l = let size = ap length e in let both = le
 same_place (w ∷ xs) x ys (z ∷ us) u vs e l = let rest : xs ++ x ∷ ys ≡ us ++ u ∷ vs = cc in same_place xs x ys us u vs rest l
 
 -- commands that begin those that were sent
-pub sent_front : (ms rest : List Meant) (ss : List Sent) → ms ++ rest ≡ orders_in ss → (first : List Sent) × (left : List Sent) × (ss ≡ first ++ left) × (orders_in first ≡ ms)
+pub sent_front : (ms rest : List Meant) (ss : List Sent) → ms ++ rest ≡ orders_sent ss → (first : List Sent) × (left : List Sent) × (ss ≡ first ++ left) × (orders_sent first ≡ ms)
 sent_front [] rest ss e = ([], ss, refl, refl)
 sent_front (m ∷ ms) rest [] e = absurd (nil_cons m (ms ++ rest) (sym e))
 sent_front (m ∷ ms) rest (s ∷ ss) e =
-    let same = cons_same m s.order (ms ++ rest) (orders_in ss) e in
+    let same = cons_same m s.order (ms ++ rest) (orders_sent ss) e in
     let more = sent_front ms rest ss same.1 in
     (s ∷ more.0, more.1, ap (λ t. s ∷ t) more.2, ap (λ t. s.order ∷ t) more.3 ∙ ap (λ t. t ∷ ms) (sym same.0))
 
-pub orders_append : (ss ts : List Sent) → orders_in (ss ++ ts) ≡ orders_in ss ++ orders_in ts
+pub orders_append : (ss ts : List Sent) → orders_sent (ss ++ ts) ≡ orders_sent ss ++ orders_sent ts
 orders_append [] ts = refl
 orders_append (s ∷ ss) ts = ap (λ x. s.order ∷ x) (orders_append ss ts)
 
-pub orders_at : (turn : ℕ) (ms : List Meant) → orders_in (sent_at turn ms) ≡ ms
+pub orders_at : (turn : ℕ) (ms : List Meant) → orders_sent (sent_at turn ms) ≡ ms
 orders_at turn [] = refl
 orders_at turn (m ∷ ms) = ap (λ x. m ∷ x) (orders_at turn ms)
 
@@ -136,11 +136,11 @@ shorter xs ys us vs e l = elim (cuts xs ys us vs e) [
     no_length [] f = refl
     no_length (z ∷ zs) f = absurd (omega (arith, f))
 
-pub orders_long : (ss : List Sent) → length (orders_in ss) ≡ length ss
+pub orders_long : (ss : List Sent) → length (orders_sent ss) ≡ length ss
 orders_long [] = refl
 orders_long (s ∷ ss) = let e = orders_long ss in omega (arith, e)
 
-pub longer : (xs ys us vs : List Sent) (ms : List Meant) → xs ++ ys ≡ us ++ vs → orders_in xs ≡ orders_in us ++ ms → (mid : List Sent) × (xs ≡ us ++ mid) × (mid ++ ys ≡ vs)
+pub longer : (xs ys us vs : List Sent) (ms : List Meant) → xs ++ ys ≡ us ++ vs → orders_sent xs ≡ orders_sent us ++ ms → (mid : List Sent) × (xs ≡ us ++ mid) × (mid ++ ys ≡ vs)
 longer xs ys us vs ms e took =
     let both = ap (λ (x : List Meant). length x) took in
-    shorter xs ys us vs e (omega (arith, orders_long xs, orders_long us, both, length-append (orders_in us) ms))
+    shorter xs ys us vs e (omega (arith, orders_long xs, orders_long us, both, length-append (orders_sent us) ms))

@@ -11,7 +11,7 @@ use Rattle.board_step.specs.Steps.{Pending}
 use Rattle.board_sim.specs.Board.{Controller, Passed, stepper_at, slot_to, slot_before, emptied, passes_on}
 use Rattle.board_sim.specs.Board as board
 use Rattle.board_sim.specs.Rig.{halt, halts, with_steppers}
-use Rattle.board_sim.specs.Fair.{IsKept, RiseFrom, only}
+use Rattle.board_sim.specs.Fair.{IsFairSofar, GroupsRiseFrom, only}
 use Rattle.board_sim.proofs.Bound.{same_or_not}
 use Rattle.board_sim.proofs.Keeps.{slots_at}
 use Rattle.board_sim.proofs.Steps.{only-append, rise_from}
@@ -27,9 +27,9 @@ pub record QueueMoves (oid now later : ℕ) (q r : Pending) (ps : List Pulse) : 
   pub free : r.halted ≡ false → (q.halted ≡ false) × (dropped ≡ []) × (end_of r.last r.groups ≡ end_of q.last q.groups)
   pub stays : q.halted ≡ true → r.halted ≡ true
   pub empty : (q.halted ≡ true → q.groups ≡ []) → r.halted ≡ true → r.groups ≡ []
-  pub rises : RiseFrom now q.groups → RiseFrom later r.groups
+  pub rises : GroupsRiseFrom now q.groups → GroupsRiseFrom later r.groups
   pub few : (x : ℕ) → ends_from x r.groups ≤ ends_from x q.groups
-  pub between : RiseFrom now q.groups → AreBetween now later ps
+  pub between : GroupsRiseFrom now q.groups → AreBetween now later ps
 
 -- and what stands at its place, where there may be none
 abbrev pub SlotMoves : ℕ → ℕ → ℕ → Option Pending → Option Pending → List Pulse → Type 0
@@ -179,7 +179,7 @@ halts_move false bound b = board_stays b
 halts_move true bound b = halt_moves bound b
 
 -- a board runs on
-on_moves : (b : Controller) (t : ℕ) (made meant : List Pulse) → b.state ≡ Running → b.tick ≤ t → IsKept b made meant → BoardMoves b (passes_on Running b t).board (passes_on Running b t).pulses
+on_moves : (b : Controller) (t : ℕ) (made meant : List Pulse) → b.state ≡ Running → b.tick ≤ t → IsFairSofar b made meant → BoardMoves b (passes_on Running b t).board (passes_on Running b t).pulses
 on_moves b t made meant running h k = record {
   state = refl;
   slots = refl;
@@ -192,7 +192,7 @@ on_moves b t made meant running h k = record {
       rw (slots_at t oid b.steppers, is) (slot_runs oid b.tick t (stepper_at b oid));
 }
 
-pub board_runs_on : (b : Controller) (t : ℕ) (made meant : List Pulse) → b.state ≡ Running → IsKept b made meant → BoardMoves b (board.passes b t).board (board.passes b t).pulses
+pub board_runs_on : (b : Controller) (t : ℕ) (made meant : List Pulse) → b.state ≡ Running → IsFairSofar b made meant → BoardMoves b (board.passes b t).board (board.passes b t).pulses
 board_runs_on b t made meant running k =
     elim (leb_tells b.tick t) [
       | inl p ↦

@@ -12,9 +12,9 @@ use Rattle.board_trig.specs.Trigger as trig
 use Rattle.msg_code.specs.declared.cmd.Cmd.{Cmd}
 use Rattle.msg_code.specs.declared.cmd.Cmd.TheVariants as cmd
 use Rattle.board_sim.specs.Board.{stepper_at}
-use Rattle.board_sim.specs.Rig.{Rig, Slot, slot_at, levels_of, becomes, make_trigger, make_endstop, start, expires_at_once, set_timeout, trigger, bind, home, acts, acts_running, takes, earliest, runs_to, rests_to, happens_to, happens, goes_on, at_of, passes_by, pass, passes, all_left}
+use Rattle.board_sim.specs.Rig.{Rig, Slot, slot_at, levels_of, becomes, make_trigger, make_endstop, start_trigger, expires_at_once, set_timeout, trigger, bind, home, acts, acts_running, takes, earliest_moment, runs_to, rests_to, happens_to, happens_at, goes_on, at_of, passes_by, pass, passes, all_left}
 use Rattle.board_sim.specs.Rig as rig
-use Rattle.board_sim.specs.Fair.{IsKept}
+use Rattle.board_sim.specs.Fair.{IsFairSofar}
 use Rattle.board_sim.specs.Halted.{KeptPart}
 use Rattle.board_sim.proofs.HaltedTime.{halts_keep, whole_part}
 use Rattle.board_sim.proofs.Keeps.{pass_keeps}
@@ -31,7 +31,7 @@ endstop_moves : (r : Rig) (oid pin : ℕ) (o : Option ℕ) → BoardMoves r.cont
 endstop_moves r oid pin None = board_stays r.controller
 endstop_moves r oid pin (Some p) = board_stays r.controller
 
-start_moves : (r : Rig) (oid : ℕ) (o : Option Slot) (clock every reason : ℕ) → BoardMoves r.controller (start r oid o clock every reason).controller []
+start_moves : (r : Rig) (oid : ℕ) (o : Option Slot) (clock every reason : ℕ) → BoardMoves r.controller (start_trigger r oid o clock every reason).controller []
 start_moves r oid None clock every reason = board_stays r.controller
 start_moves r oid (Some s) clock every reason = becomes_moves r oid s (trig.started r.controller.tick clock every reason s.trigger)
 
@@ -93,16 +93,16 @@ happens_moves : (r : Rig) (t oid : ℕ) (o : Option Slot) → BoardMoves r.contr
 happens_moves r t oid None = board_stays r.controller
 happens_moves r t oid (Some s) = becomes_moves r oid s (trig.advanced (levels_of r s.pin) t s.trigger).trigger
 
-happens_kept : (r : Rig) (t oid : ℕ) (o : Option Slot) (made meant : List Pulse) → IsKept r.controller made meant → KeptPart (happens_to r t oid o).rig.controller made meant
+happens_kept : (r : Rig) (t oid : ℕ) (o : Option Slot) (made meant : List Pulse) → IsFairSofar r.controller made meant → KeptPart (happens_to r t oid o).rig.controller made meant
 happens_kept r t oid None made meant k = whole_part r.controller made meant k
 happens_kept r t oid (Some s) made meant k = halts_keep (s.trigger.can && not (trig.advanced (levels_of r s.pin) t s.trigger).trigger.can) s.bound r.controller made meant k
 
 abbrev Moves : Rig → rig.Passed → Type 0
 Moves r p = BoardMoves r.controller p.rig.controller p.pulses
 
-goes_moves : (o : Option (ℕ × ℕ)) (r : Rig) (t : ℕ) (rest : rig.Passed) (made meant : List Pulse) → r.controller.state ≡ Running → IsKept r.controller made meant
-    → ((happens r t (at_of o)).rig.controller.state ≡ Running → (ms ns : List Pulse) → IsKept (happens r t (at_of o)).rig.controller ms ns → Moves (happens r t (at_of o)).rig rest)
-    → Moves r (goes_on o (rests_to r t) (passes_by (happens r t (at_of o)) rest))
+goes_moves : (o : Option (ℕ × ℕ)) (r : Rig) (t : ℕ) (rest : rig.Passed) (made meant : List Pulse) → r.controller.state ≡ Running → IsFairSofar r.controller made meant
+    → ((happens_at r t (at_of o)).rig.controller.state ≡ Running → (ms ns : List Pulse) → IsFairSofar (happens_at r t (at_of o)).rig.controller ms ns → Moves (happens_at r t (at_of o)).rig rest)
+    → Moves r (goes_on o (rests_to r t) (passes_by (happens_at r t (at_of o)) rest))
 goes_moves None r t rest made meant running k more = board_runs_on r.controller t made meant running k
 goes_moves (Some at) r t rest made meant running k more =
     let ran = runs_to r (at.0 / 3) in
@@ -114,15 +114,15 @@ goes_moves (Some at) r t rest made meant running k more =
     let later = more (second.state ∙ first.state ∙ running) (made ++ ran.pulses) part.kept part.is in
     board_both r.controller ran.rig.controller rest.rig.controller ran.pulses rest.pulses first (board_both ran.rig.controller done.controller rest.rig.controller [] rest.pulses second later)
 
-steps_move : (n : ℕ) (r : Rig) (t : ℕ) (made meant : List Pulse) → r.controller.state ≡ Running → IsKept r.controller made meant → Moves r (pass n r t)
+steps_move : (n : ℕ) (r : Rig) (t : ℕ) (made meant : List Pulse) → r.controller.state ≡ Running → IsFairSofar r.controller made meant → Moves r (pass n r t)
 steps_move zero r t made meant running k = board_stays r.controller
 steps_move (suc n) r t made meant running k =
-    let o = earliest r t 0 r.triggers in
-    let next = (happens r t (at_of o)).rig in
+    let o = earliest_moment r t 0 r.triggers in
+    let next = (happens_at r t (at_of o)).rig in
     goes_moves o r t (pass n next t) made meant running k (λ runs ms ns i. steps_move n next t ms ns runs i)
 
 -- time passes
-pub passes_move : (r : Rig) (t : ℕ) (made meant : List Pulse) → r.controller.state ≡ Running → IsKept r.controller made meant → Moves r (passes r t)
+pub passes_move : (r : Rig) (t : ℕ) (made meant : List Pulse) → r.controller.state ≡ Running → IsFairSofar r.controller made meant → Moves r (passes r t)
 passes_move r t made meant running k =
     elim (leb_tells r.controller.tick t) [
       | inl p ↦ rw p.0 (steps_move (all_left t r.triggers + 1) r t made meant running k)

@@ -12,7 +12,7 @@ use Rattle.board_sim.specs.Board.{Controller, stepper_at}
 use Rattle.board_sim.specs.Rig.{Rig, takes, takes_all}
 use Rattle.board_sim.specs.Fair.{Meant, commands_of, IsFairOn, IsFairCommand, IsFairRunning, AreFair}
 use Rattle.board_world.specs.Shut.{IsRefused, Shuts, ShutBy, WasShut}
-use Rattle.board_world.specs.World.{Core, Step, Do, Turn, takes_in, happens, in_turn, run, AllFair}
+use Rattle.board_world.specs.World.{Core, Step, Do, Turn, takes_in, after_event, in_turn, run_world, AllFair}
 use Rattle.laws_board.specs.sections.Late.{IsIn}
 
 -- the command that shut the board down was fair
@@ -67,20 +67,20 @@ in_more x xs ys zs (before, behind, are) = (
 )
 
 -- what was taken stays taken
-pub taken_more : (steps : List Step) (h : Core) → (more : List Meant) × ((run steps h).taken ≡ h.taken ++ more)
+pub taken_more : (steps : List Step) (h : Core) → (more : List Meant) × ((run_world steps h).taken ≡ h.taken ++ more)
 taken_more [] h = ([], sym (append-nil h.taken))
 taken_more (Do e ∷ steps) h =
-    let rest = taken_more steps (happens h e) in
+    let rest = taken_more steps (after_event h e) in
     (takes_in h e ++ rest.0, rest.1 ∙ append_assoc h.taken (takes_in h e) rest.0)
 taken_more (Turn turn ∷ steps) h = let rest = taken_more steps (in_turn h turn) in (rest.0, rest.1)
 
-pub late_names : (steps : List Step) (h : Core) (tick first : ℕ) → WasShut h steps 1 tick first → AllFair h steps → (m : Meant) × IsIn m (run steps h).taken × Names m tick first
+pub late_names : (steps : List Step) (h : Core) (tick first : ℕ) → WasShut h steps 1 tick first → AllFair h steps → (m : Meant) × IsIn m (run_world steps h).taken × Names m tick first
 late_names [] h tick first w f = absurd w
 late_names (Do e ∷ steps) h tick first (inl s) f =
     let n = shut_names h.board (takes_in h e) tick first s f.0 in
-    let rest = taken_more steps (happens h e) in
+    let rest = taken_more steps (after_event h e) in
     let At : List Meant → Type 0 = λ x. IsIn n.0 x in
     (n.0, subst At (sym rest.1) (in_more n.0 h.taken (takes_in h e) rest.0 n.1), n.2)
 late_names (Turn turn ∷ steps) h tick first (inl s) f = absurd s
-late_names (Do e ∷ steps) h tick first (inr w) f = late_names steps (happens h e) tick first w f.1
+late_names (Do e ∷ steps) h tick first (inr w) f = late_names steps (after_event h e) tick first w f.1
 late_names (Turn turn ∷ steps) h tick first (inr w) f = late_names steps (in_turn h turn) tick first w f.1

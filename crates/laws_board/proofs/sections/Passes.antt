@@ -13,10 +13,10 @@ use Rattle.board_trig.specs.declared.trigger.Trigger.{Trigger}
 use Rattle.board_trig.specs.Trigger as trig
 use Rattle.board_sim.specs.Board.{Controller, Passed, stepper_at, slot_to, slot_before, passes_on}
 use Rattle.board_sim.specs.Board as board
-use Rattle.board_sim.specs.Rig.{Rig, Slot, slot_at, levels_of, becomes, earliest, runs_to, rests_to, happens_to, happens, goes_on, at_of, passes_by, pass, passes, all_left}
+use Rattle.board_sim.specs.Rig.{Rig, Slot, slot_at, levels_of, becomes, earliest_moment, runs_to, rests_to, happens_to, happens_at, goes_on, at_of, passes_by, pass, passes, all_left}
 use Rattle.board_sim.specs.Rig as rig
 use Rattle.board_sim.specs.RigRuns.{has}
-use Rattle.board_sim.specs.Fair.{IsKept, IsKeptIn, IsWhole, SlotRises, pending_at, only}
+use Rattle.board_sim.specs.Fair.{IsFairSofar, IsKeptIn, MakesMeant, SlotRises, pending_at, only}
 use Rattle.board_sim.proofs.Keeps.{pass_keeps, slots_at}
 use Rattle.board_sim.proofs.Sorted.{Up}
 use Rattle.board_sim.proofs.Steps.{only-append, before_up, rise_from, split_groups}
@@ -105,13 +105,13 @@ slot_split oid t (Some q) =
 pub passes_is : (b : Controller) (t : ℕ) → b.state ≡ Running → b.tick ≤ t → board.passes b t ≡ passes_on Running b t
 passes_is b t running h = elim (leb_tells b.tick t) [ inl p ↦ rw p.0 (ap (λ o. passes_on o b t) running) | inr p ↦ absurd (omega (arith, p.1, h)) ]
 
-pub whole_of : (b : Controller) (made meant : List Pulse) → b.state ≡ Running → IsKept b made meant → IsWhole b made meant
+pub whole_of : (b : Controller) (made meant : List Pulse) → b.state ≡ Running → IsFairSofar b made meant → MakesMeant b made meant
 whole_of b made meant running k = let At : BoardState → Type 0 = λ o. IsKeptIn o b made meant in subst At running k
 
-pub made_is : (b : Controller) (t oid : ℕ) (made meant : List Pulse) → b.state ≡ Running → b.tick ≤ t → IsKept b made meant → only oid (board.passes b t).pulses ≡ slot_before oid t (stepper_at b oid)
+pub made_is : (b : Controller) (t oid : ℕ) (made meant : List Pulse) → b.state ≡ Running → b.tick ≤ t → IsFairSofar b made meant → only oid (board.passes b t).pulses ≡ slot_before oid t (stepper_at b oid)
 made_is b t oid made meant running h k =
     let same = passes_is b t running h in
-    let After : Passed → Type 0 = λ x. IsKept x.board (made ++ x.pulses) meant in
+    let After : Passed → Type 0 = λ x. IsFairSofar x.board (made ++ x.pulses) meant in
     let on = passes_on Running b t in
     let w = whole_of b made meant running k in
     let v = whole_of on.board (made ++ on.pulses) meant running (subst After same (pass_keeps b t made meant k)) in
@@ -130,7 +130,7 @@ pub record RanOn (slots : ℕ) (ks : ℕ → Known) (b c : Controller) (ps : Lis
   pub later : b.tick ≤ c.tick
   pub between : (oid : ℕ) → AreBetween b.tick c.tick (only oid ps)
 
-board_runs_on : (slots t : ℕ) (ks : ℕ → Known) (b : Controller) (made meant : List Pulse) → BoardFits b.tick slots ks b → b.tick ≤ t → IsKept b made meant
+board_runs_on : (slots t : ℕ) (ks : ℕ → Known) (b : Controller) (made meant : List Pulse) → BoardFits b.tick slots ks b → b.tick ≤ t → IsFairSofar b made meant
     → RanOn slots ks b (passes_on Running b t).board (passes_on Running b t).pulses
 board_runs_on slots t ks b made meant f h k = record {
   fits = board_passes_on b.tick t slots ks Running b f.running f;
@@ -143,7 +143,7 @@ board_runs_on slots t ks b made meant f h k = record {
       rw is (slot_between oid b.tick t (stepper_at b oid) (w.rises oid));
 }
 
-board_runs : (slots t : ℕ) (ks : ℕ → Known) (b : Controller) (made meant : List Pulse) → BoardFits b.tick slots ks b → IsKept b made meant
+board_runs : (slots t : ℕ) (ks : ℕ → Known) (b : Controller) (made meant : List Pulse) → BoardFits b.tick slots ks b → IsFairSofar b made meant
     → RanOn slots ks b (board.passes b t).board (board.passes b t).pulses
 board_runs slots t ks b made meant f k =
     elim (leb_tells b.tick t) [
@@ -185,10 +185,10 @@ abbrev Runs : ℕ → (ℕ → Known) → Rig → rig.Passed → Type 0
 Runs slots ks r p = RanOn slots ks r.controller p.rig.controller p.pulses
 
 goes_runs : (o : Option (ℕ × ℕ)) (slots : ℕ) (ks : ℕ → Known) (r : Rig) (t : ℕ) (rest : rig.Passed) (made meant : List Pulse) → IsFree r → BoardFits r.controller.tick slots ks r.controller
-    → IsKept r.controller made meant
-    → (IsFree (happens r t (at_of o)).rig → BoardFits (happens r t (at_of o)).rig.controller.tick slots ks (happens r t (at_of o)).rig.controller
-    → ((ms : List Pulse) → IsKept (happens r t (at_of o)).rig.controller ms meant → Runs slots ks (happens r t (at_of o)).rig rest))
-    → Runs slots ks r (goes_on o (rests_to r t) (passes_by (happens r t (at_of o)) rest))
+    → IsFairSofar r.controller made meant
+    → (IsFree (happens_at r t (at_of o)).rig → BoardFits (happens_at r t (at_of o)).rig.controller.tick slots ks (happens_at r t (at_of o)).rig.controller
+    → ((ms : List Pulse) → IsFairSofar (happens_at r t (at_of o)).rig.controller ms meant → Runs slots ks (happens_at r t (at_of o)).rig rest))
+    → Runs slots ks r (goes_on o (rests_to r t) (passes_by (happens_at r t (at_of o)) rest))
 goes_runs None slots ks r t rest made meant free f k more = board_runs slots t ks r.controller made meant f k
 goes_runs (Some at) slots ks r t rest made meant free f k more =
     let ran = runs_to r (at.0 / 3) in
@@ -198,20 +198,20 @@ goes_runs (Some at) slots ks r t rest made meant free f k more =
     let kept = pass_keeps r.controller (at.0 / 3) made meant k in
     let same : done.controller ≡ ran.rig.controller = happens_same ran.rig t at.1 o free refl in
     let Fits : Controller → Type 0 = λ b. BoardFits b.tick slots ks b in
-    let Kept : Controller → Type 0 = λ b. IsKept b (made ++ ran.pulses) meant in
+    let Kept : Controller → Type 0 = λ b. IsFairSofar b (made ++ ran.pulses) meant in
     let Then : Controller → Type 0 = λ b. RanOn slots ks b rest.rig.controller rest.pulses in
     let later = more (happens_free ran.rig t at.1 o refl free) (subst Fits (sym same) first.fits) (made ++ ran.pulses) (subst Kept (sym same) kept) in
     ran_both slots ks r.controller ran.rig.controller rest.rig.controller ran.pulses rest.pulses first (subst Then same later)
 
-steps_run : (n slots : ℕ) (ks : ℕ → Known) (r : Rig) (t : ℕ) (made meant : List Pulse) → IsFree r → BoardFits r.controller.tick slots ks r.controller → IsKept r.controller made meant
+steps_run : (n slots : ℕ) (ks : ℕ → Known) (r : Rig) (t : ℕ) (made meant : List Pulse) → IsFree r → BoardFits r.controller.tick slots ks r.controller → IsFairSofar r.controller made meant
     → Runs slots ks r (pass n r t)
 steps_run zero slots ks r t made meant free f k = record { fits = f; later = omega arith; between = λ oid. tt }
 steps_run (suc n) slots ks r t made meant free f k =
-    let o = earliest r t 0 r.triggers in
-    let next = (happens r t (at_of o)).rig in
+    let o = earliest_moment r t 0 r.triggers in
+    let next = (happens_at r t (at_of o)).rig in
     goes_runs o slots ks r t (pass n next t) made meant free f k (λ g h ms i. steps_run n slots ks next t ms meant g h i)
 
-pub rig_runs : (slots : ℕ) (ks : ℕ → Known) (r : Rig) (t : ℕ) (made meant : List Pulse) → IsFree r → BoardFits r.controller.tick slots ks r.controller → IsKept r.controller made meant
+pub rig_runs : (slots : ℕ) (ks : ℕ → Known) (r : Rig) (t : ℕ) (made meant : List Pulse) → IsFree r → BoardFits r.controller.tick slots ks r.controller → IsFairSofar r.controller made meant
     → Runs slots ks r (passes r t)
 rig_runs slots ks r t made meant free f k =
     elim (leb_tells r.controller.tick t) [

@@ -9,7 +9,7 @@ use Rattle.link_work.specs.Turn.{Orders}
 use Rattle.section_units.specs.Sections.{AreBefore, AreReleased, BoardSection, IsSection, base_of, of_stepper, section_steps}
 use Rattle.laws_board.specs.sections.Events.{AreTicks}
 use Rattle.laws_board.specs.sections.Homes.{AreOut, AreOutBy, RunSection}
-use Rattle.laws_board.specs.sections.Parts.{AreInARow, AreTracked, IsRun}
+use Rattle.laws_board.specs.sections.Parts.{AreInARow, AreTracked, IsBoardRun}
 use Rattle.laws_board.specs.sections.Runs.{AreSpilled, IsSpilled}
 use Rattle.laws_board.proofs.sections.Entering.{all_inside, begun_inside, early_fits}
 use Rattle.laws_board.proofs.sections.Waiting.{AreInside, Frame}
@@ -55,6 +55,6 @@ out_before few turns [] low s = tt
 out_before few turns (x ∷ ss) low s = (λ moves. out_sooner few turns x.section.end x.section.releases low (s.0 moves), out_before few turns ss low s.1)
 
 -- of a run
-pub run_released : (own : ℕ → ℕ) (clocks : Clocks) (freq slots ready n turns turn : ℕ) (ss : List BoardSection) (os : List Orders) → AreTicks own → IsRun own clocks freq slots ready ss os → AreSpilled turns n ss → turn ≤ turns → All (λ s. s.end + n < turn) ss
+pub run_released : (own : ℕ → ℕ) (clocks : Clocks) (freq slots ready n turns turn : ℕ) (ss : List BoardSection) (os : List Orders) → AreTicks own → IsBoardRun own clocks freq slots ready ss os → AreSpilled turns n ss → turn ≤ turns → All (λ s. s.end + n < turn) ss
     → AreReleased turn ss
 run_released own clocks freq slots ready n turns turn ss os ticks r s within h = released_by own clocks freq slots ready ready n turns turn ss ticks r.tracked (omega arith) r.sections r.row s within h

@@ -21,7 +21,7 @@ use Rattle.step_feed.proofs.Counts.{count_bounds}
 use Rattle.step_feed.proofs.Rings.{one-most}
 use Rattle.step_feed.specs.Pacing.{Release, ArePaced, IsReleased, bytes_in, pending, units_of}
 use Rattle.section_units.specs.Sections.{IsSection, IsUnit, AreBegun, of_stepper, section_steps, BoardSection}
-use Rattle.laws_board.specs.sections.Parts.{IsRun}
+use Rattle.laws_board.specs.sections.Parts.{IsBoardRun}
 use Rattle.clock_line.proofs.Turns.{tick-turn}
 use Rattle.laws_board.specs.sections.Sample.{sample_clock, sample_line, sample_clocks, sample_steps, sample_unit, sample_releases, sample_section}
 
@@ -232,7 +232,7 @@ own_at k = exact 0 16_000_000 k ∙ line_at k
 line_tick : (k : ℕ) → lines_tick sample_clocks (k * turn_ns) ≡ k * 16_000
 line_tick k = let here = line_at k in omega (arith, here)
 
-pub is_run : IsRun (board_tick sample_clock) sample_clocks 16_000_000 1_024 1_000 (sample_section ∷ []) []
+pub is_run : IsBoardRun (board_tick sample_clock) sample_clocks 16_000_000 1_024 1_000 (sample_section ∷ []) []
 is_run =
     let P : BoardSection → Type 0 = λ s. IsSection sample_clocks 16_000_000 1_024 s in
     record {

@@ -16,7 +16,7 @@ use Rattle.msg_code.specs.Units.{reset_commands, dir_commands, step_command}
 use Rattle.board_sim.specs.Board.{new_controller}
 use Rattle.board_sim.specs.Fair.{Meant}
 use Rattle.board_world.specs.Orders.{plain, unit_orders, units_orders}
-use Rattle.board_world.specs.World.{Step, run, start}
+use Rattle.board_world.specs.World.{Step, run_world, new_world}
 use Rattle.board_world.proofs.Causes.{was_shut}
 use Rattle.step_feed.specs.Units.{StepUnit}
 use Rattle.step_feed.specs.Pacing.{Release, batch_at, units_of}
@@ -166,13 +166,13 @@ begun_by true clocks freq slots until stops s i oid = begun_tell true clocks (ba
 begun_by false clocks freq slots until stops s i oid = begun_tell false clocks (base_of clocks s) (of_stepper oid (units_of s.releases)) (i.is.begun oid)
 
 pub late_unit : (b : BoardDef) (pins : List (List Level)) (own : ℕ → ℕ) (clocks : Clocks) (ready : ℕ) (stops : ℕ → Option ℕ) (ss : List RunSection) (os : List Orders) (steps : List Step) (tick first : ℕ)
-    → IsHomeRun own clocks b.freq b.slots ready stops ss os → IsGoodRun b pins own stops os steps → (run steps (start b pins)).board.controller.state ≡ Shut 1 tick first → IsLateUnit (map (λ s. s.section) ss) tick first
+    → IsHomeRun own clocks b.freq b.slots ready stops ss os → IsGoodRun b pins own stops os steps → (run_world steps (new_world b pins)).board.controller.state ≡ Shut 1 tick first → IsLateUnit (map (λ s. s.section) ss) tick first
 unfolding new_controller
 late_unit b pins own clocks ready stops ss os steps tick first home r shut =
-    let h = run steps (start b pins) in
+    let h = run_world steps (new_world b pins) in
     let until = home.tracked.until in
     let P : RunSection → Type 0 = λ s. IsSectionBy s.homes clocks b.freq b.slots until stops s.section in
-    let n = late_names steps (start b pins) tick first (was_shut steps (start b pins) 1 tick first refl shut) (all_fair b pins own stops os steps r) in
+    let n = late_names steps (new_world b pins) tick first (was_shut steps (new_world b pins) 1 tick first refl shut) (all_fair b pins own stops os steps r) in
     let m = n.0 in
     let k = (at_end b pins own stops os steps r).1 in
     let long = length h.link.taken in

@@ -7,7 +7,7 @@ use Rattle.msg_code.specs.declared.cmd.Cmd.TheVariants as cmd
 use Rattle.board_sim.specs.Fair.{Meant}
 use Rattle.link_work.specs.Turn.{Orders}
 use Rattle.link_work.specs.Runs.{queued_in}
-use Rattle.laws_board.specs.sections.Known.{AreQueued, Sent, sent_at, sent_in, orders_in, Known, unknown, knows, knows_of, known_from, known, AreBelow, IsGoodFor, AreGoodFrom, IsLostFor, BeginLost}
+use Rattle.laws_board.specs.sections.Known.{AreQueued, Sent, sent_at, sent_in, orders_sent, Known, unknown, knows, knows_of, known_from, known_steppers, AreBelow, IsGoodFor, AreGoodFrom, IsLostFor, BeginLost}
 use Rattle.laws_board.specs.sections.Timely.{AreTimely}
 use Rattle.laws_board.proofs.sections.Counts.{last_any}
 use Rattle.laws_board.proofs.sections.Entering.{first_last}
@@ -128,16 +128,16 @@ last_behind own n [] ts a = a
 last_behind own n (s ∷ ss) ts a = last_behind own n ss ts a.1
 
 -- they are timely, and so are those that begin with a late one
-pub last_timely : (own : ℕ → ℕ) → ((k : ℕ) → own k ≤ own (k + 1)) → (n low turn : ℕ) (ss : List Sent) → AllLast own n ss → AreSince low ss → turn ≤ low + n + 1 → AreTimely (own turn) (orders_in ss)
+pub last_timely : (own : ℕ → ℕ) → ((k : ℕ) → own k ≤ own (k + 1)) → (n low turn : ℕ) (ss : List Sent) → AllLast own n ss → AreSince low ss → turn ≤ low + n + 1 → AreTimely (own turn) (orders_sent ss)
 last_timely own up n low turn [] a b h = tt
 last_timely own up n low turn (s ∷ ss) a b h =
     (one_before (own turn) (own (s.turn + n + 1)) s.order.command s.order.ticks (own_up own up turn (s.turn + n + 1) (omega (arith, b.0, h))) a.0, last_timely own up n low turn ss a.1 b.1 h)
 
-past_timely : (own : ℕ → ℕ) → ((k : ℕ) → own k ≤ own (k + 1)) → (n low turn : ℕ) (ss : List Sent) → BeginPast own n ss → AreSince low ss → turn ≤ low + n + 1 → AreTimely (own turn) (orders_in ss)
+past_timely : (own : ℕ → ℕ) → ((k : ℕ) → own k ≤ own (k + 1)) → (n low turn : ℕ) (ss : List Sent) → BeginPast own n ss → AreSince low ss → turn ≤ low + n + 1 → AreTimely (own turn) (orders_sent ss)
 past_timely own up n low turn [] a b h = tt
 past_timely own up n low turn (s ∷ ss) a b h =
     let up_to = own_up own up turn (s.turn + n + 1) (omega (arith, b.0, h)) in
-    (one_before (own turn) (own (s.turn + n + 1)) s.order.command s.order.ticks up_to a.1, all_before (own turn) (own (s.turn + n + 1)) (orders_in ss) up_to a.2)
+    (one_before (own turn) (own (s.turn + n + 1)) s.order.command s.order.ticks up_to a.1, all_before (own turn) (own (s.turn + n + 1)) (orders_sent ss) up_to a.2)
 
 lost_past : (own : ℕ → ℕ) (turn : ℕ) (ks : ℕ → Known) (c : Cmd) (ticks : List ℕ) → IsLostFor own turn ks c ticks → IsPast own turn c ticks
 lost_past own turn ks (cmd.QueueStep other interval count add) ticks l = l.0
@@ -149,17 +149,17 @@ pub record IsTimed (own : ℕ → ℕ) (slots n : ℕ) (sent : List Sent) : Type
   pub tail : List Sent
   pub is : front ++ tail ≡ sent
   pub good : (oid : ℕ) → AreGoodFrom own slots oid unknown front
-  pub lost : BeginLost own slots (known front) tail
+  pub lost : BeginLost own slots (known_steppers front) tail
   pub last : AllLast own n front
   pub past : BeginPast own n tail
 
 within_front : (own : ℕ → ℕ) → ((k : ℕ) → own k ≤ own (k + 1)) → (slots n : ℕ) (sent front tail m rest : List Sent) → sent ≡ front ++ tail → AreSorted sent → ((oid : ℕ) → AreGoodFrom own slots oid unknown (front ++ m))
-    → BeginLost own slots (known (front ++ m)) rest → tail ≡ m ++ rest → AllLast own n front → BeginPast own n tail → (x : IsTimed own slots n sent) × (x.front ≡ front)
+    → BeginLost own slots (known_steppers (front ++ m)) rest → tail ≡ m ++ rest → AllLast own n front → BeginPast own n tail → (x : IsTimed own slots n sent) × (x.front ≡ front)
 within_front own up slots n sent front tail [] rest is sorted good lost same last past =
     let none : front ++ [] ≡ front = append-nil front in
     let Good : List Sent → Type 0 = λ x. (oid : ℕ) → AreGoodFrom own slots oid unknown x in
-    let Lost : List Sent → Type 0 = λ x. BeginLost own slots (known x) tail in
-    let Tail : List Sent → Type 0 = λ x. BeginLost own slots (known (front ++ [])) x in
+    let Lost : List Sent → Type 0 = λ x. BeginLost own slots (known_steppers x) tail in
+    let Tail : List Sent → Type 0 = λ x. BeginLost own slots (known_steppers (front ++ [])) x in
     (record { front = front; tail = tail; is = sym is; good = subst Good none good; lost = subst Lost none (subst Tail (sym same) lost); last = last; past = past }, refl)
 within_front own up slots n sent front tail (s ∷ m) rest is sorted good lost same last past =
     let At : List Sent → Type 0 = λ x. BeginPast own n x in
@@ -174,19 +174,19 @@ within_front own up slots n sent front tail (s ∷ m) rest is sorted good lost s
         tail = s ∷ (m ++ rest);
         is = sym whole;
         good = first;
-        lost = (one, past_lost own slots s.turn (known front) s.order.command s.order.ticks one (λ oid. keeps_ends own up slots oid s.turn unknown front (first oid) to tt) late.0);
+        lost = (one, past_lost own slots s.turn (known_steppers front) s.order.command s.order.ticks one (λ oid. keeps_ends own up slots oid s.turn unknown front (first oid) to tt) late.0);
         last = last;
         past = late;
       },
       refl,
     )
 
-pub timed : (own : ℕ → ℕ) → ((k : ℕ) → own k ≤ own (k + 1)) → (slots n : ℕ) (os : List Orders) (front tail : List Sent) → sent_in 0 os ≡ front ++ tail → ((oid : ℕ) → AreGoodFrom own slots oid unknown front) → BeginLost own slots (known front) tail
+pub timed : (own : ℕ → ℕ) → ((k : ℕ) → own k ≤ own (k + 1)) → (slots n : ℕ) (os : List Orders) (front tail : List Sent) → sent_in 0 os ≡ front ++ tail → ((oid : ℕ) → AreGoodFrom own slots oid unknown front) → BeginLost own slots (known_steppers front) tail
     → (c : IsCut own n (sent_in 0 os)) → (x : IsTimed own slots n (sent_in 0 os)) × (length x.front ≤ length c.front)
 timed own up slots n os front tail is good lost c = elim (cuts c.front c.tail front tail (sym c.is ∙ is)) [
   | inl p ↦
       let Good : List Sent → Type 0 = λ x. (oid : ℕ) → AreGoodFrom own slots oid unknown x in
-      let Lost : List Sent → Type 0 = λ x. BeginLost own slots (known x) tail in
+      let Lost : List Sent → Type 0 = λ x. BeginLost own slots (known_steppers x) tail in
       let x = within_front own up slots n (sent_in 0 os) c.front c.tail p.0 tail c.is (sorted_in 0 os) (subst Good p.1 good) (subst Lost p.1 lost) p.2 c.last c.past in
       (x.0, (let size = ap length x.1 in omega (arith, size)))
   | inr p ↦
@@ -196,14 +196,14 @@ timed own up slots n os front tail is good lost c = elim (cuts c.front c.tail fr
       let whole : sent_in 0 os ≡ front ++ s ∷ rest = is ∙ ap (λ x. front ++ x) p.3 in
       let Sorted : List Sent → Type 0 = λ x. AreSorted x in
       let Last : List Sent → Type 0 = λ x. AllLast own n x in
-      let Lost : List Sent → Type 0 = λ x. BeginLost own slots (known front) x in
+      let Lost : List Sent → Type 0 = λ x. BeginLost own slots (known_steppers front) x in
       let Timely : List Meant → Type 0 = λ x. AreTimely (own (s.turn + n + 1)) x in
       let since = since_here front s rest (subst Sorted whole (sorted_in 0 os)) in
       let last = subst Last p.2 c.last in
       let mine = last_behind own n front (s ∷ m) last in
       let late = subst Lost p.3 lost in
       let t = s.turn + n + 1 in
-      let timely = timely_append (own t) (orders_in m) (orders_in c.tail) (last_timely own up n s.turn t m mine.1 (since_front s.turn m c.tail since) (omega arith))
+      let timely = timely_append (own t) (orders_sent m) (orders_sent c.tail) (last_timely own up n s.turn t m mine.1 (since_front s.turn m c.tail since) (omega arith))
       (past_timely own up n s.turn t c.tail c.past (since_behind s.turn m c.tail since) (omega arith)) in (
         record {
           front = front;
@@ -212,7 +212,7 @@ timed own up slots n os front tail is good lost c = elim (cuts c.front c.tail fr
           good = good;
           lost = late;
           last = last_front own n front (s ∷ m) last;
-          past = (lost_past own s.turn (known front) s.order.command s.order.ticks late.1, mine.0, subst Timely (sym (orders_append m c.tail)) timely);
+          past = (lost_past own s.turn (known_steppers front) s.order.command s.order.ticks late.1, mine.0, subst Timely (sym (orders_append m c.tail)) timely);
         },
         (let size = ap length p.2 in let both = length-append front (s ∷ m) in omega (arith, size, both)),
       )

@@ -7,7 +7,7 @@ use Rattle.board_sim.specs.Fair.{Meant}
 use Rattle.board_world.specs.declared.event.Event.{Event}
 use Rattle.board_world.specs.declared.event.Event.TheVariants.{Put, Control, Arrive, Repeat, Pass}
 use Rattle.board_world.specs.Stands.{IsOrdered}
-use Rattle.board_world.specs.World.{Core, Step, Do, Turn, takes_in, orders_of, happens, in_turn, run}
+use Rattle.board_world.specs.World.{Core, Step, Do, Turn, takes_in, orders_of, after_event, in_turn, run_world}
 use Rattle.board_world.proofs.Runs.{ordered_by, ordered_turn}
 use Rattle.link_work.proofs.Steps.{tick_held}
 use Rattle.laws_board.specs.sections.Events.{AreQuiet}
@@ -46,7 +46,7 @@ pub record IsSoon (t : ℕ) (first all : List Meant) (h : Core) : Type 0 where
 -- the commands that are taken next are among the others
 next_timely : (t : ℕ) (first others all : List Meant) (h : Core) (e : Event) → IsSoon t first all h → all ≡ first ++ others → AreTimely t others → orders_of e ≡ [] → AreTimely h.board.controller.tick (takes_in h e)
 next_timely t first others all h e k cut timely none =
-    let g = happens h e in
+    let g = after_event h e in
     let o = ordered_by h e k.ordered in
     let n = length g.link.taken in
     let later = drop n g.queued in
@@ -60,7 +60,7 @@ next_timely t first others all h e k cut timely none =
     all_before h.board.controller.tick t (takes_in h e) k.tick (part_front t (takes_in h e) (later ++ k.rest) (part_behind t k.more (takes_in h e ++ (later ++ k.rest)) (subst At (sym is) timely)))
 
 -- a step that queues nothing and lets no time pass keeps this
-event_soon : (t : ℕ) (first all : List Meant) (h : Core) (e : Event) → IsSoon t first all h → orders_of e ≡ [] → (happens h e).board.controller.tick ≡ h.board.controller.tick → IsSoon t first all (happens h e)
+event_soon : (t : ℕ) (first all : List Meant) (h : Core) (e : Event) → IsSoon t first all h → orders_of e ≡ [] → (after_event h e).board.controller.tick ≡ h.board.controller.tick → IsSoon t first all (after_event h e)
 event_soon t first all h e k none tick = record {
   ordered = ordered_by h e k.ordered;
   more = k.more ++ takes_in h e;
@@ -71,7 +71,7 @@ event_soon t first all h e k none tick = record {
 }
 
 pub quiet_soon : (t : ℕ) (first others all : List Meant) (steps : List Step) (h : Core) → AreQuiet steps → IsSoon t first all h → all ≡ first ++ others → AreTimely t others
-    → AllTimely h steps × IsSoon t first all (run steps h)
+    → AllTimely h steps × IsSoon t first all (run_world steps h)
 quiet_soon t first others all [] h q k cut timely = (tt, k)
 quiet_soon t first others all (Turn n ∷ steps) h q k cut timely =
     let next : IsSoon t first all (in_turn h n) = record { ordered = ordered_turn h n k.ordered; more = k.more; took = k.took; rest = k.rest; all_is = k.all_is; tick = k.tick } in
@@ -81,11 +81,11 @@ quiet_soon t first others all (Do (Put b) ∷ steps) h q k cut timely = absurd q
 quiet_soon t first others all (Do (Control c) ∷ steps) h q k cut timely = absurd q.0
 quiet_soon t first others all (Do (Pass u) ∷ steps) h q k cut timely = absurd q.0
 quiet_soon t first others all (Do Arrive ∷ steps) h q k cut timely =
-    let r = quiet_soon t first others all steps (happens h Arrive) q.1 (event_soon t first all h Arrive k refl (tick_held (Do Arrive ∷ []) h (tt, tt))) cut timely in
+    let r = quiet_soon t first others all steps (after_event h Arrive) q.1 (event_soon t first all h Arrive k refl (tick_held (Do Arrive ∷ []) h (tt, tt))) cut timely in
     ((λ on. next_timely t first others all h Arrive k cut timely refl, r.0), r.1)
 quiet_soon t first others all (Do Repeat ∷ steps) h q k cut timely =
-    let r = quiet_soon t first others all steps (happens h Repeat) q.1 (event_soon t first all h Repeat k refl (tick_held (Do Repeat ∷ []) h (tt, tt))) cut timely in
+    let r = quiet_soon t first others all steps (after_event h Repeat) q.1 (event_soon t first all h Repeat k refl (tick_held (Do Repeat ∷ []) h (tt, tt))) cut timely in
     ((λ on. next_timely t first others all h Repeat k cut timely refl, r.0), r.1)
 quiet_soon t first others all (Do e ∷ steps) h q k cut timely =
-    let r = quiet_soon t first others all steps (happens h e) q.1 (event_soon t first all h e k refl refl) cut timely in
+    let r = quiet_soon t first others all steps (after_event h e) q.1 (event_soon t first all h e k refl refl) cut timely in
     ((λ on. tt, r.0), r.1)

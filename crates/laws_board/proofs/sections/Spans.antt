@@ -14,7 +14,7 @@ use Rattle.board_world.specs.World.{Core}
 use Rattle.link_work.specs.Turn.{Orders}
 use Rattle.link_work.specs.Runs.{queued_in}
 use Rattle.laws_board.specs.sections.Events.{AreTicks}
-use Rattle.laws_board.specs.sections.Known.{Sent, sent_at, sent_in, unknown, known_from, known}
+use Rattle.laws_board.specs.sections.Known.{Sent, sent_at, sent_in, unknown, known_from, known_steppers}
 use Rattle.section_units.specs.Sections.{BoardSection, base_of, IsSection, section_steps}
 use Rattle.laws_board.specs.sections.Parts.{AreTracked}
 use Rattle.laws_board.specs.sections.Runs.{Begins}
@@ -31,11 +31,11 @@ abbrev pub plan_of : (b : BoardDef) (own : ℕ → ℕ) (sent : List Sent) (ss :
 plan_of b own sent ss n ticks x = record { own = own; slots = b.slots; front = x.front; tail = x.tail; up = ticks_up own ticks; good = x.good; lost = x.lost }
 
 -- of each stepper the steps that are meant are a front of those of the sections, in order
-pub meant_front : (p : Plan) (turn : ℕ) (sent : List Sent) (h : Core) → Holds p turn sent h → (oid : ℕ) → IsFront (only oid h.meant) (known p.front oid).steps
+pub meant_front : (p : Plan) (turn : ℕ) (sent : List Sent) (h : Core) → Holds p turn sent h → (oid : ℕ) → IsFront (only oid h.meant) (known_steppers p.front oid).steps
 meant_front p turn sent h k oid = elim k.state [
   | inl r ↦
-      let e : known p.front oid ≡ known_from oid (known r.done oid) r.more = ap (λ x. known x oid) (sym r.front_is) ∙ known_append oid unknown r.done r.more in
-      rw (r.meant oid, e) (all_grow oid (known r.done oid) r.more)
+      let e : known_steppers p.front oid ≡ known_from oid (known_steppers r.done oid) r.more = ap (λ x. known_steppers x oid) (sym r.front_is) ∙ known_append oid unknown r.done r.more in
+      rw (r.meant oid, e) (all_grow oid (known_steppers r.done oid) r.more)
   | inr e ↦ e.meant oid
 ]
 

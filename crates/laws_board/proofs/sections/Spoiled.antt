@@ -10,11 +10,11 @@ use Rattle.plan_types.specs.declared.levels.Level.{Level}
 use Rattle.wire_scene.specs.declared.scene.Entry.{Entry}
 use Rattle.board_sim.specs.Fair.{Meant}
 use Rattle.board_world.specs.World.{Core}
-use Rattle.link_work.specs.Ends.{EndSo, Ended, last_of, spoiled}
+use Rattle.link_work.specs.Ends.{EndSo, Ended, last_link, spoiled}
 use Rattle.link_work.specs.Limits.{AllKeepLimits}
 use Rattle.link_work.specs.Runs.{queued_in}
 use Rattle.link_work.specs.Stands.{first_state}
-use Rattle.link_work.specs.Taking.{place_of}
+use Rattle.link_work.specs.Taking.{command_place}
 use Rattle.link_work.specs.Turn.{IsTurn, LinkState, Orders}
 use Rattle.link_work.proofs.Late.{late_command, limits_first, limits_split, ordered_after}
 use Rattle.laws_board.specs.sections.Events.{AreOwn}
@@ -37,17 +37,17 @@ take_all (x ∷ xs) ys = ap (λ z. x ∷ z) (take_all xs ys)
 -- what is queued in one more turn is taken
 one_taken : (b : BoardDef) (pins : List (List Level)) (board : ℕ) (entries : List Entry) (clock : BoardClock) (n : ℕ) (before after : List Orders) (o : Orders) (ends : List Ended)
     → AllKeepLimits (before ++ o ∷ []) → EndSo clock 0 (before ++ o ∷ after) (first_state b pins board entries) ends → spoiled ends ≤ n → n ≤ length after
-    → length (flat_map queued_in before) ≤ length (last_of (first_state b pins board entries) ends).core.taken
-    → length (flat_map queued_in (before ++ o ∷ [])) ≤ length (last_of (first_state b pins board entries) ends).core.taken
+    → length (flat_map queued_in before) ≤ length (last_link (first_state b pins board entries) ends).core.taken
+    → length (flat_map queued_in (before ++ o ∷ [])) ≤ length (last_link (first_state b pins board entries) ends).core.taken
 one_taken b pins board entries clock n before after o ends limits e few room sofar =
-    let taken = (last_of (first_state b pins board entries) ends).core.taken in
+    let taken = (last_link (first_state b pins board entries) ends).core.taken in
     let all : length (flat_map queued_in (before ++ o ∷ [])) ≡ length (flat_map queued_in before) + length (queued_in o) =
     ap length (flat_map-append queued_in before (o ∷ []) ∙ ap (λ x. flat_map queued_in before ++ x) (append-nil (queued_in o))) ∙ length-append (flat_map queued_in before) (queued_in o) in
     elim (leb_tells (length (queued_in o)) 0) [
       | inl p ↦ omega (arith, all, p.1, sofar)
       | inr p ↦
           let i = length (queued_in o) - 1 in
-          elim (leb_tells (suc (place_of before i)) (length taken)) [
+          elim (leb_tells (suc (command_place before i)) (length taken)) [
             | inl q ↦ omega (arith, all, q.1, p.1)
             | inr q ↦ absurd (omega (arith, late_command b pins board entries clock before after o ends limits e i (omega (arith, p.1)) (λ has. omega (arith, has, q.1)), few, room))
           ]
@@ -56,13 +56,13 @@ one_taken b pins board entries clock n before after o ends limits e few room sof
 -- and in some, where these keep the limits
 most_taken : (b : BoardDef) (pins : List (List Level)) (board : ℕ) (entries : List Entry) (clock : BoardClock) (n : ℕ) (before xs ys all : List Orders) (ends : List Ended) → all ≡ before ++ (xs ++ ys)
     → AllKeepLimits (before ++ xs) → EndSo clock 0 all (first_state b pins board entries) ends → spoiled ends ≤ n → n ≤ length ys
-    → length (flat_map queued_in before) ≤ length (last_of (first_state b pins board entries) ends).core.taken
-    → length (flat_map queued_in (before ++ xs)) ≤ length (last_of (first_state b pins board entries) ends).core.taken
+    → length (flat_map queued_in before) ≤ length (last_link (first_state b pins board entries) ends).core.taken
+    → length (flat_map queued_in (before ++ xs)) ≤ length (last_link (first_state b pins board entries) ends).core.taken
 most_taken b pins board entries clock n before [] ys all ends cut limits e few room h =
-    let Most : List Orders → Type 0 = λ x. length (flat_map queued_in x) ≤ length (last_of (first_state b pins board entries) ends).core.taken in
+    let Most : List Orders → Type 0 = λ x. length (flat_map queued_in x) ≤ length (last_link (first_state b pins board entries) ends).core.taken in
     subst Most (sym (append-nil before)) h
 most_taken b pins board entries clock n before (o ∷ xs) ys all ends cut limits e few room h =
-    let Most : List Orders → Type 0 = λ x. length (flat_map queued_in x) ≤ length (last_of (first_state b pins board entries) ends).core.taken in
+    let Most : List Orders → Type 0 = λ x. length (flat_map queued_in x) ≤ length (last_link (first_state b pins board entries) ends).core.taken in
     let Limits : List Orders → Type 0 = λ x. AllKeepLimits x in
     let Ends : List Orders → Type 0 = λ x. EndSo clock 0 x (first_state b pins board entries) ends in
     let next = one_taken b pins board entries clock n before (xs ++ ys) o ends (limits_first before xs o limits) (subst Ends cut e) few (omega (arith, length-append xs ys, room)) h in
@@ -71,9 +71,9 @@ most_taken b pins board entries clock n before (o ∷ xs) ys all ends cut limits
 
 -- behind some turns all is taken that was queued in the first ones, n turns before or earlier, where these keep the limits
 pub most_at : (b : BoardDef) (pins : List (List Level)) (board : ℕ) (entries : List Entry) (clock : BoardClock) (n k : ℕ) (done : List Orders) (ends : List Ended) → k ≤ length done - n → AllKeepLimits (take k done)
-    → EndSo clock 0 done (first_state b pins board entries) ends → spoiled ends ≤ n → length (flat_map queued_in (take k done)) ≤ length (last_of (first_state b pins board entries) ends).core.taken
+    → EndSo clock 0 done (first_state b pins board entries) ends → spoiled ends ≤ n → length (flat_map queued_in (take k done)) ≤ length (last_link (first_state b pins board entries) ends).core.taken
 most_at b pins board entries clock n k done ends back limits e few =
-    let h : Core = (last_of (first_state b pins board entries) ends).core in
+    let h : Core = (last_link (first_state b pins board entries) ends).core in
     let cut : done ≡ take k done ++ drop k done = sym (take-append-drop k done) in
     let Most : ℕ → Type 0 = λ i. length (flat_map queued_in (take i done)) ≤ length h.taken in
     elim (leb_tells n (length done)) [
@@ -83,12 +83,12 @@ most_at b pins board entries clock n k done ends back limits e few =
 
 pub soon_at : (b : BoardDef) (pins : List (List Level)) (board : ℕ) (entries : List Entry) (clock : BoardClock) (n : ℕ) (done : List Orders) (ends : List Ended) → AllKeepLimits done
     → EndSo clock 0 done (first_state b pins board entries) ends → spoiled ends ≤ n
-    → (more : List Meant) × (flat_map queued_in (take (length done - n) done) ++ more ≡ (last_of (first_state b pins board entries) ends).core.taken)
+    → (more : List Meant) × (flat_map queued_in (take (length done - n) done) ++ more ≡ (last_link (first_state b pins board entries) ends).core.taken)
 soon_at b pins board entries clock n done ends limits e few =
     let k = length done - n in
     let xs = take k done in
     let ys = drop k done in
-    let h : Core = (last_of (first_state b pins board entries) ends).core in
+    let h : Core = (last_link (first_state b pins board entries) ends).core in
     let cut : done ≡ xs ++ ys = sym (take-append-drop k done) in
     let most = most_at b pins board entries clock n k done ends (omega arith) (limits_split xs ys (subst AllKeepLimits cut limits)).0 e few in
     let o = ordered_after b pins board entries clock done ends e in
@@ -99,7 +99,7 @@ soon_at b pins board entries clock n done ends limits e few =
 
 -- one more turn that ends
 pub end_snoc : (clock : BoardClock) (turn k : ℕ) (os : List Orders) (o : Orders) (l : LinkState) (ends : List Ended) (mid : LinkState) → k ≡ turn + length os → EndSo clock turn os l ends
-    → IsTurn clock k o (last_of l ends) mid → EndSo clock turn (os ++ o ∷ []) l (ends ++ record { turn = k; link = mid } ∷ [])
+    → IsTurn clock k o (last_link l ends) mid → EndSo clock turn (os ++ o ∷ []) l (ends ++ record { turn = k; link = mid } ∷ [])
 end_snoc clock turn k [] o l [] mid long e t =
     let same : k ≡ turn = omega (arith, long) in
     let At : ℕ → Type 0 = λ i. IsTurn clock i o l mid in

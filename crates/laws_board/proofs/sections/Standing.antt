@@ -7,10 +7,10 @@ use Rattle.plan_types.specs.declared.plan.Pulse.{Pulse}
 use Rattle.plan_types.specs.Board.{end_of, pending_steps}
 use Rattle.board_step.specs.Steps.{Pending}
 use Rattle.board_sim.specs.Board.{Controller, stepper_at}
-use Rattle.board_sim.specs.Fair.{RiseFrom, only, pending_at}
+use Rattle.board_sim.specs.Fair.{GroupsRiseFrom, only, pending_at}
 use Rattle.board_sim.specs.Halted.{is_halted}
 use Rattle.step_feed.specs.Rings.{count_from}
-use Rattle.laws_board.specs.sections.Courses.{Course, parts_of, no_course, IsFrom, IsStopped, AreBefore, AreBeforeTurn, AreBeforeStop, AreMadeFor, IsMadeBy}
+use Rattle.laws_board.specs.sections.Courses.{Course, course_parts, no_course, IsFrom, IsStopped, AreBefore, AreBeforeTurn, AreBeforeStop, AreMadeFor, IsMadeBy}
 use Rattle.laws_board.proofs.sections.Counts.{ends_from}
 use Rattle.laws_board.specs.sections.Known.{AreBelow}
 use Rattle.laws_board.proofs.sections.Fits.{StepperFits, none_pends}
@@ -24,7 +24,7 @@ pub record QueueStands (slots now : ℕ) (q : Pending) (c : Course) : Type 0 whe
   pub slots_are : q.slots ≡ slots
   pub up : q.up ≡ c.known.up
   pub clock : q.halted ≡ false → end_of q.last q.groups ≡ c.known.clock
-  pub rises : RiseFrom now q.groups
+  pub rises : GroupsRiseFrom now q.groups
   pub few : (x : ℕ) → ends_from x q.groups ≤ count_from x c.known.ends
   pub empty : q.halted ≡ true → q.groups ≡ []
 
@@ -172,7 +172,7 @@ made_moved own stops oid now later (Some q) (Some r) c made ps k m before = reco
 }
 
 -- what was made is made for them
-pub made_for : (own : ℕ → ℕ) (stops : ℕ → Option ℕ) (oid : ℕ) (o : Option Pending) (c : Course) (made : List Pulse) → IsMadeBy own stops oid o c made → AreMadeFor own stops (parts_of c) made
+pub made_for : (own : ℕ → ℕ) (stops : ℕ → Option ℕ) (oid : ℕ) (o : Option Pending) (c : Course) (made : List Pulse) → IsMadeBy own stops oid o c made → AreMadeFor own stops (course_parts c) made
 made_for own stops oid o c made k =
     (k.early, k.late, k.is, k.past, (pending_at oid o ++ k.dropped, sym (append_assoc k.late (pending_at oid o) k.dropped) ∙ k.steps), k.before)
 

@@ -11,14 +11,14 @@ use Rattle.board_sim.proofs.RigShut.{all_left_by, passes_left}
 use Rattle.board_world.specs.declared.event.Event.{Event}
 use Rattle.board_world.specs.declared.event.Event.TheVariants.{Put, Control, Arrive, Repeat, Pass}
 use Rattle.board_world.specs.Stands.{IsOrdered}
-use Rattle.board_world.specs.World.{Core, Step, Do, Turn, takes_in, orders_of, does, happens, after, IsFairAt, run}
+use Rattle.board_world.specs.World.{Core, Step, Do, Turn, takes_in, orders_of, does, after_event, world_after, IsFairAt, run_world}
 use Rattle.board_world.proofs.Runs.{ordered_by, ordered_turn}
 use Rattle.link_work.proofs.Steps.{tick_held}
-use Rattle.laws_board.specs.sections.Events.{IsQuiet}
-use Rattle.laws_board.specs.sections.Known.{AreQueued, Sent, sent_at, orders_in}
+use Rattle.laws_board.specs.sections.Events.{QueuesNothing}
+use Rattle.laws_board.specs.sections.Known.{AreQueued, Sent, sent_at, orders_sent}
 use Rattle.laws_board.specs.sections.Timely.{AreTimely, IsTimelyAt}
 use Rattle.laws_board.specs.sections.Finds.{AllFindHalted, AllSetNot, StepsFindHalted}
-use Rattle.laws_board.specs.sections.Courses.{Course, parts_of, IsFrom, IsStopped, no_course, course_behind, course_from, courses, AreMadeFor, IsMadeBy, AreGoodOn, AreAllGood, AreInTime, BeginLostOn, FindsFree, HeedsIn, HeedsAt, AllHeed, IsGoodOn}
+use Rattle.laws_board.specs.sections.Courses.{Course, course_parts, IsFrom, IsStopped, no_course, course_behind, course_from, courses, AreMadeFor, IsMadeBy, AreGoodOn, AreAllGood, AreInTime, BeginLostOn, FindsFree, HeedsIn, HeedsAt, AllHeed, IsGoodOn}
 use Rattle.laws_board.proofs.sections.Fits.{IsShutBy}
 use Rattle.laws_board.proofs.sections.Taking.{shut_fair}
 use Rattle.laws_board.proofs.sections.Lists.{up_append, up_behind, up_front, sent_front, orders_append, orders_at, own_up, cuts, longer, lost_for}
@@ -42,7 +42,7 @@ pub record Script : Type 0 where
 
 -- what each stepper has made is made for the parts of its steps behind some commands
 abbrev pub MadeFor : Script → List Sent → Core → Type 0
-MadeFor p done h = (oid : ℕ) → AreMadeFor p.own p.stops (parts_of (courses done oid)) (only oid h.made)
+MadeFor p done h = (oid : ℕ) → AreMadeFor p.own p.stops (course_parts (courses done oid)) (only oid h.made)
 
 -- the board runs: of the commands that were sent it took the first ones
 pub record Going (p : Script) (by turn : ℕ) (sent : List Sent) (h : Core) : Type 0 where
@@ -51,7 +51,7 @@ pub record Going (p : Script) (by turn : ℕ) (sent : List Sent) (h : Core) : Ty
   pub more : List Sent
   pub sent_is : sent ≡ done ++ left
   pub front_is : done ++ more ≡ p.front
-  pub taken : orders_in done ≡ h.taken
+  pub taken : orders_sent done ≡ h.taken
   pub stands : BoardStands p.own p.stops p.slots by turn (courses done) h.board.controller
   pub in_time : AreInTime p.stops by more
   pub made : (oid : ℕ) → IsMadeBy p.own p.stops oid (stepper_at h.board.controller oid) (courses done oid) (only oid h.made)
@@ -66,7 +66,7 @@ pub record Gone (p : Script) (h : Core) : Type 0 where
 
 pub record Keeps (p : Script) (by turn : ℕ) (sent : List Sent) (h : Core) : Type 0 where
   pub ordered : IsOrdered h
-  pub queued : orders_in sent ≡ h.queued
+  pub queued : orders_sent sent ≡ h.queued
   pub turns : AreQueued by sent
   pub order : by ≤ turn
   pub rest : List Sent
@@ -109,15 +109,15 @@ abbrev pub TakesFind : Script → ℕ → (ℕ → Course) → Rig → List Mean
 TakesFind p by cs r ms = (oid : ℕ) → IsStopped p.stops by (cs oid).since → AllFindHalted oid r ms
 
 -- what the first commands left are
-left_first : (done left : List Sent) (ms rest : List Meant) → (orders_in done ++ ms) ++ rest ≡ orders_in (done ++ left)
-    → (first : List Sent) × (others : List Sent) × (left ≡ first ++ others) × (orders_in first ≡ ms)
+left_first : (done left : List Sent) (ms rest : List Meant) → (orders_sent done ++ ms) ++ rest ≡ orders_sent (done ++ left)
+    → (first : List Sent) × (others : List Sent) × (left ≡ first ++ others) × (orders_sent first ≡ ms)
 left_first done left ms rest e =
-    sent_front ms rest left (append_cancel_left (orders_in done) (ms ++ rest) (orders_in left) (sym (append_assoc (orders_in done) ms rest) ∙ e ∙ orders_append done left))
+    sent_front ms rest left (append_cancel_left (orders_sent done) (ms ++ rest) (orders_sent left) (sym (append_assoc (orders_sent done) ms rest) ∙ e ∙ orders_append done left))
 
 -- the first of the commands that are left are taken
 takes_these : (p : Script) (by turn : ℕ) (sent : List Sent) (h g : Core) (r : Going p by turn sent h) (first m others : List Sent) → by ≤ turn → AreQueued by sent → r.more ≡ first ++ m → r.left ≡ first ++ others
-    → AreTimely (p.own turn) (orders_in first) → TakesFind p by (courses r.done) h.board (orders_in first)
-    → g.taken ≡ h.taken ++ orders_in first → g.board ≡ (takes_all h.board (commands_of (orders_in first))).rig → g.made ≡ h.made → Took p by turn sent h g (orders_in first)
+    → AreTimely (p.own turn) (orders_sent first) → TakesFind p by (courses r.done) h.board (orders_sent first)
+    → g.taken ≡ h.taken ++ orders_sent first → g.board ≡ (takes_all h.board (commands_of (orders_sent first))).rig → g.made ≡ h.made → Took p by turn sent h g (orders_sent first)
 takes_these p by turn sent h g r first m others le old more left timely finds taken board made =
     let split : sent ≡ (r.done ++ first) ++ others = r.sent_is ∙ ap (λ x. r.done ++ x) left ∙ sym (append_assoc r.done first others) in
     let whole : r.done ++ (first ++ m) ≡ p.front = ap (λ x. r.done ++ x) (sym more) ∙ r.front_is in
@@ -139,7 +139,7 @@ takes_these p by turn sent h g r first m others le old more left timely finds ta
           more = m;
           sent_is = split;
           front_is = append_assoc r.done first m ∙ whole;
-          taken = orders_append r.done first ∙ ap (λ x. x ++ orders_in first) r.taken ∙ sym taken;
+          taken = orders_append r.done first ∙ ap (λ x. x ++ orders_sent first) r.taken ∙ sym taken;
           stands = subst At (sym board) (stands_same p.own p.stops p.slots by turn (λ oid. course_from oid (courses r.done oid) first) (courses (r.done ++ first)) _ e w.0);
           in_time = time_behind p.stops by first m time;
           made = λ oid. rw (board, made, e oid) (w.1 oid (only oid h.made) (r.made oid));
@@ -159,9 +159,9 @@ takes_these p by turn sent h g r first m others le old more left timely finds ta
 
 -- all good ones that are left are taken, and the late one behind them
 takes_lost : (p : Script) (by turn : ℕ) (sent : List Sent) (h g : Core) (r : Going p by turn sent h) (s : Sent) (m others behind : List Sent) → by ≤ turn → AreQueued by sent → p.tail ≡ s ∷ behind → r.left ≡ (r.more ++ s ∷ m) ++ others
-    → AreTimely (p.own turn) (orders_in (r.more ++ s ∷ m)) → TakesFind p by (courses r.done) h.board (orders_in (r.more ++ s ∷ m))
-    → ((takes_all h.board (commands_of (orders_in r.more))).rig.controller.state ≡ Running → FindsFree (takes_all h.board (commands_of (orders_in r.more))).rig.controller s.order.command)
-    → g.board ≡ (takes_all h.board (commands_of (orders_in (r.more ++ s ∷ m)))).rig → g.made ≡ h.made → Took p by turn sent h g (orders_in (r.more ++ s ∷ m))
+    → AreTimely (p.own turn) (orders_sent (r.more ++ s ∷ m)) → TakesFind p by (courses r.done) h.board (orders_sent (r.more ++ s ∷ m))
+    → ((takes_all h.board (commands_of (orders_sent r.more))).rig.controller.state ≡ Running → FindsFree (takes_all h.board (commands_of (orders_sent r.more))).rig.controller s.order.command)
+    → g.board ≡ (takes_all h.board (commands_of (orders_sent (r.more ++ s ∷ m)))).rig → g.made ≡ h.made → Took p by turn sent h g (orders_sent (r.more ++ s ∷ m))
 takes_lost p by turn sent h g r s m others behind le old tail left timely finds free board made =
     let l = r.more ++ s ∷ m in
     let Good : List Sent → Type 0 = λ x. AreAllGood p.own p.stops p.slots x in
@@ -188,15 +188,15 @@ takes_lost p by turn sent h g r s m others behind le old tail left timely finds 
     )
 
 -- with what the commands are
-as_orders : (p : Script) (by turn : ℕ) (sent : List Sent) (h g : Core) (cs : ℕ → Course) (l : List Sent) (ms : List Meant) → orders_in l ≡ ms
-    → (AreTimely (p.own turn) (orders_in l) → TakesFind p by cs h.board (orders_in l) → g.taken ≡ h.taken ++ orders_in l → g.board ≡ (takes_all h.board (commands_of (orders_in l))).rig → Took p by turn sent h g (orders_in l))
+as_orders : (p : Script) (by turn : ℕ) (sent : List Sent) (h g : Core) (cs : ℕ → Course) (l : List Sent) (ms : List Meant) → orders_sent l ≡ ms
+    → (AreTimely (p.own turn) (orders_sent l) → TakesFind p by cs h.board (orders_sent l) → g.taken ≡ h.taken ++ orders_sent l → g.board ≡ (takes_all h.board (commands_of (orders_sent l))).rig → Took p by turn sent h g (orders_sent l))
     → AreTimely (p.own turn) ms → TakesFind p by cs h.board ms → g.taken ≡ h.taken ++ ms → g.board ≡ (takes_all h.board (commands_of ms)).rig → Took p by turn sent h g ms
 as_orders p by turn sent h g cs l ms e k =
     let At : List Meant → Type 0 = λ x. AreTimely (p.own turn) x → TakesFind p by cs h.board x → g.taken ≡ h.taken ++ x → g.board ≡ (takes_all h.board (commands_of x)).rig → Took p by turn sent h g x in
     subst At e k
 
 going_took : (p : Script) (by turn : ℕ) (sent rest : List Sent) (h g : Core) (ms later : List Meant) (r : Going p by turn sent h) → sent ++ rest ≡ p.all → by ≤ turn → AreQueued by sent
-    → (h.taken ++ ms) ++ later ≡ orders_in sent → HeedsIn p.front p.tail h ms → g.made ≡ h.made → AreTimely (p.own turn) ms → TakesFind p by (courses r.done) h.board ms → g.taken ≡ h.taken ++ ms
+    → (h.taken ++ ms) ++ later ≡ orders_sent sent → HeedsIn p.front p.tail h ms → g.made ≡ h.made → AreTimely (p.own turn) ms → TakesFind p by (courses r.done) h.board ms → g.taken ≡ h.taken ++ ms
     → g.board ≡ (takes_all h.board (commands_of ms)).rig → Took p by turn sent h g ms
 going_took p by turn sent rest h g ms later r all le old queued heed made =
     let (l, others, left, is) = left_first r.done r.left ms later (rw (r.taken, ← r.sent_is) queued) in
@@ -210,8 +210,8 @@ going_took p by turn sent rest h g ms later r all le old queued heed made =
           let (s, m, cut, tail) = c in
           let Heeds : List Sent → Type 0 = λ x. HeedsIn p.front x h ms in
           let mine : HeedsIn p.front (s ∷ m ++ (others ++ rest)) h ms = subst Heeds tail heed in
-          let free = mine (orders_in r.more) (orders_in m) (sym is ∙ ap orders_in cut ∙ orders_append r.more (s ∷ m)) (ap (λ x. x ++ orders_in r.more) (sym r.taken) ∙ sym (orders_append r.done r.more) ∙ ap orders_in r.front_is) in
-          as_orders p by turn sent h g (courses r.done) (r.more ++ s ∷ m) ms (ap orders_in (sym cut) ∙ is)
+          let free = mine (orders_sent r.more) (orders_sent m) (sym is ∙ ap orders_sent cut ∙ orders_append r.more (s ∷ m)) (ap (λ x. x ++ orders_sent r.more) (sym r.taken) ∙ sym (orders_append r.done r.more) ∙ ap orders_sent r.front_is) in
+          as_orders p by turn sent h g (courses r.done) (r.more ++ s ∷ m) ms (ap orders_sent (sym cut) ∙ is)
           (λ timely finds taken board. takes_lost p by turn sent h g r s m others (m ++ (others ++ rest)) le old tail (left ∙ ap (λ x. x ++ others) cut) timely finds free board made)
     ]
 
@@ -237,7 +237,7 @@ takes_on : (p : Script) (by turn : ℕ) (sent : List Sent) (h g : Core) (ms : Li
     → ((r : Going p by turn sent h) → TakesFind p by (courses r.done) h.board ms) → AreFair h.board ms × Keeps p by turn sent g
 takes_on p by turn sent h g ms k ordered queued taken board meant made tick timely heed finds =
     let n = length g.link.taken in
-    let later : (h.taken ++ ms) ++ drop n g.queued ≡ orders_in sent =
+    let later : (h.taken ++ ms) ++ drop n g.queued ≡ orders_sent sent =
     ap (λ x. x ++ drop n g.queued) (sym taken ∙ ordered.first) ∙ take-append-drop n g.queued ∙ queued ∙ sym k.queued in
     let At : ℕ → Type 0 = λ x. AreTimely x ms in
     let took : Took p by turn sent h g ms = elim k.state [
@@ -259,18 +259,18 @@ takes_on p by turn sent h g ms k ordered queued taken board meant made tick time
     )
 
 abbrev pub StepKeeps : Script → ℕ → ℕ → List Sent → Core → Step → Type 0
-StepKeeps p by turn sent h s = IsFairAt h s × Keeps p by turn sent (after h s)
+StepKeeps p by turn sent h s = IsFairAt h s × Keeps p by turn sent (world_after h s)
 
 -- an event that queues nothing and lets no time pass
 event_keeps : (p : Script) (by turn : ℕ) (sent : List Sent) (h : Core) (e : Event) → orders_of e ≡ [] → Keeps p by turn sent h
     → (does h e).board ≡ (takes_all h.board (commands_of (takes_in h e))).rig → (does h e).pulses ≡ [] → (does h e).board.controller.tick ≡ h.board.controller.tick
     → (h.board.controller.state ≡ Running → AreTimely h.board.controller.tick (takes_in h e)) → HeedsIn p.front p.tail h (takes_in h e)
-    → Finds p by turn sent h (Do e ∷ []) → AreFair h.board (takes_in h e) × Keeps p by turn sent (happens h e)
+    → Finds p by turn sent h (Do e ∷ []) → AreFair h.board (takes_in h e) × Keeps p by turn sent (after_event h e)
 event_keeps p by turn sent h e none k board made tick timely heed finds =
-    takes_on p by turn sent h (happens h e) (takes_in h e) k (ordered_by h e k.ordered) (ap (λ x. h.queued ++ x) none ∙ append-nil h.queued) refl board refl (ap (λ x. h.made ++ x) made ∙ append-nil h.made) tick timely heed
+    takes_on p by turn sent h (after_event h e) (takes_in h e) k (ordered_by h e k.ordered) (ap (λ x. h.queued ++ x) none ∙ append-nil h.queued) refl board refl (ap (λ x. h.made ++ x) made ∙ append-nil h.made) tick timely heed
     (λ r oid st. (finds r oid st).0)
 
-pub quiet_keeps : (p : Script) (by turn : ℕ) (sent : List Sent) (h : Core) (s : Step) → IsQuiet s → Keeps p by turn sent h → IsTimelyAt h s → HeedsAt p.front p.tail h s → Finds p by turn sent h (s ∷ []) → StepKeeps p by turn sent h s
+pub quiet_keeps : (p : Script) (by turn : ℕ) (sent : List Sent) (h : Core) (s : Step) → QueuesNothing s → Keeps p by turn sent h → IsTimelyAt h s → HeedsAt p.front p.tail h s → Finds p by turn sent h (s ∷ []) → StepKeeps p by turn sent h s
 quiet_keeps p by turn sent h (Turn n) q k timely heed finds = (
   tt,
   record {
@@ -297,7 +297,7 @@ quiet_keeps p by turn sent h (Do e) q k timely heed finds = event_keeps p by tur
 
 -- what is queued in a turn
 pub queues_on : (p : Script) (by turn : ℕ) (sent rest : List Sent) (h : Core) (e : Event) → Keeps p by turn sent h → (sent ++ sent_at by (orders_of e)) ++ rest ≡ p.all
-    → AreQueued by (sent_at by (orders_of e)) → takes_in h e ≡ [] → (does h e).board ≡ h.board → (does h e).pulses ≡ [] → Keeps p by turn (sent ++ sent_at by (orders_of e)) (happens h e)
+    → AreQueued by (sent_at by (orders_of e)) → takes_in h e ≡ [] → (does h e).board ≡ h.board → (does h e).pulses ≡ [] → Keeps p by turn (sent ++ sent_at by (orders_of e)) (after_event h e)
 queues_on p by turn sent rest h e k all old none board made =
     let new = sent_at by (orders_of e) in
     let taken : h.taken ++ takes_in h e ≡ h.taken = ap (λ x. h.taken ++ x) none ∙ append-nil h.taken in
@@ -305,7 +305,7 @@ queues_on p by turn sent rest h e k all old none board made =
     let does_make : h.made ++ (does h e).pulses ≡ h.made = ap (λ x. h.made ++ x) made ∙ append-nil h.made in
     record {
       ordered = ordered_by h e k.ordered;
-      queued = orders_append sent new ∙ ap (λ x. orders_in sent ++ x) (orders_at by (orders_of e)) ∙ ap (λ x. x ++ orders_of e) k.queued;
+      queued = orders_append sent new ∙ ap (λ x. orders_sent sent ++ x) (orders_at by (orders_of e)) ∙ ap (λ x. x ++ orders_of e) k.queued;
       turns = up_append by sent new k.turns old;
       order = k.order;
       rest = rest;
@@ -344,16 +344,16 @@ none_heed front tail steps h none = let At : List Sent → Type 0 = λ x. AllHee
 
     all : (steps : List Step) (h : Core) → AllHeed front [] h steps
     all [] h = tt
-    all (s ∷ steps) h = (one h s, all steps (after h s))
+    all (s ∷ steps) h = (one h s, all steps (world_after h s))
 
 -- steps in two parts
 pub heed_front : (front tail : List Sent) (xs ys : List Step) (h : Core) → AllHeed front tail h (xs ++ ys) → AllHeed front tail h xs
 heed_front front tail [] ys h a = tt
-heed_front front tail (x ∷ xs) ys h a = (a.0, heed_front front tail xs ys (after h x) a.1)
+heed_front front tail (x ∷ xs) ys h a = (a.0, heed_front front tail xs ys (world_after h x) a.1)
 
-pub heed_behind : (front tail : List Sent) (xs ys : List Step) (h : Core) → AllHeed front tail h (xs ++ ys) → AllHeed front tail (run xs h) ys
+pub heed_behind : (front tail : List Sent) (xs ys : List Step) (h : Core) → AllHeed front tail h (xs ++ ys) → AllHeed front tail (run_world xs h) ys
 heed_behind front tail [] ys h a = a
-heed_behind front tail (x ∷ xs) ys h a = heed_behind front tail xs ys (after h x) a.1
+heed_behind front tail (x ∷ xs) ys h a = heed_behind front tail xs ys (world_after h x) a.1
 
 -- and each of some steps finds what is to be halted so
 find_first : (oid : ℕ) (h : Core) (s : Step) (steps : List Step) → StepsFindHalted oid h (s ∷ steps) → StepsFindHalted oid h (s ∷ [])
@@ -368,11 +368,11 @@ abbrev takes_at : Core → Step → List Meant
 takes_at h (Do e) = takes_in h e
 takes_at h (Turn turn) = []
 
-took_at : (h : Core) (s : Step) → (after h s).taken ≡ h.taken ++ takes_at h s
+took_at : (h : Core) (s : Step) → (world_after h s).taken ≡ h.taken ++ takes_at h s
 took_at h (Do e) = refl
 took_at h (Turn turn) = sym (append-nil h.taken)
 
-find_next : (oid : ℕ) (h : Core) (s : Step) (steps : List Step) → AllSetNot oid (takes_at h s) → StepsFindHalted oid h (s ∷ steps) → StepsFindHalted oid (after h s) steps
+find_next : (oid : ℕ) (h : Core) (s : Step) (steps : List Step) → AllSetNot oid (takes_at h s) → StepsFindHalted oid h (s ∷ steps) → StepsFindHalted oid (world_after h s) steps
 find_next oid h (Do e) steps none f = f.1 none
 find_next oid h (Turn turn) steps none f = f
 
@@ -383,26 +383,26 @@ shut_event h Repeat k = ap (λ (x : Controller). x.state) (all_left_by h.board (
 shut_event h (Pass t) k = (passes_left h.board t k).1
 shut_event h e k = refl
 
-pub shut_step : (h : Core) (s : Step) → is_shut h.board.controller.state ≡ true → (after h s).board.controller.state ≡ h.board.controller.state
+pub shut_step : (h : Core) (s : Step) → is_shut h.board.controller.state ≡ true → (world_after h s).board.controller.state ≡ h.board.controller.state
 shut_step h (Do e) k = shut_event h e k
 shut_step h (Turn turn) k = refl
 
 not_both : (r t f : ℕ) → Shut r t f ≡ Running → ⊥
 not_both r t f e = cc
 
-pub finds_next : (p : Script) (by turn next : ℕ) (sent all : List Sent) (h : Core) (s : Step) (steps : List Step) → Keeps p by turn sent h → Finds p by turn sent h (s ∷ steps) → Finds p by next all (after h s) steps
+pub finds_next : (p : Script) (by turn next : ℕ) (sent all : List Sent) (h : Core) (s : Step) (steps : List Step) → Keeps p by turn sent h → Finds p by turn sent h (s ∷ steps) → Finds p by next all (world_after h s) steps
 finds_next p by turn next sent all h s steps k f = λ r oid st.
     elim k.state [
       | inl was ↦
           let ms = takes_at h s in
-          let took : orders_in r.done ≡ orders_in was.done ++ ms = r.taken ∙ took_at h s ∙ ap (λ x. x ++ ms) (sym was.taken) in
+          let took : orders_sent r.done ≡ orders_sent was.done ++ ms = r.taken ∙ took_at h s ∙ ap (λ x. x ++ ms) (sym was.taken) in
           let (mid, done, more) = longer r.done r.more was.done was.more ms (r.front_is ∙ sym was.front_is) took in
           let Time : List Sent → Type 0 = λ x. AreInTime p.stops by x in
           let in_time = time_front p.stops by mid r.more (subst Time (sym more) was.in_time) in
           let course : courses r.done oid ≡ course_from oid (courses was.done oid) mid = ap (λ x. courses x oid) done ∙ course_append oid no_course was.done mid in
           let Stopped : Course → Type 0 = λ c. IsStopped p.stops by c.since in
           let old = since_all p.stops by oid (courses was.done oid) mid in_time (subst Stopped course st) in
-          let same : orders_in mid ≡ ms = append_cancel_left (orders_in was.done) (orders_in mid) ms (sym (orders_append was.done mid) ∙ ap orders_in (sym done) ∙ took) in
+          let same : orders_sent mid ≡ ms = append_cancel_left (orders_sent was.done) (orders_sent mid) ms (sym (orders_append was.done mid) ∙ ap orders_sent (sym done) ∙ took) in
           let SetNot : List Meant → Type 0 = λ x. AllSetNot oid x in
           find_next oid h s steps (subst SetNot same old.1) (f was oid old.0)
       | inr d ↦

@@ -12,7 +12,7 @@ use Rattle.board_sim.specs.Rig.{Rig, takes_all}
 use Rattle.board_sim.specs.Fair.{Meant, commands_of}
 use Rattle.board_world.specs.Orders.{plain, unit_orders, units_orders}
 use Rattle.board_world.specs.Shut.{IsRefused, ShutBy, Shuts, WasShut}
-use Rattle.board_world.specs.World.{Core, Step, Do, Turn, happens, in_turn, run, takes_in}
+use Rattle.board_world.specs.World.{Core, Step, Do, Turn, after_event, in_turn, run_world, takes_in}
 use Rattle.step_feed.specs.Units.{StepUnit}
 use Rattle.link_work.specs.Turn.{Orders}
 use Rattle.link_work.specs.Runs.{queued_in}
@@ -48,15 +48,15 @@ one_stops b _ first s = absurd s
 shut_stops : (r : Rig) (ms : List Meant) (tick first : ℕ) (s : ShutBy r ms 5 tick first) → (m : Meant) × IsIn m ms × IsStop m.command
 shut_stops r ms tick first s = (s.command, (s.before, s.behind, s.are), one_stops (takes_all r (commands_of s.before)).rig.controller s.command.command first s.cause)
 
-pub stop_taken : (steps : List Step) (h : Core) (tick first : ℕ) → WasShut h steps 5 tick first → (m : Meant) × IsIn m (run steps h).taken × IsStop m.command
+pub stop_taken : (steps : List Step) (h : Core) (tick first : ℕ) → WasShut h steps 5 tick first → (m : Meant) × IsIn m (run_world steps h).taken × IsStop m.command
 stop_taken [] h tick first w = absurd w
 stop_taken (Do e ∷ steps) h tick first (inl s) =
     let n = shut_stops h.board (takes_in h e) tick first s in
-    let rest = taken_more steps (happens h e) in
+    let rest = taken_more steps (after_event h e) in
     let At : List Meant → Type 0 = λ x. IsIn n.0 x in
     (n.0, subst At (sym rest.1) (in_more n.0 h.taken (takes_in h e) rest.0 n.1), n.2)
 stop_taken (Turn turn ∷ steps) h tick first (inl s) = absurd s
-stop_taken (Do e ∷ steps) h tick first (inr w) = stop_taken steps (happens h e) tick first w
+stop_taken (Do e ∷ steps) h tick first (inr w) = stop_taken steps (after_event h e) tick first w
 stop_taken (Turn turn ∷ steps) h tick first (inr w) = stop_taken steps (in_turn h turn) tick first w
 
 -- no unit has it

@@ -10,11 +10,11 @@ use Rattle.board_sim.specs.Board.{Controller, is_shut, stepper_at}
 use Rattle.board_sim.specs.Board as board
 use Rattle.board_sim.specs.Rig.{Rig, takes, takes_all}
 use Rattle.board_sim.specs.Fair.{Meant, commands_of, IsFairRunning, AreFair, meant_by, meant_running, only}
-use Rattle.board_sim.specs.Halted.{left_by, left_running, meant_behind}
+use Rattle.board_sim.specs.Halted.{meant_left, left_running, meant_behind}
 use Rattle.board_sim.proofs.RigShut.{all_left_by}
 use Rattle.board_sim.proofs.Steps.{only-append}
 use Rattle.board_world.specs.Units.{FindsStepper, FindsWhile, FindSteppers}
-use Rattle.laws_board.specs.sections.Known.{Sent, orders_in, Known, knows_of, knows, known_from, IsGoodFor, AreGoodFrom, IsLostFor, BeginLost}
+use Rattle.laws_board.specs.sections.Known.{Sent, orders_sent, Known, knows_of, knows, known_from, IsGoodFor, AreGoodFrom, IsLostFor, BeginLost}
 use Rattle.laws_board.specs.sections.Timely.{IsTimely, AreTimely}
 use Rattle.laws_board.proofs.sections.Fits.{BoardFits, IsShutBy, Goes, command_goes, command_lost}
 use Rattle.laws_board.proofs.sections.Free.{IsFree, BindsNone, takes_acts, takes_keeps_free}
@@ -28,7 +28,7 @@ abbrev pub meant_by_all : Rig → List Meant → List Pulse
 meant_by_all r [] = []
 meant_by_all r (m ∷ ms) = meant_running r.controller.state r.controller m.command m.ticks ++ meant_by_all (takes r m.command).rig ms
 
-none_left : (b : Controller) (made meant : List Pulse) (c : Cmd) → FindsStepper b c → left_by b made meant c ≡ meant
+none_left : (b : Controller) (made meant : List Pulse) (c : Cmd) → FindsStepper b c → meant_left b made meant c ≡ meant
 none_left b made meant (cmd.ResetStepClock oid clock) f = rw f refl
 none_left b made meant _ f = refl
 
@@ -142,7 +142,7 @@ AreOld own now (s ∷ ss) = (own s.turn ≤ now) × AreOld own now ss
 -- steppers. It runs on, and fits what is known then; or it shut down, and a front of the steps is meant.
 abbrev pub AllGo : ℕ → ℕ → (ℕ → Known) → Rig → List Sent → List Sent → Type 0
 AllGo now slots ks r ss tail =
-    let ms = orders_in (ss ++ tail) in
+    let ms = orders_sent (ss ++ tail) in
     let after = (takes_all r (commands_of ms)).rig in
     let meant = meant_by_all r ms in
     AreFair r ms × FindSteppers r ms
@@ -171,13 +171,13 @@ meant_none oid k l new more e f front = rw (e, f, append-nil k.steps) front
 ends_here : (ks : ℕ → Known) (r : Rig) (s : Sent) (ss tail others : List Sent) → IsShutBy (takes r s.order.command).rig.controller
     → meant_running r.controller.state r.controller s.order.command s.order.ticks ≡ [] → IsFairRunning r.controller.state r.controller s.order.command s.order.ticks
     → FindsWhile r.controller.state r.controller s.order.command → ((oid : ℕ) → IsFront (ks oid).steps (known_from oid (ks oid) others).steps)
-    → AreFair r (orders_in (s ∷ ss ++ tail)) × FindSteppers r (orders_in (s ∷ ss ++ tail))
-    × (IsShutBy (takes_all r (commands_of (orders_in (s ∷ ss ++ tail)))).rig.controller
-    × ((oid : ℕ) → IsFront ((ks oid).steps ++ only oid (meant_by_all r (orders_in (s ∷ ss ++ tail)))) (known_from oid (ks oid) others).steps))
+    → AreFair r (orders_sent (s ∷ ss ++ tail)) × FindSteppers r (orders_sent (s ∷ ss ++ tail))
+    × (IsShutBy (takes_all r (commands_of (orders_sent (s ∷ ss ++ tail)))).rig.controller
+    × ((oid : ℕ) → IsFront ((ks oid).steps ++ only oid (meant_by_all r (orders_sent (s ∷ ss ++ tail)))) (known_from oid (ks oid) others).steps))
 ends_here ks r s ss tail others shut none fair finds front =
     let (reason, t, f, state, may) = shut in
     let next = (takes r s.order.command).rig in
-    let ms = orders_in (ss ++ tail) in
+    let ms = orders_sent (ss ++ tail) in
     let behind = shut_behind next ms reason t f state in (
       (fair, behind.0),
       (finds, behind.1),
@@ -189,7 +189,7 @@ ends_here ks r s ss tail others shut none fair finds front =
     )
 
 pub all_go : (own : ℕ → ℕ) (now slots : ℕ) (ss tail : List Sent) (ks : ℕ → Known) (r : Rig) → RigFits now slots ks r → AreOld own now (ss ++ tail)
-    → ((oid : ℕ) → AreGoodFrom own slots oid (ks oid) ss) → BeginLost own slots (λ oid. known_from oid (ks oid) ss) tail → AreTimely now (orders_in (ss ++ tail))
+    → ((oid : ℕ) → AreGoodFrom own slots oid (ks oid) ss) → BeginLost own slots (λ oid. known_from oid (ks oid) ss) tail → AreTimely now (orders_sent (ss ++ tail))
     → AllGo now slots ks r ss tail
 all_go own now slots [] [] ks r f old good lost timely = (tt, tt, inl (f, refl, λ oid. append-nil (ks oid).steps))
 all_go own now slots [] (s ∷ rest) ks r f old good lost timely =
@@ -207,7 +207,7 @@ all_go own now slots (s ∷ ss) tail ks r f old good lost timely =
     let new = meant_running r.controller.state r.controller s.order.command s.order.ticks in
     let after = (takes r s.order.command).rig in
     let free = takes_keeps_free r s.order.command f.free (good_binds own slots s.turn ks s.order.command s.order.ticks (λ oid. (good oid).0)) in
-    let more = meant_by_all after (orders_in (ss ++ tail)) in
+    let more = meant_by_all after (orders_sent (ss ++ tail)) in
     elim one.2 [
       | inl g ↦
           let rest = all_go own now slots ss tail next after (record { steppers = g.0; free = free }) old.1 (λ oid. (good oid).1) lost timely.1 in

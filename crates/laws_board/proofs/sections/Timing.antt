@@ -10,7 +10,7 @@ use Rattle.board_sim.specs.Fair.{Meant}
 use Rattle.board_world.specs.declared.event.Event.TheVariants.{Put, Control, Arrive, Repeat, Pass}
 use Rattle.board_world.specs.Orders.{plain, units_orders}
 use Rattle.board_world.specs.Stands.{IsOrdered}
-use Rattle.board_world.specs.World.{Core, Step, Do, Turn, happens, in_turn, after, run, start}
+use Rattle.board_world.specs.World.{Core, Step, Do, Turn, after_event, in_turn, world_after, run_world, new_world}
 use Rattle.board_world.proofs.Runs.{ordered_by, ordered_turn, start_ordered}
 use Rattle.link_work.specs.Turn.{Orders}
 use Rattle.link_work.specs.Runs.{queued_in}
@@ -21,24 +21,24 @@ use Rattle.laws_board.specs.sections.Timely.{AreTimely, AllTimely, TakesSoon}
 use Rattle.laws_board.proofs.sections.Soon.{IsSoon, quiet_soon}
 
 -- lists of steps
-pub timely_join : (xs ys : List Step) (h : Core) → AllTimely h xs → AllTimely (run xs h) ys → AllTimely h (xs ++ ys)
+pub timely_join : (xs ys : List Step) (h : Core) → AllTimely h xs → AllTimely (run_world xs h) ys → AllTimely h (xs ++ ys)
 timely_join [] ys h a b = b
-timely_join (x ∷ xs) ys h a b = (a.0, timely_join xs ys (after h x) a.1 b)
+timely_join (x ∷ xs) ys h a b = (a.0, timely_join xs ys (world_after h x) a.1 b)
 
 -- quiet steps queue nothing and let no time pass
-quiet_same : (steps : List Step) (h : Core) → AreQuiet steps → ((run steps h).queued ≡ h.queued) × ((run steps h).board.controller.tick ≡ h.board.controller.tick)
+quiet_same : (steps : List Step) (h : Core) → AreQuiet steps → ((run_world steps h).queued ≡ h.queued) × ((run_world steps h).board.controller.tick ≡ h.board.controller.tick)
 quiet_same [] h q = (refl, refl)
 quiet_same (Turn n ∷ steps) h q = quiet_same steps (in_turn h n) q.1
 quiet_same (Do (Put b) ∷ steps) h q = absurd q.0
 quiet_same (Do (Control c) ∷ steps) h q = absurd q.0
 quiet_same (Do (Pass t) ∷ steps) h q = absurd q.0
 quiet_same (Do Arrive ∷ steps) h q =
-    let r = quiet_same steps (happens h Arrive) q.1 in
+    let r = quiet_same steps (after_event h Arrive) q.1 in
     (r.0 ∙ append-nil h.queued, r.1 ∙ tick_held (Do Arrive ∷ []) h (tt, tt))
 quiet_same (Do Repeat ∷ steps) h q =
-    let r = quiet_same steps (happens h Repeat) q.1 in
+    let r = quiet_same steps (after_event h Repeat) q.1 in
     (r.0 ∙ append-nil h.queued, r.1 ∙ tick_held (Do Repeat ∷ []) h (tt, tt))
-quiet_same (Do e ∷ steps) h q = let r = quiet_same steps (happens h e) q.1 in (r.0 ∙ append-nil h.queued, r.1)
+quiet_same (Do e ∷ steps) h q = let r = quiet_same steps (after_event h e) q.1 in (r.0 ∙ append-nil h.queued, r.1)
 
 -- a board between two turns, with what was queued so far
 pub record IsBetween (own : ℕ → ℕ) (turn : ℕ) (sofar : List Orders) (h : Core) : Type 0 where
@@ -49,15 +49,15 @@ pub record IsBetween (own : ℕ → ℕ) (turn : ℕ) (sofar : List Orders) (h :
 pub turn_steps_soon : (own : ℕ → ℕ) (turn : ℕ) (sofar : List Orders) (o : Orders) (before rear : List Step) (h : Core) (first others more : List Meant) → own turn ≤ own (turn + 1) → AreQuiet before → AreQuiet rear
     → IsBetween own turn sofar h → first ++ more ≡ h.taken → flat_map queued_in sofar ++ queued_in o ≡ first ++ others → AreTimely (own (turn + 1)) others
     → AllTimely h (Turn turn ∷ Do (Control o.control) ∷ Do (Put o.batch) ∷ before ++ Do (Pass (own (turn + 1))) ∷ rear)
-    × IsBetween own (turn + 1) (sofar ++ o ∷ []) (run (Turn turn ∷ Do (Control o.control) ∷ Do (Put o.batch) ∷ before ++ Do (Pass (own (turn + 1))) ∷ rear) h)
+    × IsBetween own (turn + 1) (sofar ++ o ∷ []) (run_world (Turn turn ∷ Do (Control o.control) ∷ Do (Put o.batch) ∷ before ++ Do (Pass (own (turn + 1))) ∷ rear) h)
 turn_steps_soon own turn sofar o before rear h first others more up bq rq k took cut timely =
     let t = own (turn + 1) in
     let cs = map plain o.control.commands in
     let us = units_orders o.batch.units in
     let pass = Do (Pass t) in
     let h1 = in_turn h turn in
-    let h2 = happens h1 (Control o.control) in
-    let h3 = happens h2 (Put o.batch) in
+    let h2 = after_event h1 (Control o.control) in
+    let h3 = after_event h2 (Put o.batch) in
     let o1 = ordered_turn h turn k.ordered in
     let o3 = ordered_by h2 (Put o.batch) (ordered_by h1 (Control o.control) o1) in
     let all = (h.queued ++ cs) ++ us in
@@ -71,8 +71,8 @@ turn_steps_soon own turn sofar o before rear h first others more up bq rq k took
       tick = rw k.tick up;
     } in
     let q = quiet_soon t first others all before h3 bq k3 (whole ∙ cut) timely in
-    let h4 = run before h3 in
-    let h5 = happens h4 (Pass t) in
+    let h4 = run_world before h3 in
+    let h5 = after_event h4 (Pass t) in
     let at : h5.board.controller.tick ≡ t = tick_passed h4 t q.1.ordered q.1.tick in
     let k5 : IsSoon t first all h5 = record {
       ordered = ordered_by h4 (Pass t) q.1.ordered;
@@ -121,13 +121,13 @@ turns_soon own n all ticks lasting (o ∷ os) sofar steps h turn t long cut k so
     let seg_is : flat_map queued_in seg ≡ others = flat_map-append queued_in ys (o ∷ []) ∙ ap (λ x. flat_map queued_in ys ++ x) (append-nil (queued_in o)) in
     let a = turn_steps_soon own turn sofar o is.before is.after h (flat_map queued_in xs) others soon.0.0 (ticks.up turn) is.before_quiet is.after_quiet k first cut_two (subst Timely seg_is timely_seg) in
     let One : List Step → Type 0 = λ x. AllTimely h x in
-    let Then : List Step → Type 0 = λ x. IsBetween own (turn + 1) (sofar ++ o ∷ []) (run x h) in
-    let rest = turns_soon own n all ticks lasting os (sofar ++ o ∷ []) later (run one h) (turn + 1) more (omega (arith, long, length-append sofar (o ∷ [])))
+    let Then : List Step → Type 0 = λ x. IsBetween own (turn + 1) (sofar ++ o ∷ []) (run_world x h) in
+    let rest = turns_soon own n all ticks lasting os (sofar ++ o ∷ []) later (run_world one h) (turn + 1) more (omega (arith, long, length-append sofar (o ∷ [])))
     (cut ∙ sym (append_assoc sofar (o ∷ []) os)) (subst Then (sym is.are) a.1) soon.1 in
     subst One (sym are) (timely_join one later h (subst One (sym is.are) a.0) rest)
 
 pub lasting_timely : (b : BoardDef) (pins : List (List Level)) (own : ℕ → ℕ) (n : ℕ) (os : List Orders) (steps : List Step) (t : AreTurnsOf own 0 os steps) → AreTicks own → own 0 ≡ b.start
-    → AreLasting own n os → TakesSoon n os own 0 os steps (start b pins) t → AllTimely (start b pins) steps
+    → AreLasting own n os → TakesSoon n os own 0 os steps (new_world b pins) t → AllTimely (new_world b pins) steps
 unfolding new_controller
 lasting_timely b pins own n os steps t ticks first lasting soon =
-    turns_soon own n os ticks lasting os [] steps (start b pins) 0 t refl refl (record { ordered = start_ordered b pins; queued = refl; tick = sym first }) soon
+    turns_soon own n os ticks lasting os [] steps (new_world b pins) 0 t refl refl (record { ordered = start_ordered b pins; queued = refl; tick = sym first }) soon

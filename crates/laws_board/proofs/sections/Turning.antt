@@ -11,14 +11,14 @@ use Rattle.board_sim.proofs.Unbound.{passes_free}
 use Rattle.board_world.specs.declared.event.Event.TheVariants.{Put, Control, Pass}
 use Rattle.board_world.specs.Orders.{plain, units_orders}
 use Rattle.board_world.specs.Units.{AllFind}
-use Rattle.board_world.specs.World.{Core, Step, Do, Turn, happens, after, run, start, AllFair}
+use Rattle.board_world.specs.World.{Core, Step, Do, Turn, after_event, world_after, run_world, new_world, AllFair}
 use Rattle.board_world.proofs.Runs.{ordered_by, start_ordered}
 use Rattle.link_work.specs.Turn.{Orders}
 use Rattle.link_work.specs.Runs.{queued_in}
 use Rattle.link_work.proofs.Sending.{run_append}
 use Rattle.link_work.proofs.Steps.{tick_passed}
 use Rattle.laws_board.specs.sections.Events.{AreQuiet, IsTurnOf, AreTurnsOf}
-use Rattle.laws_board.specs.sections.Known.{Sent, sent_at, sent_in, known}
+use Rattle.laws_board.specs.sections.Known.{Sent, sent_at, sent_in, known_steppers}
 use Rattle.laws_board.specs.sections.Timely.{AllTimely}
 use Rattle.laws_board.proofs.sections.Fits.{BoardFits}
 use Rattle.laws_board.proofs.sections.Passes.{rig_runs}
@@ -27,15 +27,15 @@ use Rattle.laws_board.proofs.sections.Taking.{RigFits}
 use Rattle.laws_board.proofs.sections.Running.{Plan, RunsOn, Holds, quiet_holds, queues_on}
 
 -- time passes on a board that runs
-runs_fit : (p : Plan) (turn t : ℕ) (sent : List Sent) (h : Core) → Holds p turn sent h → (r : RunsOn p turn sent h) → (happens h (Pass t)).board.controller.tick ≡ t
-    → RigFits t p.slots (known r.done) (happens h (Pass t)).board
+runs_fit : (p : Plan) (turn t : ℕ) (sent : List Sent) (h : Core) → Holds p turn sent h → (r : RunsOn p turn sent h) → (after_event h (Pass t)).board.controller.tick ≡ t
+    → RigFits t p.slots (known_steppers r.done) (after_event h (Pass t)).board
 runs_fit p turn t sent h k r tick =
-    let At : ℕ → Type 0 = λ n. BoardFits n p.slots (known r.done) h.board.controller in
-    let To : ℕ → Type 0 = λ n. BoardFits n p.slots (known r.done) (happens h (Pass t)).board.controller in
-    let ran = rig_runs p.slots (known r.done) h.board t h.made k.kept.kept r.fits.free (subst At (sym k.tick) r.fits.steppers) k.kept.is in
+    let At : ℕ → Type 0 = λ n. BoardFits n p.slots (known_steppers r.done) h.board.controller in
+    let To : ℕ → Type 0 = λ n. BoardFits n p.slots (known_steppers r.done) (after_event h (Pass t)).board.controller in
+    let ran = rig_runs p.slots (known_steppers r.done) h.board t h.made k.kept.kept r.fits.free (subst At (sym k.tick) r.fits.steppers) k.kept.is in
     record { steppers = subst To tick ran.fits; free = λ i. (passes_free h.board t i (r.fits.free i)).0 }
 
-pub pass_holds : (p : Plan) (turn : ℕ) (sent : List Sent) (h : Core) → Holds p turn sent h → Holds p (turn + 1) sent (happens h (Pass (p.own (turn + 1))))
+pub pass_holds : (p : Plan) (turn : ℕ) (sent : List Sent) (h : Core) → Holds p turn sent h → Holds p (turn + 1) sent (after_event h (Pass (p.own (turn + 1))))
 pass_holds p turn sent h k =
     let t = p.own (turn + 1) in
     let up : p.own turn ≤ t = p.up turn in
@@ -69,32 +69,32 @@ pass_holds p turn sent h k =
     }
 
 -- lists of steps
-pub fair_append : (xs ys : List Step) (h : Core) → AllFair h xs → AllFair (run xs h) ys → AllFair h (xs ++ ys)
+pub fair_append : (xs ys : List Step) (h : Core) → AllFair h xs → AllFair (run_world xs h) ys → AllFair h (xs ++ ys)
 fair_append [] ys h a b = b
-fair_append (x ∷ xs) ys h a b = (a.0, fair_append xs ys (after h x) a.1 b)
+fair_append (x ∷ xs) ys h a b = (a.0, fair_append xs ys (world_after h x) a.1 b)
 
-pub find_append : (xs ys : List Step) (h : Core) → AllFind h xs → AllFind (run xs h) ys → AllFind h (xs ++ ys)
+pub find_append : (xs ys : List Step) (h : Core) → AllFind h xs → AllFind (run_world xs h) ys → AllFind h (xs ++ ys)
 find_append [] ys h a b = b
-find_append (x ∷ xs) ys h a b = (a.0, find_append xs ys (after h x) a.1 b)
+find_append (x ∷ xs) ys h a b = (a.0, find_append xs ys (world_after h x) a.1 b)
 
 pub timely_front : (xs ys : List Step) (h : Core) → AllTimely h (xs ++ ys) → AllTimely h xs
 timely_front [] ys h a = tt
-timely_front (x ∷ xs) ys h a = (a.0, timely_front xs ys (after h x) a.1)
+timely_front (x ∷ xs) ys h a = (a.0, timely_front xs ys (world_after h x) a.1)
 
-pub timely_behind : (xs ys : List Step) (h : Core) → AllTimely h (xs ++ ys) → AllTimely (run xs h) ys
+pub timely_behind : (xs ys : List Step) (h : Core) → AllTimely h (xs ++ ys) → AllTimely (run_world xs h) ys
 timely_behind [] ys h a = a
-timely_behind (x ∷ xs) ys h a = timely_behind xs ys (after h x) a.1
+timely_behind (x ∷ xs) ys h a = timely_behind xs ys (world_after h x) a.1
 
 pub quiet_hold : (p : Plan) (turn : ℕ) (sent : List Sent) (steps : List Step) (h : Core) → AreQuiet steps → Holds p turn sent h → AllTimely h steps
-    → AllFair h steps × AllFind h steps × Holds p turn sent (run steps h)
+    → AllFair h steps × AllFind h steps × Holds p turn sent (run_world steps h)
 quiet_hold p turn sent [] h q k timely = (tt, tt, k)
 quiet_hold p turn sent (s ∷ steps) h q k timely =
     let one = quiet_holds p turn sent h s q.0 k timely.0 in
-    let rest = quiet_hold p turn sent steps (after h s) q.1 one.2 timely.1 in
+    let rest = quiet_hold p turn sent steps (world_after h s) q.1 one.2 timely.1 in
     ((one.0, rest.0), (one.1, rest.1), rest.2)
 
 abbrev TurnHolds : Plan → ℕ → List Sent → Orders → Core → List Step → Type 0
-TurnHolds p turn sent o h steps = AllFair h steps × AllFind h steps × Holds p (turn + 1) (sent ++ sent_at turn (queued_in o)) (run steps h)
+TurnHolds p turn sent o h steps = AllFair h steps × AllFind h steps × Holds p (turn + 1) (sent ++ sent_at turn (queued_in o)) (run_world steps h)
 
 -- a turn
 turn_steps_hold : (p : Plan) (turn : ℕ) (sent rest : List Sent) (o : Orders) (before rear : List Step) (h : Core) → AreQuiet before → AreQuiet rear → Holds p turn sent h
@@ -106,22 +106,22 @@ turn_steps_hold p turn sent rest o before rear h bq rq k all timely =
     let us = units_orders o.batch.units in
     let pass = Do (Pass (p.own (turn + 1))) in
     let split : sent_at turn (queued_in o) ≡ sent_at turn cs ++ sent_at turn us = sent_append turn cs us in
-    let h1 = after h (Turn turn) in
+    let h1 = world_after h (Turn turn) in
     let k1 = (quiet_holds p turn sent h (Turn turn) tt k tt).2 in
-    let h2 = happens h1 (Control o.control) in
+    let h2 = after_event h1 (Control o.control) in
     let whole : ((sent ++ sent_at turn cs) ++ sent_at turn us) ++ rest ≡ p.front ++ p.tail =
     ap (λ x. x ++ rest) (append_assoc sent (sent_at turn cs) (sent_at turn us) ∙ ap (λ x. sent ++ x) (sym split)) ∙ all in
     let k2 : Holds p turn (sent ++ sent_at turn cs) h2 =
     queues_on p turn sent (sent_at turn us ++ rest) h1 (Control o.control) k1 (sym (append_assoc (sent ++ sent_at turn cs) (sent_at turn us) rest) ∙ whole) refl refl refl in
-    let h3 = happens h2 (Put o.batch) in
+    let h3 = after_event h2 (Put o.batch) in
     let k3 : Holds p turn ((sent ++ sent_at turn cs) ++ sent_at turn us) h3 = queues_on p turn (sent ++ sent_at turn cs) rest h2 (Put o.batch) k2 whole refl refl refl in
     let q = quiet_hold p turn ((sent ++ sent_at turn cs) ++ sent_at turn us) before h3 bq k3 (timely_front before (pass ∷ rear) h3 timely.1.1.1) in
-    let h4 = run before h3 in
+    let h4 = run_world before h3 in
     let k5 = pass_holds p turn ((sent ++ sent_at turn cs) ++ sent_at turn us) h4 q.2 in
-    let h5 = after h4 pass in
+    let h5 = world_after h4 pass in
     let late = timely_behind before (pass ∷ rear) h3 timely.1.1.1 in
     let r = quiet_hold p (turn + 1) ((sent ++ sent_at turn cs) ++ sent_at turn us) rear h5 rq k5 late.1 in
-    let At : List Sent → Type 0 = λ x. Holds p (turn + 1) x (run rear h5) in
+    let At : List Sent → Type 0 = λ x. Holds p (turn + 1) x (run_world rear h5) in
     let To : Core → Type 0 = λ x. Holds p (turn + 1) (sent ++ sent_at turn (queued_in o)) x in (
       (tt, (tt, (tt, fair_append before (pass ∷ rear) h3 q.0 (tt, r.0)))),
       (tt, (tt, (tt, find_append before (pass ∷ rear) h3 q.1 (tt, r.1)))),
@@ -136,7 +136,7 @@ turn_holds p turn sent rest o steps h t k all timely =
     subst At (sym t.are) (turn_steps_hold p turn sent rest o t.before t.after h t.before_quiet t.after_quiet k all (subst Timely t.are timely))
 
 abbrev pub TurnsHold : Plan → ℕ → List Sent → List Orders → Core → List Step → Type 0
-TurnsHold p turn sent os h steps = AllFair h steps × AllFind h steps × Holds p (turn + length os) (sent ++ sent_in turn os) (run steps h)
+TurnsHold p turn sent os h steps = AllFair h steps × AllFind h steps × Holds p (turn + length os) (sent ++ sent_in turn os) (run_world steps h)
 
 pub turns_hold : (p : Plan) (turn : ℕ) (sent rest : List Sent) (os : List Orders) (steps : List Step) (h : Core) → AreTurnsOf p.own turn os steps → Holds p turn sent h
     → (sent ++ sent_in turn os) ++ rest ≡ p.front ++ p.tail → AllTimely h steps → TurnsHold p turn sent os h steps
@@ -155,11 +155,11 @@ turns_hold p turn sent rest (o ∷ os) steps h t k all timely =
     let cut : mid ++ sent_in (turn + 1) os ≡ sent ++ sent_in turn (o ∷ os) = append_assoc sent (sent_at turn (queued_in o)) (sent_in (turn + 1) os) in
     let whole : (mid ++ sent_in (turn + 1) os) ++ rest ≡ p.front ++ p.tail = ap (λ x. x ++ rest) cut ∙ all in
     let a = turn_holds p turn sent (sent_in (turn + 1) os ++ rest) o first h one k (sym (append_assoc mid (sent_in (turn + 1) os) rest) ∙ whole) (timely_front first later h all_timely) in
-    let b = turns_hold p (turn + 1) mid rest os later (run first h) more a.2 whole (timely_behind first later h all_timely) in
+    let b = turns_hold p (turn + 1) mid rest os later (run_world first h) more a.2 whole (timely_behind first later h all_timely) in
     let n : turn + 1 + length os ≡ turn + length (o ∷ os) = omega arith in
     let To : Core → Type 0 = λ x. Holds p (turn + length (o ∷ os)) (sent ++ sent_in turn (o ∷ os)) x in
-    let On : ℕ → Type 0 = λ x. Holds p x (mid ++ sent_in (turn + 1) os) (run later (run first h)) in
-    let Here : List Sent → Type 0 = λ x. Holds p (turn + length (o ∷ os)) x (run later (run first h)) in
+    let On : ℕ → Type 0 = λ x. Holds p x (mid ++ sent_in (turn + 1) os) (run_world later (run_world first h)) in
+    let Here : List Sent → Type 0 = λ x. Holds p (turn + length (o ∷ os)) x (run_world later (run_world first h)) in
     subst At (sym are) (
       fair_append first later h a.0 b.0,
       find_append first later h a.1 b.1,
@@ -181,7 +181,7 @@ none_free zero i x e = cc
 none_free (suc n) zero x e = cc
 none_free (suc n) (suc i) x e = none_free n i x e
 
-pub starts : (p : Plan) (b : BoardDef) (pins : List (List Level)) → p.own 0 ≡ b.start → p.slots ≡ b.slots → Holds p 0 [] (start b pins)
+pub starts : (p : Plan) (b : BoardDef) (pins : List (List Level)) → p.own 0 ≡ b.start → p.slots ≡ b.slots → Holds p 0 [] (new_world b pins)
 unfolding new_controller
 starts p b pins first slots = record {
   ordered = start_ordered b pins;

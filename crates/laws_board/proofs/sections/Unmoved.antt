@@ -6,12 +6,12 @@ use Rattle.plan_types.specs.declared.plan.Pulse.{Pulse}
 use Rattle.plan_types.specs.Lines.{Clocks}
 use Rattle.board_sim.specs.Fair.{only}
 use Rattle.board_sim.proofs.HaltedTime.{part_cut}
-use Rattle.board_world.specs.World.{Step, run, start}
+use Rattle.board_world.specs.World.{Step, run_world, new_world}
 use Rattle.link_work.specs.Turn.{Orders}
 use Rattle.laws_board.specs.sections.Events.{AreTicks, AreTurnsOf}
-use Rattle.laws_board.specs.sections.Known.{sent_in, known}
+use Rattle.laws_board.specs.sections.Known.{sent_in, known_steppers}
 use Rattle.laws_board.specs.sections.Runs.{Begins}
-use Rattle.laws_board.specs.sections.Parts.{IsRun}
+use Rattle.laws_board.specs.sections.Parts.{IsBoardRun}
 use Rattle.laws_board.specs.sections.Timely.{AllTimely}
 use Rattle.laws_board.proofs.sections.Turning.{starts, turns_hold}
 use Rattle.laws_board.proofs.sections.Taking.{front_front}
@@ -28,14 +28,14 @@ begins_none : (ps : List Pulse) → Begins ps [] → ps ≡ []
 begins_none [] b = refl
 begins_none (p ∷ ps) b = absurd (nil_cons p (ps ++ b.0) (sym b.1))
 
-pub none_made : (b : BoardDef) (pins : List (List Level)) (own : ℕ → ℕ) (clocks : Clocks) (ready : ℕ) (os : List Orders) (steps : List Step) → AreTicks own → own 0 ≡ b.start → IsRun own clocks b.freq b.slots ready [] os
-    → AreTurnsOf own 0 os steps → AllTimely (start b pins) steps → (run steps (start b pins)).made ≡ []
+pub none_made : (b : BoardDef) (pins : List (List Level)) (own : ℕ → ℕ) (clocks : Clocks) (ready : ℕ) (os : List Orders) (steps : List Step) → AreTicks own → own 0 ≡ b.start → IsBoardRun own clocks b.freq b.slots ready [] os
+    → AreTurnsOf own 0 os steps → AllTimely (new_world b pins) steps → (run_world steps (new_world b pins)).made ≡ []
 none_made b pins own clocks ready os steps ticks first r turns timely =
-    let h = run steps (start b pins) in
+    let h = run_world steps (new_world b pins) in
     let x = run_splits own clocks b.freq b.slots ready [] os ticks r in
     let p = plan_of b own (sent_in 0 os) [] (0 + length os) ticks x in
-    let k = (turns_hold p 0 [] [] os steps (start b pins) turns (starts p b pins first refl) (append-nil (sent_in 0 os) ∙ x.is) timely).2 in
+    let k = (turns_hold p 0 [] [] os steps (new_world b pins) turns (starts p b pins first refl) (append-nil (sent_in 0 os) ∙ x.is) timely).2 in
     none_own h.made (λ oid.
     let cut = part_cut h.board.controller h.made h.meant k.kept oid in
-    let front = front_front (only oid h.meant) (known p.front oid).steps [] (meant_front p (0 + length os) (sent_in 0 os) h k oid) (x.steps oid) in
+    let front = front_front (only oid h.meant) (known_steppers p.front oid).steps [] (meant_front p (0 + length os) (sent_in 0 os) h k oid) (x.steps oid) in
     begins_none (only oid h.made) (front_front (only oid h.made) (only oid h.meant) [] cut front))

@@ -7,10 +7,10 @@ use Rattle.plan_types.specs.Numbers.{UpFrom}
 use Rattle.plan_types.specs.declared.plan.Pulse.{Pulse}
 use Rattle.plan_types.specs.Board.{Group, last_of, steps_of, pending_steps}
 use Rattle.plan_types.specs.Plan.{pulse_of}
-use Rattle.board_sim.specs.Fair.{RiseFrom, only}
+use Rattle.board_sim.specs.Fair.{GroupsRiseFrom, only}
 use Rattle.link_work.specs.Turn.{Orders}
 use Rattle.link_work.specs.Runs.{queued_in}
-use Rattle.laws_board.specs.sections.Known.{Sent, sent_at, sent_in, orders_in}
+use Rattle.laws_board.specs.sections.Known.{Sent, sent_at, sent_in, orders_sent}
 use Rattle.laws_board.proofs.sections.Counts.{last_least}
 use Rattle.laws_board.proofs.sections.Lists.{orders_append, orders_at}
 use Rattle.laws_board.proofs.sections.Entering.{AreEarly}
@@ -21,7 +21,7 @@ pub up_late : (x low oid : ℕ) (up : Bool) (ts : List ℕ) → x ≤ low → Up
 up_late x low oid up [] h u = tt
 up_late x low oid up (t ∷ ts) h u = (omega (arith, h, u.0), up_late x t oid up ts (omega (arith, h, u.0)) u.1)
 
-pub rise_late : (x low oid : ℕ) (gs : List Group) → x ≤ low → RiseFrom low gs → AreLate x (map (pulse_of oid) (pending_steps gs))
+pub rise_late : (x low oid : ℕ) (gs : List Group) → x ≤ low → GroupsRiseFrom low gs → AreLate x (map (pulse_of oid) (pending_steps gs))
 rise_late x low oid [] h r = tt
 rise_late x low oid (g ∷ gs) h r =
     rw (map-append (pulse_of oid) (steps_of g.up g.ticks) (pending_steps gs))
@@ -29,13 +29,13 @@ rise_late x low oid (g ∷ gs) h r =
     (rise_late x (last_of low g.ticks) oid gs (omega (arith, h, last_least low low g.ticks r.1 r.0)) r.2))
 
 -- what is queued before a turn, as commands
-pub sent_orders : (turn : ℕ) (os : List Orders) → orders_in (sent_in turn os) ≡ flat_map queued_in os
+pub sent_orders : (turn : ℕ) (os : List Orders) → orders_sent (sent_in turn os) ≡ flat_map queued_in os
 sent_orders turn [] = refl
 sent_orders turn (o ∷ os) =
-    orders_append (sent_at turn (queued_in o)) (sent_in (turn + 1) os) ∙ ap (λ x. x ++ orders_in (sent_in (turn + 1) os)) (orders_at turn (queued_in o))
+    orders_append (sent_at turn (queued_in o)) (sent_in (turn + 1) os) ∙ ap (λ x. x ++ orders_sent (sent_in (turn + 1) os)) (orders_at turn (queued_in o))
     ∙ ap (λ x. queued_in o ++ x) (sent_orders (turn + 1) os)
 
-pub orders_length : (ss : List Sent) → length (orders_in ss) ≡ length ss
+pub orders_length : (ss : List Sent) → length (orders_sent ss) ≡ length ss
 orders_length [] = refl
 orders_length (s ∷ ss) = ap (λ n. suc n) (orders_length ss)
 

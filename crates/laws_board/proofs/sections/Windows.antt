@@ -3,21 +3,21 @@ use Rattle.std.proofs.Common.{◌≡◌, ℕ, ◌+◌, List, [], ◌∷◌, ◌+
 use Rattle.plan_types.specs.declared.plan.Pulse.{Pulse}
 use Rattle.board_sim.specs.Fair.{only}
 use Rattle.board_world.specs.declared.event.Event.TheVariants.{Put, Control, Pass}
-use Rattle.board_world.specs.World.{Core, Step, Do, Turn, after, run}
-use Rattle.laws_board.specs.sections.Events.{IsQuiet, AreQuiet}
+use Rattle.board_world.specs.World.{Core, Step, Do, Turn, world_after, run_world}
+use Rattle.laws_board.specs.sections.Events.{QueuesNothing, AreQuiet}
 use Rattle.laws_board.proofs.sections.Passes.{AreBetween}
 
 -- quiet steps make no pulses
-quiet_made_one : (h : Core) (s : Step) → IsQuiet s → (after h s).made ≡ h.made
+quiet_made_one : (h : Core) (s : Step) → QueuesNothing s → (world_after h s).made ≡ h.made
 quiet_made_one h (Turn n) q = refl
 quiet_made_one h (Do (Put b)) q = absurd q
 quiet_made_one h (Do (Control c)) q = absurd q
 quiet_made_one h (Do (Pass t)) q = absurd q
 quiet_made_one h (Do e) q = append-nil h.made
 
-pub quiet_made : (steps : List Step) (h : Core) → AreQuiet steps → (run steps h).made ≡ h.made
+pub quiet_made : (steps : List Step) (h : Core) → AreQuiet steps → (run_world steps h).made ≡ h.made
 quiet_made [] h q = refl
-quiet_made (s ∷ steps) h q = quiet_made steps (after h s) q.1 ∙ quiet_made_one h s q.0
+quiet_made (s ∷ steps) h q = quiet_made steps (world_after h s) q.1 ∙ quiet_made_one h s q.0
 
 -- new pulses, of every stepper within a window
 abbrev pub Makes : ℕ → ℕ → List Pulse → List Pulse → Type 0

@@ -18,7 +18,7 @@ use Rattle.motion_work.specs.declared.told.BoardLine.{BoardLine}
 use Rattle.motion_work.specs.Further.{WereHeard, told_on}
 use Rattle.motion_work.specs.Told.{Told, heard, lines_in}
 use Rattle.motion_stream.specs.Motions as motion
-use Rattle.motion_stream.specs.Motions.{Can, Hears, Makes, Planner, Reads, lines_kept}
+use Rattle.motion_stream.specs.Motions.{CanTurnPlanner, Hears, Makes, Planner, TakesText, lines_kept}
 use Rattle.motion_stream.specs.Texts.{MayBecome}
 use Rattle.motion_stream.specs.Uptakes.{IsNotLost}
 use Rattle.motion_stream.specs.Wholes.{AreSentIn}
@@ -34,9 +34,9 @@ pub record IsPlanning {M : Type 0} (g : Motion M) (view : M → Planner) : Type 
   pub wants : (x : M) (k : ℕ) → g.wants x k ≡ motion.wants (view x) k
   pub hungry : (x : M) (k : ℕ) → g.hungry x k ≡ motion.hungry (view x) k
   pub hears : (x y : M) (w : WordMsg) → g.hears x w y → Hears (view x) w (view y)
-  pub reads : (x y : M) (p : Piece) → g.reads x p y → Reads (view x) p.bytes p.end (view y)
+  pub reads : (x y : M) (p : Piece) → g.reads x p y → TakesText (view x) p.bytes p.end (view y)
   pub turns : (x y : M) (k : ℕ) (batches : List Batch) (note : Note) → g.turns x k batches note y →
-      Can (view x) k × Makes (view x) k batches note (view y)
+      CanTurnPlanner (view x) k × Makes (view x) k batches note (view y)
 
 -- a planner, as a machine of a run
 abbrev pub planning : Motion Planner
@@ -44,10 +44,10 @@ planning = record {
   boards = λ p. length p.machine.boards;
   wants = λ p k. motion.wants p k;
   hungry = λ p k. motion.hungry p k;
-  can = λ p k. Can p k;
+  can = λ p k. CanTurnPlanner p k;
   hears = λ p w q. Hears p w q;
-  reads = λ p piece q. Reads p piece.bytes piece.end q;
-  turns = λ p k batches note q. Can p k × Makes p k batches note q;
+  reads = λ p piece q. TakesText p piece.bytes piece.end q;
+  turns = λ p k batches note q. CanTurnPlanner p k × Makes p k batches note q;
 }
 
 -- what was put in a turn, and in some
@@ -59,36 +59,36 @@ abbrev pub puts_of : List MotionTurn → List Put
 puts_of ts = map put_of ts
 
 -- what was read of a text: its bytes so far, and whether it ended
-pub record Text : Type 0 where
+pub record TextSofar : Type 0 where
   pub bytes : List ℕ
   pub ended : Bool
 
 -- nothing was read of a text
-abbrev pub nothing_read : Text
+abbrev pub nothing_read : TextSofar
 nothing_read = record { bytes = []; ended = false }
 
 -- what is read behind a piece
-abbrev pub read_on : Text → Piece → Text
+abbrev pub read_on : TextSofar → Piece → TextSofar
 read_on r p = record { bytes = r.bytes ++ p.bytes; ended = p.end }
 
 -- and behind some
-abbrev pub read_all : Text → List Piece → Text
+abbrev pub read_all : TextSofar → List Piece → TextSofar
 read_all r [] = r
 read_all r (p ∷ ps) = read_all (read_on r p) ps
 
 -- what was read in some turns
-abbrev pub read_by : Text → List MotionTurn → Text
+abbrev pub read_by : TextSofar → List MotionTurn → TextSofar
 read_by r [] = r
 read_by r (t ∷ ts) = read_by (read_all r t.pieces) ts
 
 -- what is known of connecting behind some words that are taken in a turn
-abbrev pub heard_in : Machine → ℕ → List WordMsg → Option Told → Option Told
-heard_in m k [] told = told
-heard_in m k (w ∷ ws) told = heard_in m k ws (heard m k w told)
+abbrev pub connecting_heard : Machine → ℕ → List WordMsg → Option Told → Option Told
+connecting_heard m k [] told = told
+connecting_heard m k (w ∷ ws) told = connecting_heard m k ws (heard m k w told)
 
 -- what is known of it behind a turn, by its words and by the further clock lines that its note tells
 abbrev pub told_behind : Machine → ℕ → MotionTurn → Option Told → Option Told
-told_behind m k t told = told_on t.note.news (heard_in m k t.words told)
+told_behind m k t told = told_on t.note.news (connecting_heard m k t.words told)
 
 -- and behind some turns, of which this is the first one's number
 abbrev pub told_of : Machine → ℕ → List MotionTurn → Option Told → Option Told
@@ -101,7 +101,7 @@ told_of m k (t ∷ ts) told = told_of m (k + 1) ts (told_behind m k t told)
 abbrev pub TookInTime : Machine → ℕ → ℕ → List MotionTurn → Option Told → Type 0
 TookInTime m k taken [] told = Unit {0}
 TookInTime m k taken (t ∷ ts) told =
-    (heard_in m k t.words told ≡ None → k < taken + length t.words) × (k < taken + length t.words + 64)
+    (connecting_heard m k t.words told ≡ None → k < taken + length t.words) × (k < taken + length t.words + 64)
     × TookInTime m (k + 1) (taken + length t.words) ts (told_behind m k t told)
 
 -- where the boards' clock lines are known, their ticks begin in range
@@ -113,7 +113,7 @@ BeginInRange m (Some t) = (b : ℕ) → b < length m.boards → (clocks_at t.clo
 abbrev pub AllInRange : Machine → ℕ → List MotionTurn → Option Told → Type 0
 AllInRange m k [] told = Unit {0}
 AllInRange m k (t ∷ ts) told =
-    BeginInRange m (heard_in m k t.words told) × AllInRange m (k + 1) ts (told_behind m k t told)
+    BeginInRange m (connecting_heard m k t.words told) × AllInRange m (k + 1) ts (told_behind m k t told)
 
 -- in a turn nothing is put but bare messages, for so many boards
 abbrev pub IsBare : ℕ → ℕ → MotionTurn → Type 0
@@ -127,7 +127,7 @@ AreBare n k (t ∷ ts) = IsBare n k t × AreBare n (k + 1) ts
 
 -- What the turns of a planner are told by: a text, what is known of connecting, and the first sections of the
 -- text, those that were begun.
-pub record Seen : Type 0 where
+pub record PlannerInput : Type 0 where
   pub text : List ℕ
   pub told : Option Told
   pub begun : List Started
@@ -208,7 +208,7 @@ abbrev pub TakeUpLines : Machine → ℕ → List MotionTurn → Option Told →
 TakeUpLines m k [] told = Unit {0}
 TakeUpLines m k (t ∷ ts) told =
     WereHeard (fresh_in m k t.words told) t.note.news
-    × LoseNone m k t.note.news (fresh_in m k t.words told) (heard_in m k t.words told)
+    × LoseNone m k t.note.news (fresh_in m k t.words told) (connecting_heard m k t.words told)
     × TakeUpLines m (k + 1) ts (told_behind m k t told)
 
 -- Turns of a planner from turn k on, behind these that were put, this text, this that was told and so many
@@ -220,9 +220,9 @@ TakeUpLines m k (t ∷ ts) told =
 -- turn in which the word that tells them is taken, and of each board of which one is told that it may have,
 -- one is taken up. From the first turn on in which memory was wanted, or no text could be read, or nothing
 -- was to follow, all is bare.
-pub record PlansFrom (m : Machine) (n k : ℕ) (before : List Put) (text : Text) (told : Option Told) (taken : ℕ)
+pub record PlansFrom (m : Machine) (n k : ℕ) (before : List Put) (text : TextSofar) (told : Option Told) (taken : ℕ)
     (ts : List MotionTurn) : Type 0 where
-  pub seen : Seen
+  pub seen : PlannerInput
   pub made : List MotionTurn
   pub bare : List MotionTurn
   pub last : List MotionTurn
@@ -249,7 +249,7 @@ abbrev pub Plans : Machine → ℕ → List MotionTurn → Type 0
 Plans m n ts = PlansFrom m n 0 [] nothing_read None 0 ts
 
 -- what was read of a text in any of the first ones of some turns is its beginning, and all of it where it ended
-abbrev pub AreRead : Text → List MotionTurn → List ℕ → Type 0
-AreRead text ts whole =
+abbrev pub AreReadInOrder : TextSofar → List MotionTurn → List ℕ → Type 0
+AreReadInOrder text ts whole =
     (front rest : List MotionTurn) → ts ≡ front ++ rest →
     MayBecome (read_by text front).ended (read_by text front).bytes whole

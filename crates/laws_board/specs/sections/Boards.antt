@@ -6,7 +6,7 @@ use Rattle.plan_types.specs.declared.plan.Pulse.{Pulse}
 use Rattle.plan_types.specs.Lines.{Clocks}
 use Rattle.msg_code.specs.declared.talk.State.{State}
 use Rattle.section_units.specs.Sections.{BoardSection}
-use Rattle.board_world.specs.World.{start}
+use Rattle.board_world.specs.World.{new_world}
 use Rattle.link_work.specs.Turn.{Orders}
 use Rattle.laws_board.specs.sections.Links.{pulses_in}
 

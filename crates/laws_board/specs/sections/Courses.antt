@@ -11,11 +11,11 @@ use Rattle.msg_code.specs.declared.cmd.Cmd.TheVariants as cmd
 use Rattle.board_sim.specs.Board.{stepper_at, Controller}
 use Rattle.board_sim.specs.Fair.{pending_at, Meant, commands_of}
 use Rattle.board_sim.specs.Halted.{is_halted}
-use Rattle.board_world.specs.World.{Core, Step, run, start, Do, Turn, after, takes_in}
+use Rattle.board_world.specs.World.{Core, Step, run_world, new_world, Do, Turn, world_after, takes_in}
 use Rattle.link_work.specs.Turn.{Orders}
 use Rattle.link_work.specs.Runs.{queued_in}
 use Rattle.laws_board.specs.sections.Events.{AreTicks, AreTurnsOf}
-use Rattle.laws_board.specs.sections.Known.{Sent, sent_at, sent_in, orders_in, Known, unknown, knows_of, AreBelow, IsGoodTriple, IsLostFor}
+use Rattle.laws_board.specs.sections.Known.{Sent, sent_at, sent_in, orders_sent, Known, unknown, knows_of, AreBelow, IsGoodTriple, IsLostFor}
 use Rattle.laws_board.specs.sections.Finds.{StepsFindHalted}
 use Rattle.laws_board.specs.sections.Runs.{Begins}
 use Rattle.laws_board.specs.sections.Timely.{AllTimely}
@@ -39,15 +39,15 @@ abbrev pub no_course : Course
 no_course = record { known = unknown; since = None; past = [] }
 
 -- the parts of its steps, the present one first
-abbrev pub parts_of : Course → List Part
-parts_of c = record { since = c.since; steps = c.known.steps } ∷ c.past
+abbrev pub course_parts : Course → List Part
+course_parts c = record { since = c.since; steps = c.known.steps } ∷ c.past
 
 -- its clock is set by a command that was queued in a turn: a part ends, and one begins
 abbrev pub next_part : ℕ → ℕ → Course → Course
 next_part turn clock c = record {
   known = record c.known { clock = clock; ends = []; steps = [] };
   since = Some turn;
-  past = parts_of c;
+  past = course_parts c;
 }
 
 -- what a command that was queued in a turn makes of a stepper
@@ -167,7 +167,7 @@ FindsFree b _ = Unit {0}
 abbrev pub HeedsIn : List Sent → List Sent → Core → List Meant → Type 0
 HeedsIn front [] h ms = Unit {0}
 HeedsIn front (t ∷ tail) h ms =
-    (first rest : List Meant) → ms ≡ first ++ t.order ∷ rest → h.taken ++ first ≡ orders_in front →
+    (first rest : List Meant) → ms ≡ first ++ t.order ∷ rest → h.taken ++ first ≡ orders_sent front →
     (takes_all h.board (commands_of first)).rig.controller.state ≡ Running →
     FindsFree (takes_all h.board (commands_of first)).rig.controller t.order.command
 
@@ -179,7 +179,7 @@ HeedsAt front tail h (Turn turn) = Unit {0}
 -- so it is in some steps
 abbrev pub AllHeed : List Sent → List Sent → Core → List Step → Type 0
 AllHeed front tail h [] = Unit {0}
-AllHeed front tail h (s ∷ steps) = HeedsAt front tail h s × AllHeed front tail (after h s) steps
+AllHeed front tail h (s ∷ steps) = HeedsAt front tail h s × AllHeed front tail (world_after h s) steps
 
 -- a command that sets a clock is taken in a turn before the one in which the part that it begins stops
 abbrev pub IsInTime : (ℕ → Option ℕ) → ℕ → ℕ → Cmd → Type 0
@@ -197,7 +197,7 @@ AreInTime stops turn (s ∷ ss) = IsInTime stops turn s.turn s.order.command × 
 abbrev pub IsSettled : (ℕ → Option ℕ) → List Sent → ℕ → List Sent → Core → Type 0
 IsSettled stops front turn sent h =
     h.board.controller.state ≡ Running → (done left more : List Sent) → done ++ left ≡ sent → done ++ more ≡ front →
-    orders_in done ≡ h.taken →
+    orders_sent done ≡ h.taken →
     AreInTime stops turn more
     × ((oid : ℕ) → IsStopped stops turn (courses done oid).since →
     (is_halted (stepper_at h.board.controller oid) ≡ true) ⊎ ((courses done oid).known.ends ≡ []))
@@ -206,7 +206,7 @@ IsSettled stops front turn sent h =
 abbrev pub FindStopped : (ℕ → Option ℕ) → List Sent → ℕ → List Sent → Core → List Step → Type 0
 FindStopped stops front turn sent h steps =
     h.board.controller.state ≡ Running →
-    (done left more : List Sent) → done ++ left ≡ sent → done ++ more ≡ front → orders_in done ≡ h.taken →
+    (done left more : List Sent) → done ++ left ≡ sent → done ++ more ≡ front → orders_sent done ≡ h.taken →
     (oid : ℕ) → IsStopped stops turn (courses done oid).since → StepsFindHalted oid h steps
 
 -- so as each of some turns begins, before which some commands were queued, and in its steps
@@ -215,7 +215,7 @@ abbrev pub AreSettled : (stops : ℕ → Option ℕ) (front : List Sent) (own : 
 AreSettled stops front own turn sent [] steps h t = IsSettled stops front turn sent h
 AreSettled stops front own turn sent (o ∷ os) steps h t =
     IsSettled stops front turn sent h × FindStopped stops front turn sent h t.0
-    × AreSettled stops front own (turn + 1) (sent ++ sent_at turn (queued_in o)) os t.1 (run t.0 h) t.4
+    × AreSettled stops front own (turn + 1) (sent ++ sent_at turn (queued_in o)) os t.1 (run_world t.0 h) t.4
 
 -- What happens on a board and its link in some turns, where the commands that are queued are good, up to one
 -- that is queued too late, and triggers may halt steppers: no unit is taken half a round of the 32-bit clock
@@ -233,6 +233,6 @@ pub record IsGoodRun (b : BoardDef) (pins : List (List Level)) (own : ℕ → �
   pub good : AreAllGood own stops b.slots front
   pub lost : BeginLostOn own stops b.slots (courses front) tail
   pub turns : AreTurnsOf own 0 os steps
-  pub timely : AllTimely (start b pins) steps
-  pub settled : AreSettled stops front own 0 [] os steps (start b pins) turns
-  pub heed : AllHeed front tail (start b pins) steps
+  pub timely : AllTimely (new_world b pins) steps
+  pub settled : AreSettled stops front own 0 [] os steps (new_world b pins) turns
+  pub heed : AllHeed front tail (new_world b pins) steps

@@ -7,7 +7,7 @@ use Rattle.board_sim.specs.Board.{stepper_at}
 use Rattle.board_sim.specs.Fair.{Meant}
 use Rattle.board_sim.specs.Rig.{Rig, takes}
 use Rattle.board_sim.specs.RigRuns.{IsHalted}
-use Rattle.board_world.specs.World.{Core, Step, Do, Turn, happens, in_turn, takes_in}
+use Rattle.board_world.specs.World.{Core, Step, Do, Turn, after_event, in_turn, takes_in}
 
 -- a command doesn't set the clock of a stepper
 abbrev pub SetsNot : ℕ → Cmd → Type 0
@@ -37,5 +37,5 @@ abbrev pub StepsFindHalted : ℕ → Core → List Step → Type 0
 StepsFindHalted stepper h [] = Unit {0}
 StepsFindHalted stepper h (Do e ∷ steps) =
     AllFindHalted stepper h.board (takes_in h e)
-    × (AllSetNot stepper (takes_in h e) → StepsFindHalted stepper (happens h e) steps)
+    × (AllSetNot stepper (takes_in h e) → StepsFindHalted stepper (after_event h e) steps)
 StepsFindHalted stepper h (Turn turn ∷ steps) = StepsFindHalted stepper (in_turn h turn) steps

@@ -13,13 +13,13 @@ use Rattle.msg_code.specs.declared.cmd.Cmd.{Cmd}
 use Rattle.msg_code.specs.declared.cmd.Cmd.TheVariants as cmd
 use Rattle.step_feed.specs.Pacing.{ArePaced, Release, batch_at, units_of}
 use Rattle.section_units.specs.Sections.{AreBefore, AreBegunBy, BoardSection, IsSection, base_of, of_stepper, section_steps}
-use Rattle.board_world.specs.World.{Step, run, start}
+use Rattle.board_world.specs.World.{Step, run_world, new_world}
 use Rattle.wire_scene.specs.declared.scene.Entry.{Entry}
 use Rattle.link_work.specs.Runs.{AreTurns, queued_in}
 use Rattle.link_work.specs.Stands.{first_state}
 use Rattle.link_work.specs.Turn.{LinkState, Orders}
 use Rattle.laws_board.specs.sections.Boards.{OnBoard}
-use Rattle.laws_board.specs.sections.Courses.{IsFrom, IsSince, IsSettled, AreSettled, FindStopped, AllHeed, AreAllGood, BeginLostOn, AreMadeFor, Course, courses, parts_of}
+use Rattle.laws_board.specs.sections.Courses.{IsFrom, IsSince, IsSettled, AreSettled, FindStopped, AllHeed, AreAllGood, BeginLostOn, AreMadeFor, Course, courses, course_parts}
 use Rattle.laws_board.specs.sections.Courses as course
 use Rattle.laws_board.specs.sections.Events.{AreOwn, AreTicks, AreTurnsOf}
 use Rattle.laws_board.specs.sections.Known.{Sent, sent_at, sent_in}
@@ -115,15 +115,15 @@ IsSetting oid (cmd.ResetStepClock other clock) = other ≡ oid
 IsSetting oid _ = ⊥
 
 -- one of some commands sets the clock of a stepper
-abbrev pub Sets : ℕ → List Cmd → Type 0
-Sets oid [] = ⊥
-Sets oid (c ∷ cs) = IsSetting oid c ⊎ Sets oid cs
+abbrev pub SomeSets : ℕ → List Cmd → Type 0
+SomeSets oid [] = ⊥
+SomeSets oid (c ∷ cs) = IsSetting oid c ⊎ SomeSets oid cs
 
 -- a stepper's clock is set for a homing section in one of some turns, of which this is the first one's number
 abbrev pub SetsIn : ℕ → BoardSection → ℕ → List Orders → Type 0
 SetsIn oid s turn [] = ⊥
 SetsIn oid s turn (o ∷ os) =
-    ((s.start ≤ turn + 254) × (turn + 252 ≤ s.start) × Sets oid o.control.commands) ⊎ SetsIn oid s (turn + 1) os
+    ((s.start ≤ turn + 254) × (turn + 252 ≤ s.start) × SomeSets oid o.control.commands) ⊎ SetsIn oid s (turn + 1) os
 
 -- so it is for each homing section that has units of it, where these turns come to them
 abbrev pub AreSet : ℕ → List RunSection → ℕ → List Orders → Type 0
@@ -135,7 +135,7 @@ AreSet oid (s ∷ ss) turn os =
 -- a stepper's clock is set by a control of some turns
 abbrev pub SetsAny : ℕ → List Orders → Type 0
 SetsAny oid [] = ⊥
-SetsAny oid (o ∷ os) = Sets oid o.control.commands ⊎ SetsAny oid os
+SetsAny oid (o ∷ os) = SomeSets oid o.control.commands ⊎ SetsAny oid os
 
 -- one of some sections has units of a stepper
 abbrev pub HasUnits : ℕ → List RunSection → Type 0
@@ -217,9 +217,9 @@ pub record IsSplitIn (own : ℕ → ℕ) (stops : ℕ → Option ℕ) (slots : �
   pub good : AreAllGood own stops slots front
   pub lost : BeginLostOn own stops slots (courses front) tail
   pub begun : BeginLeftOf (length os) ss (courses front) tail
-  pub fronts : (oid : ℕ) (ps : List Pulse) → AreMadeFor own stops (parts_of (courses front oid)) ps →
+  pub fronts : (oid : ℕ) (ps : List Pulse) → AreMadeFor own stops (course_parts (courses front oid)) ps →
       AreFrontsIn own oid ss ps
-  pub early : (oid : ℕ) (ps : List Pulse) → AreMadeFor own stops (parts_of (courses front oid)) ps →
+  pub early : (oid : ℕ) (ps : List Pulse) → AreMadeFor own stops (course_parts (courses front oid)) ps →
       AreBeforeFirst own tail ps
   pub whole : AreReleasedIn ss → tail ≡ []
 
@@ -251,11 +251,11 @@ pub record IsHomeSpan (b : BoardDef) (pins : List (List Level)) (own : ℕ → �
   pub split : IsSplitIn own stops b.slots ss (before ++ (during ++ behind))
   pub first_turns : AreTurnsOf own 0 before first
   pub second_turns : AreTurnsOf own (length before) during second
-  pub timely : AllTimely (start b pins) (first ++ second)
-  pub first_settled : AreSettled stops split.front own 0 [] before first (start b pins) first_turns
+  pub timely : AllTimely (new_world b pins) (first ++ second)
+  pub first_settled : AreSettled stops split.front own 0 [] before first (new_world b pins) first_turns
   pub second_settled : AreSettled stops split.front own (length before) (sent_in 0 before) during second
-      (run first (start b pins)) second_turns
-  pub heed : AllHeed split.front split.tail (start b pins) (first ++ second)
+      (run_world first (new_world b pins)) second_turns
+  pub heed : AllHeed split.front split.tail (new_world b pins) (first ++ second)
 
 -- As each of some turns of a link begins, its board, where it took none behind a front of what is queued, has begun the
 -- parts that stop by then, and it halts their steppers by then or before it takes a step of the part.
@@ -283,12 +283,12 @@ pub record IsHomeBoard (place : ℕ) (entries : List Entry) (ready turns : ℕ) 
   pub count : length x.orders ≡ turns
   pub end : LinkState
   pub told : AreTold (clock_of x.board) 0 x.orders x.states (first_state x.board x.pins place entries) end
-  pub timely : AllTimely (start x.board x.pins) (steps_of (clock_of x.board) 0 x.orders
+  pub timely : AllTimely (new_world x.board x.pins) (steps_of (clock_of x.board) 0 x.orders
       (first_state x.board x.pins place entries) end
       (turns_told (clock_of x.board) 0 x.orders x.states (first_state x.board x.pins place entries) end told))
   pub settled : AreSettledOn stops split.front (clock_of x.board) 0 [] x.orders
       (first_state x.board x.pins place entries) end
       (turns_told (clock_of x.board) 0 x.orders x.states (first_state x.board x.pins place entries) end told)
-  pub heed : AllHeed split.front split.tail (start x.board x.pins)
+  pub heed : AllHeed split.front split.tail (new_world x.board x.pins)
       (steps_of (clock_of x.board) 0 x.orders (first_state x.board x.pins place entries) end
       (turns_told (clock_of x.board) 0 x.orders x.states (first_state x.board x.pins place entries) end told))

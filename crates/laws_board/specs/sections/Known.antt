@@ -32,9 +32,9 @@ AreQueued turn [] = Unit {0}
 AreQueued turn (s ∷ ss) = (s.turn ≤ turn) × AreQueued turn ss
 
 -- the commands without their turns
-abbrev pub orders_in : List Sent → List Meant
-orders_in [] = []
-orders_in (s ∷ ss) = s.order ∷ orders_in ss
+abbrev pub orders_sent : List Sent → List Meant
+orders_sent [] = []
+orders_sent (s ∷ ss) = s.order ∷ orders_sent ss
 
 -- a stepper, as some commands make it
 pub record Known : Type 0 where
@@ -79,8 +79,8 @@ known_from oid k [] = k
 known_from oid k (s ∷ ss) = known_from oid (knows oid k s.order) ss
 
 -- what is known of each stepper behind some commands
-abbrev pub known : List Sent → ℕ → Known
-known ss oid = known_from oid unknown ss
+abbrev pub known_steppers : List Sent → ℕ → Known
+known_steppers ss oid = known_from oid unknown ss
 
 -- all numbers are below a number
 abbrev pub AreBelow : ℕ → List ℕ → Type 0

@@ -60,7 +60,7 @@ MakesIn oid (o ∷ os) = Makes oid o.control.commands ⊎ MakesIn oid os
 
 -- A board's part of a run: its own ticks and its clock lines, the sections, and what is queued turn by turn.
 -- A stepper that has units is made before the boards are ready.
-pub record IsRun (own : ℕ → ℕ) (clocks : Clocks) (freq slots ready : ℕ) (ss : List BoardSection) (os : List Orders)
+pub record IsBoardRun (own : ℕ → ℕ) (clocks : Clocks) (freq slots ready : ℕ) (ss : List BoardSection) (os : List Orders)
     : Type 0 where
   pub tracked : AreTracked own clocks ready
   pub sections : All (IsSection clocks freq slots) ss

@@ -5,7 +5,7 @@ use Rattle.plan_types.specs.declared.plan.BoardState.TheVariants.{Running}
 use Rattle.msg_code.specs.declared.cmd.Cmd.{Cmd}
 use Rattle.msg_code.specs.declared.cmd.Cmd.TheVariants as cmd
 use Rattle.board_sim.specs.Fair.{Meant}
-use Rattle.board_world.specs.World.{Core, Step, Do, Turn, takes_in, after, run}
+use Rattle.board_world.specs.World.{Core, Step, Do, Turn, takes_in, world_after, run_world}
 use Rattle.board_world.specs.Orders.{plain}
 use Rattle.board_world.specs.World.{on_wire}
 use Rattle.link_work.specs.Limits.{bytes_in, closing_in}
@@ -31,7 +31,7 @@ IsTimelyAt h (Turn turn) = Unit {0}
 -- the units that a running board takes in some steps are timely
 abbrev pub AllTimely : Core → List Step → Type 0
 AllTimely h [] = Unit {0}
-AllTimely h (s ∷ steps) = IsTimelyAt h s × AllTimely (after h s) steps
+AllTimely h (s ∷ steps) = IsTimelyAt h s × AllTimely (world_after h s) steps
 
 -- as each of some turns begins, a board has taken all that was queued n turns before it or earlier
 abbrev pub TakesSoon : (n : ℕ) (all : List Orders) (own : ℕ → ℕ) (turn : ℕ) (os : List Orders) (steps : List Step)
@@ -39,7 +39,7 @@ abbrev pub TakesSoon : (n : ℕ) (all : List Orders) (own : ℕ → ℕ) (turn :
 TakesSoon n all own turn [] steps h t = Unit {0}
 TakesSoon n all own turn (o ∷ os) steps h t =
     ((more : List Meant) × (flat_map queued_in (take (turn - n) all) ++ more ≡ h.taken))
-    × TakesSoon n all own (turn + 1) os t.1 (run t.0 h) t.4
+    × TakesSoon n all own (turn + 1) os t.1 (run_world t.0 h) t.4
 
 -- the control commands of some turns keep the limits of a turn: 42 bytes, and one at most closes its block
 abbrev pub ControlsKeep : List Orders → Type 0

@@ -9,7 +9,7 @@ use Rattle.wire_scene.specs.declared.scene.Switch.{Switch}
 use Rattle.link_work.specs.Stands.{orders}
 use Rattle.link_work.specs.Told.{IsTold}
 use Rattle.link_work.specs.Turn.{IsTurn, LinkState}
-use Rattle.host_reactor.specs.Runs.{Came, last_turn, state_at}
+use Rattle.host_reactor.specs.Runs.{Came, last_reacted, state_at}
 
 -- a turn of a board with its link: what came to it, what it told, and how it stands behind
 pub record BoardTurn : Type 0 where
@@ -51,5 +51,5 @@ IsBoardOf m switches b [] (t ∷ turns) = ⊥
 IsBoardOf m switches b (c ∷ before) [] = ⊥
 IsBoardOf m switches b (c ∷ before) (t ∷ turns) =
     (state_at b c.states ≡ latest_state turns)
-    × (control_at b (last_turn m switches c before).ordered.controls ≡ t.control ∷ [])
+    × (control_at b (last_reacted m switches c before).ordered.controls ≡ t.control ∷ [])
     × IsBoardOf m switches b before turns

@@ -19,7 +19,7 @@ use Rattle.laws_homing.specs.clear_boards.Alive.{IsAlive, IsSwitched, RelayNone,
 use Rattle.laws_homing.specs.clear_boards.Firing.{AllKeen, AreSpoken, IsKeen, IsOff}
 use Rattle.laws_homing.specs.clear_boards.Limited.{IsLimited}
 use Rattle.laws_homing.specs.clear_boards.Reports.{IsReported}
-use Rattle.laws_homing.specs.clear_boards.Turned.{AreBehind, IsBehind, Relays}
+use Rattle.laws_homing.specs.clear_boards.Turned.{AreSentBehind, IsSentBehind, Relays}
 use Rattle.laws_homing.proofs.clear_boards.Firing.{passes_gone}
 use Rattle.laws_homing.proofs.clear_boards.Reports.{reports_told}
 use Rattle.laws_homing.proofs.clear_boards.Slots.{Follows, OfEach, running_beside, running_each, with_trigger}
@@ -47,7 +47,7 @@ abbrev LeftOf : ℕ → Slot → (List (List Level) → ℕ → Slot → Type 0)
 LeftOf oid s pins i u = i ≡ oid → (o : Option ℕ) × (u ≡ with_timeout s o)
 
 abbrev Ahead : ℕ → ℕ → (ℕ → Cmd → Type 0)
-Ahead oid clock now c = IsBehind oid clock c × (Relays c → ⊥) × (now < nearest now clock)
+Ahead oid clock now c = IsSentBehind oid clock c × (Relays c → ⊥) × (now < nearest now clock)
 
 follows_left : (oid clock : ℕ) (s : Slot) → s.trigger.untold ≡ None → Follows (LeftOf oid s) (Ahead oid clock)
 follows_left oid clock s told = record {
@@ -61,7 +61,7 @@ follows_left oid clock s told = record {
   homes = λ pins now i u endstop pin g fit k. absurd fit.0;
 }
 
-pub one_left : (oid clock : ℕ) (r : Rig) (c : Cmd) (s : Slot) → r.controller.state ≡ Running → slot_at r oid ≡ Some s → s.trigger.untold ≡ None → r.controller.tick < nearest r.controller.tick clock → IsBehind oid clock c → (Relays c → ⊥)
+pub one_left : (oid clock : ℕ) (r : Rig) (c : Cmd) (s : Slot) → r.controller.state ≡ Running → slot_at r oid ≡ Some s → s.trigger.untold ≡ None → r.controller.tick < nearest r.controller.tick clock → IsSentBehind oid clock c → (Relays c → ⊥)
     → Left oid s (takes r c).rig × ((takes r c).rig.pins ≡ r.pins)
 one_left oid clock r c s runs there told ahead k none =
     let state = r.controller.state in
@@ -71,7 +71,7 @@ one_left oid clock r c s runs there told ahead k none =
     let new = running_each (LeftOf oid s) (Ahead oid clock) (follows_left oid clock s told) state r c (k, none, ahead) old oid u.0 u.1 refl in
     ((new.0, u.1 ∙ ap (λ (z : Slot). Some z) new.1), beside.0)
 
-pub all_left_of : (oid clock now : ℕ) (r : Rig) (cs : List Cmd) (s : Slot) → (takes_all r cs).rig.controller.state ≡ Running → slot_at r oid ≡ Some s → s.trigger.untold ≡ None → r.controller.tick ≡ now → now < nearest now clock → AreBehind oid clock cs → RelayNone cs
+pub all_left_of : (oid clock now : ℕ) (r : Rig) (cs : List Cmd) (s : Slot) → (takes_all r cs).rig.controller.state ≡ Running → slot_at r oid ≡ Some s → s.trigger.untold ≡ None → r.controller.tick ≡ now → now < nearest now clock → AreSentBehind oid clock cs → RelayNone cs
     → Left oid s (takes_all r cs).rig × ((takes_all r cs).rig.pins ≡ r.pins)
 all_left_of oid clock now r [] s runs there told at ahead k none = ((s.trigger.timeout, there), refl)
 all_left_of oid clock now r (c ∷ cs) s runs there told at ahead k none =
@@ -124,7 +124,7 @@ late_passes oid until report q u there regular tick is = elim (leb_tells q.contr
 
 -- a turn
 pub turn_alive : (oid base every tick next now until clock : ℕ) (r : Rig) (cs : List Cmd) (a : IsAlive oid base every now r) → a.slot.trigger.untold ≡ None → r.controller.tick ≡ now → now < nearest now clock → (takes_all r cs).rig.controller.state ≡ Running
-    → AreBehind oid clock cs → RelayNone cs → IsLimited oid tick next (takes_all r cs).rig → AllSound (takes_all r cs).rig → AreRegular (takes_all r cs).rig.triggers → (takes_all r cs).rig.controller.tick ≡ now → now ≤ until → until ≤ next
+    → AreSentBehind oid clock cs → RelayNone cs → IsLimited oid tick next (takes_all r cs).rig → AllSound (takes_all r cs).rig → AreRegular (takes_all r cs).rig.triggers → (takes_all r cs).rig.controller.tick ≡ now → now ≤ until → until ≤ next
     → (StaysAlive oid base every now until a.next (passes (takes_all r cs).rig until).rig (passes (takes_all r cs).rig until).answers
     ⊎ IsSwitched oid base now until next (passes (takes_all r cs).rig until).rig (passes (takes_all r cs).rig until).answers) × AreSpoken (max base now) next until (passes (takes_all r cs).rig until).answers
 turn_alive oid base every tick next now until clock r cs a told at ahead runs k none limited sound regular still order far =

@@ -15,7 +15,7 @@ use Rattle.wire_scene.specs.declared.scene.Way.TheVariants.{Down, Up}
 use Rattle.board_sim.specs.Fair.{Meant, commands_of}
 use Rattle.board_sim.specs.Rig.{Rig, takes_all}
 use Rattle.board_world.specs.declared.event.Event.TheVariants as event
-use Rattle.board_world.specs.World.{Core, Do, Step, block_of, does, happens, run, says, takes_in, text_of}
+use Rattle.board_world.specs.World.{Core, Do, Step, block_of, does, after_event, run_world, says, takes_in, wire_text}
 use Rattle.link_work.specs.Answers.{IsAmong}
 use Rattle.link_work.specs.Runs.{queued_in}
 use Rattle.link_work.specs.Stands.{first_state, orders}
@@ -39,7 +39,7 @@ use Rattle.laws_homing.proofs.clear_boards.Rests.{rests_calm, rests_none}
 
 -- a reply with the bytes of an answer is under way up
 abbrev UnderWay : Cmd → Link → Type 0
-UnderWay c l = (n : ℕ) × IsAmong (record { number = n; answer = text_of c }) l.up
+UnderWay c l = (n : ℕ) × IsAmong (record { number = n; answer = wire_text c }) l.up
 
 among_parts : (c : Cmd) (xs ys : List Cmd) → IsAmong c (xs ++ ys) → IsAmong c xs ⊎ IsAmong c ys
 among_parts c [] ys k = inr k
@@ -52,8 +52,8 @@ stays_handled l n answers c k = by (n == l.accepted)
   where
     by : (b : Bool) → UnderWay c (cond b (record l { taken = l.taken ++ slice_index_or l.blocks n []; accepted = n + 1; up = l.up ++ (numbered (n + 1) answers ++ record { number = n + 1; answer = [] } ∷ []) })
         (record l { up = l.up ++ record { number = l.accepted; answer = [] } ∷ [] }))
-    by true = (k.0, among_left (record { number = k.0; answer = text_of c }) l.up (numbered (n + 1) answers ++ record { number = n + 1; answer = [] } ∷ []) k.1)
-    by false = (k.0, among_left (record { number = k.0; answer = text_of c }) l.up (record { number = l.accepted; answer = [] } ∷ []) k.1)
+    by true = (k.0, among_left (record { number = k.0; answer = wire_text c }) l.up (numbered (n + 1) answers ++ record { number = n + 1; answer = [] } ∷ []) k.1)
+    by false = (k.0, among_left (record { number = k.0; answer = wire_text c }) l.up (record { number = l.accepted; answer = [] } ∷ []) k.1)
 
 stays_repeated : (l : Link) (ds : List ℕ) (answers : List (List ℕ)) (c : Cmd) → UnderWay c l → UnderWay c (link.repeat l ds answers)
 stays_repeated l [] answers c k = k
@@ -66,59 +66,59 @@ stays_lost l (n ∷ ns) c k = k
 stays_garbled : (l : Link) (ds : List ℕ) (told : Bool) (c : Cmd) → UnderWay c l → UnderWay c (link.garble l ds told)
 stays_garbled l [] told c k = k
 stays_garbled l (n ∷ ns) true c k = k
-stays_garbled l (n ∷ ns) false c k = (k.0, among_left (record { number = k.0; answer = text_of c }) l.up (record { number = l.accepted; answer = [] } ∷ []) k.1)
+stays_garbled l (n ∷ ns) false c k = (k.0, among_left (record { number = k.0; answer = wire_text c }) l.up (record { number = l.accepted; answer = [] } ∷ []) k.1)
 
 -- the answers to a block's commands, where the board expects it
 abbrev TakenIf : Core → ℕ → Bool → List Cmd
 TakenIf h n b = (takes_all h.board (commands_of (cond b (take (length (slice_index_or h.link.blocks n [])) (drop (length h.link.taken) h.queued)) []))).answers
 
-answered : (h : Core) (ds : List ℕ) (c : Cmd) → IsAmong c (takes_all h.board (commands_of (block_of h ds))).answers → UnderWay c (link.repeat h.link ds (map text_of (takes_all h.board (commands_of (block_of h ds))).answers))
+answered : (h : Core) (ds : List ℕ) (c : Cmd) → IsAmong c (takes_all h.board (commands_of (block_of h ds))).answers → UnderWay c (link.repeat h.link ds (map wire_text (takes_all h.board (commands_of (block_of h ds))).answers))
 answered h [] c k = absurd k
 answered h (n ∷ ns) c k = by (n == h.link.accepted) k
   where
-    by : (b : Bool) → IsAmong c (TakenIf h n b) → UnderWay c (cond b (record h.link { taken = h.link.taken ++ slice_index_or h.link.blocks n []; accepted = n + 1; up = h.link.up ++ (numbered (n + 1) (map text_of (TakenIf h n b)) ++ record { number = n + 1; answer = [] } ∷ []) })
+    by : (b : Bool) → IsAmong c (TakenIf h n b) → UnderWay c (cond b (record h.link { taken = h.link.taken ++ slice_index_or h.link.blocks n []; accepted = n + 1; up = h.link.up ++ (numbered (n + 1) (map wire_text (TakenIf h n b)) ++ record { number = n + 1; answer = [] } ∷ []) })
         (record h.link { up = h.link.up ++ record { number = h.link.accepted; answer = [] } ∷ [] }))
     by true m =
-        let r : Reply = record { number = n + 1; answer = text_of c } in
-        let more = numbered (n + 1) (map text_of (TakenIf h n true)) in
+        let r : Reply = record { number = n + 1; answer = wire_text c } in
+        let more = numbered (n + 1) (map wire_text (TakenIf h n true)) in
         (n + 1, among_right r h.link.up (more ++ record { number = n + 1; answer = [] } ∷ []) (among_left r more (record { number = n + 1; answer = [] } ∷ []) (in_numbered (n + 1) (TakenIf h n true) c m)))
     by false m = absurd m
 
 -- what is answered in some steps
-ups_hold : (c : Cmd) (steps : List Step) (h : Core) → AllOf IsComing steps → UnderWay c h.link ⊎ IsAmong c (takes_all h.board (commands_of (taken_along steps h))).answers → UnderWay c (run steps h).link
+ups_hold : (c : Cmd) (steps : List Step) (h : Core) → AllOf IsComing steps → UnderWay c h.link ⊎ IsAmong c (takes_all h.board (commands_of (taken_along steps h))).answers → UnderWay c (run_world steps h).link
 unfolding taken_along
 ups_hold c [] h k (inl u) = u
 ups_hold c [] h k (inr m) = absurd m
-ups_hold c (Do event.Lose ∷ steps) h k (inl u) = ups_hold c steps (happens h event.Lose) k.1 (inl (stays_lost h.link h.link.down c u))
-ups_hold c (Do event.Lose ∷ steps) h k (inr m) = ups_hold c steps (happens h event.Lose) k.1 (inr m)
-ups_hold c (Do event.Garble ∷ steps) h k (inl u) = ups_hold c steps (happens h event.Garble) k.1 (inl (stays_garbled h.link h.link.down h.spoilt c u))
-ups_hold c (Do event.Garble ∷ steps) h k (inr m) = ups_hold c steps (happens h event.Garble) k.1 (inr m)
+ups_hold c (Do event.Lose ∷ steps) h k (inl u) = ups_hold c steps (after_event h event.Lose) k.1 (inl (stays_lost h.link h.link.down c u))
+ups_hold c (Do event.Lose ∷ steps) h k (inr m) = ups_hold c steps (after_event h event.Lose) k.1 (inr m)
+ups_hold c (Do event.Garble ∷ steps) h k (inl u) = ups_hold c steps (after_event h event.Garble) k.1 (inl (stays_garbled h.link h.link.down h.spoilt c u))
+ups_hold c (Do event.Garble ∷ steps) h k (inr m) = ups_hold c steps (after_event h event.Garble) k.1 (inr m)
 ups_hold c (Do event.Arrive ∷ steps) h k (inl u) =
-    let answers = map text_of (does h event.Arrive).answers in
-    ups_hold c steps (happens h event.Arrive) k.1 (inl (stays_lost (link.repeat h.link h.link.down answers) h.link.down c (stays_repeated h.link h.link.down answers c u)))
+    let answers = map wire_text (does h event.Arrive).answers in
+    ups_hold c steps (after_event h event.Arrive) k.1 (inl (stays_lost (link.repeat h.link h.link.down answers) h.link.down c (stays_repeated h.link h.link.down answers c u)))
 ups_hold c (Do event.Arrive ∷ steps) h k (inr m) =
     let xs = takes_in h event.Arrive in
-    let ys = taken_along steps (happens h event.Arrive) in
+    let ys = taken_along steps (after_event h event.Arrive) in
     let Among : List Cmd → Type 0 = λ cs. IsAmong c cs in
     let both : Among (takes_all h.board (commands_of xs ++ commands_of ys)).answers = subst (λ (cs : List Cmd). Among (takes_all h.board cs).answers) (commands_both xs ys) m in
     let parts = among_parts c (takes_all h.board (commands_of xs)).answers (takes_all (takes_all h.board (commands_of xs)).rig (commands_of ys)).answers (subst Among (answers_both h.board (commands_of xs) (commands_of ys)) both) in
-    ups_hold c steps (happens h event.Arrive) k.1 (elim parts [
-      | inl a ↦ inl (stays_lost (link.repeat h.link h.link.down (map text_of (does h event.Arrive).answers)) h.link.down c (answered h h.link.down c a))
+    ups_hold c steps (after_event h event.Arrive) k.1 (elim parts [
+      | inl a ↦ inl (stays_lost (link.repeat h.link h.link.down (map wire_text (does h event.Arrive).answers)) h.link.down c (answered h h.link.down c a))
       | inr b ↦ inr b
     ])
-ups_hold c (Do event.Repeat ∷ steps) h k (inl u) = ups_hold c steps (happens h event.Repeat) k.1 (inl (stays_repeated h.link h.link.down (map text_of (does h event.Repeat).answers) c u))
+ups_hold c (Do event.Repeat ∷ steps) h k (inl u) = ups_hold c steps (after_event h event.Repeat) k.1 (inl (stays_repeated h.link h.link.down (map wire_text (does h event.Repeat).answers) c u))
 ups_hold c (Do event.Repeat ∷ steps) h k (inr m) =
     let xs = takes_in h event.Repeat in
-    let ys = taken_along steps (happens h event.Repeat) in
+    let ys = taken_along steps (after_event h event.Repeat) in
     let Among : List Cmd → Type 0 = λ cs. IsAmong c cs in
     let both : Among (takes_all h.board (commands_of xs ++ commands_of ys)).answers = subst (λ (cs : List Cmd). Among (takes_all h.board cs).answers) (commands_both xs ys) m in
     let parts = among_parts c (takes_all h.board (commands_of xs)).answers (takes_all (takes_all h.board (commands_of xs)).rig (commands_of ys)).answers (subst Among (answers_both h.board (commands_of xs) (commands_of ys)) both) in
-    ups_hold c steps (happens h event.Repeat) k.1 (elim parts [ inl a ↦ inl (answered h h.link.down c a) | inr b ↦ inr b ])
+    ups_hold c steps (after_event h event.Repeat) k.1 (elim parts [ inl a ↦ inl (answered h h.link.down c a) | inr b ↦ inr b ])
 ups_hold c (s ∷ steps) h k u = absurd k.0
 
 pub told_to_commands : (b : BoardDef) (pins : List (List Level)) (board : ℕ) (entries : List Entry) (t : BoardTurn) (before : List BoardTurn) (c : Cmd) → RestsOver t before → AreBoardTurns (clock_of b) (first_state b pins board entries) (t ∷ before)
     → IsAmong c (takes_all (stands_after (first_state b pins board entries) before).core.board (commands_of (queued_in (orders t.control t.batch)))).answers
-    → IsText own_formats c (text_of c) → (n : ℕ) × IsAmong (record { number = n; answer = c }) t.state.news
+    → IsText own_formats c (wire_text c) → (n : ℕ) × IsAmong (record { number = n; answer = c }) t.state.news
 told_to_commands b pins board entries t before c rest are among text =
     let first = first_state b pins board entries in
     let clock = clock_of b in
@@ -132,7 +132,7 @@ told_to_commands b pins board entries t before c rest are among text =
     let l2 : LinkState = after_board clock turn l1 in
     let l3 : LinkState = after_replies turn l2 in
     let down = come Down turn l1.down.copies in
-    let mid : Core = run down l1.core in
+    let mid : Core = run_world down l1.core in
     let host = host_quiet_all turn o resent l.core in
     let coming = all_come IsComing Down down_coming turn l1.down.copies in
     let x = down_taking b pins board entries t before rest are in
@@ -140,9 +140,9 @@ told_to_commands b pins board entries t before c rest are among text =
     let On : Rig → Type 0 = λ r. IsAmong c (takes_all r (commands_of (queued_in o))).answers in
     let meant : taken_along down l1.core ≡ queued_in o = append_cancel_left l1.core.taken (taken_along down l1.core) (queued_in o) (sym (taken_is down l1.core) ∙ x.0) in
     let way = ups_hold c down l1.core coming (inr (subst Taken (sym meant) (subst On (sym host.0) among))) in
-    let reply : Reply = record { number = way.0; answer = text_of c } in
-    let behind : l2.core ≡ happens mid (event.Pass tick) = run_append down (Do (event.Pass tick) ∷ []) l1.core in
-    let up : IsAmong reply (happens mid (event.Pass tick)).link.up = among_left reply mid.link.up (numbered mid.link.accepted (map text_of (says mid.board tick))) way.1 in
+    let reply : Reply = record { number = way.0; answer = wire_text c } in
+    let behind : l2.core ≡ after_event mid (event.Pass tick) = run_append down (Do (event.Pass tick) ∷ []) l1.core in
+    let up : IsAmong reply (after_event mid (event.Pass tick)).link.up = among_left reply mid.link.up (numbered mid.link.accepted (map wire_text (says mid.board tick))) way.1 in
     let there = subst (λ (h : Core). IsAmong reply h.link.up) (sym behind) up in
     let Sound : ℕ → Type 0 = λ k. IsSound l k in
     let sound = subst Sound (order_length before) (begins b pins board entries (orders_in before) l (turns_in_order clock first before are.1)).sound in

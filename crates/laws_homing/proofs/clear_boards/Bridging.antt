@@ -17,7 +17,7 @@ use Rattle.msg_code.specs.Text.{IsText}
 use Rattle.board_sim.specs.Fair.{commands_of}
 use Rattle.board_sim.specs.Rig.{Rig, passes, takes_all}
 use Rattle.board_sim.specs.Turn.{says_shut}
-use Rattle.board_world.specs.World.{says, shut_before, text_of}
+use Rattle.board_world.specs.World.{says, shut_before, wire_text}
 use Rattle.link_work.specs.Answers.{IsAmong}
 use Rattle.laws_homing.specs.clear_boards.Rests.{RestsOver}
 use Rattle.link_work.specs.Runs.{queued_in}
@@ -81,7 +81,7 @@ firing_among oid reason clock n (x ∷ ns) (inl e) = inl (subst IsFired (ap (λ 
 firing_among oid reason clock n (x ∷ ns) (inr m) = inr (firing_among oid reason clock n ns m)
 
 -- an answer that the board gave, as the news have it
-fired_by_answer : (clocks : Clocks) (turn start last base limit until : ℕ) (told a : Cmd) → row_of told ≡ row_of a → IsText own_formats told (text_of a) → IsSpoken base limit until a → IsNumbered a
+fired_by_answer : (clocks : Clocks) (turn start last base limit until : ℕ) (told a : Cmd) → row_of told ≡ row_of a → IsText own_formats told (wire_text a) → IsSpoken base limit until a → IsNumbered a
     → ((at : ℕ) → base ≤ at → at < limit → at < until → (when : ℕ) × (start ≤ when) × (when ≤ last) × (turn_in_run clocks (nearest (turn_tick clocks turn) (at % 2 ^ 32)) ≡ Some when)) → IsFiredIn clocks turn start last told
 fired_by_answer clocks turn start last base limit until (cmd.TrsyncState oid can reason clock) (cmd.TrsyncState x y r k) e text spoken numbered counts = λ none. (
     let same = state_told x y r k oid can reason clock numbered.0 numbered.1 spoken.0 spoken.1 text in
@@ -102,7 +102,7 @@ off_among P c [] k among = absurd among
 off_among P c (x ∷ xs) k (inl e) = subst (λ (y : Cmd). IsOff y → P) e k.0
 off_among P c (x ∷ xs) k (inr m) = off_among P c xs k.1 m
 
-firing_said : (P : Type 0) (told a : Cmd) → row_of told ≡ row_of a → IsText own_formats told (text_of a) → (IsOff a → P) → IsFired told → P
+firing_said : (P : Type 0) (told a : Cmd) → row_of told ≡ row_of a → IsText own_formats told (wire_text a) → (IsOff a → P) → IsFired told → P
 firing_said P (cmd.TrsyncState oid zero reason clock) (cmd.TrsyncState x y r k) e text f off = f (λ lx ly. (state_is x y r k oid reason clock lx ly text).1)
 firing_said P (cmd.TrsyncState oid (suc can) reason clock) (cmd.TrsyncState x y r k) e text f off = absurd (omega (arith, off))
 firing_said P (cmd.TrsyncState oid can reason clock) a e text f off = absurd (let bad : row.TrsyncState ≡ row_of a = e in cc)

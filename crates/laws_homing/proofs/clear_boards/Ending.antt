@@ -17,7 +17,7 @@ use Rattle.msg_code.specs.Table.{row_of}
 use Rattle.msg_code.specs.Text.{IsText}
 use Rattle.board_sim.specs.Fair.{commands_of}
 use Rattle.board_sim.specs.Rig.{Rig, takes_all}
-use Rattle.board_world.specs.World.{says, text_of}
+use Rattle.board_world.specs.World.{says, wire_text}
 use Rattle.link_work.specs.Answers.{IsAmong}
 use Rattle.laws_homing.specs.clear_boards.Rests.{RestsOver}
 use Rattle.link_work.specs.Runs.{queued_in}
@@ -60,7 +60,7 @@ record Clock (clocks : Clocks) (turn when clock : ℕ) (a : Cmd) : Type 0 where
   in_run : turn_in_run clocks (nearest (turn_tick clocks turn) clock) ≡ Some when
   only : (tick : ℕ) → TellsOnly tick a → clock ≡ tick % 2 ^ 32
 
-by_answer : (clocks : Clocks) (turn when : ℕ) (told a : Cmd) → row_of told ≡ row_of a → IsText own_formats told (text_of a) → IsSmall a → IsNumbered a → IsExpiry clocks turn when told → (clock : ℕ) × Clock clocks turn when clock a
+by_answer : (clocks : Clocks) (turn when : ℕ) (told a : Cmd) → row_of told ≡ row_of a → IsText own_formats told (wire_text a) → IsSmall a → IsNumbered a → IsExpiry clocks turn when told → (clock : ℕ) × Clock clocks turn when clock a
 by_answer clocks turn when (cmd.TrsyncState oid can reason clock) (cmd.TrsyncState x y r k) e text small numbered x_is =
     let same = state_told x y r k oid can reason clock numbered.0 numbered.1 small.0 small.1 text in
     (clock, record { in_run = x_is.2; only = λ tick t. same.3 ∙ t (sym same.1 ∙ x_is.0) (sym same.2 ∙ x_is.1) })

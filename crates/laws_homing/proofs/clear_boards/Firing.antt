@@ -12,7 +12,7 @@ use Rattle.board_trig.specs.Sampling.{completes, sampled_to}
 use Rattle.board_trig.specs.Nexts.{IsNextOf}
 use Rattle.board_trig.proofs.Nexts.{is_next}
 use Rattle.msg_code.specs.declared.cmd.Cmd.{Cmd}
-use Rattle.board_sim.specs.Rig.{Passed, Rig, Slot, all_left, at_of, becomes, earliest, goes_on, happens, happens_to, pass, passes, passes_by, rested, rests_to, runs_to, slot_at, told}
+use Rattle.board_sim.specs.Rig.{Passed, Rig, Slot, all_left, at_of, becomes, earliest_moment, goes_on, happens_at, happens_to, pass, passes, passes_by, rested, rests_to, runs_to, slot_at, trigger_answers}
 use Rattle.board_sim.proofs.Bound.{map_at, one_slot, same_or_not, slot_range}
 use Rattle.board_sim.proofs.Halting.{quiet_moves, quiet_switch}
 use Rattle.laws_homing.specs.clear_boards.Firing.{AllKeen, AreSpoken, IsKeen, IsOff, TellOff}
@@ -59,8 +59,8 @@ quiet_keen base limit until pins s k =
 -- what happens to a trigger
 record Went (oid base until limit : ℕ) (pins : List (List Level)) (s : Slot) (a : trig.Advanced) : Type 0 where
   keen : IsKeen base limit until pins (record s { trigger = a.trigger })
-  small : AreSpoken base limit until (told oid a.event)
-  off : s.trigger.can ≡ true → a.trigger.can ≡ false → (at : ℕ) × (base ≤ at) × (at < until) × (at < limit) × TellOff oid (at % 2 ^ 32) (told oid a.event)
+  small : AreSpoken base limit until (trigger_answers oid a.event)
+  off : s.trigger.can ≡ true → a.trigger.can ≡ false → (at : ℕ) × (base ≤ at) × (at < until) × (at < limit) × TellOff oid (at % 2 ^ 32) (trigger_answers oid a.event)
 
 expired_not : (can : Bool) (limit at until : ℕ) (o : Option ℕ) → o ≡ limit_of can limit → o ≡ Some at → at < until → until ≤ limit → ⊥
 expired_not true limit at until o e f less far = let same : Some limit ≡ Some at = sym e ∙ f in let is : limit ≡ at = cc in absurd (omega (arith, is, less, far))
@@ -102,7 +102,7 @@ happened_went oid base until limit pins (Reports at) s far next k = record {
 tells_went : (o : Option ℕ) (oid base until limit : ℕ) (pins : List (List Level)) (s : Slot) → s.trigger.untold ≡ o → until ≤ limit → IsKeen base limit until pins s → Went oid base until limit pins s (trig.tells o (slice_index_or pins s.pin []) until s.trigger)
 tells_went None oid base until limit pins s e far k =
     let levels = slice_index_or pins s.pin [] in
-    happened_went oid base until limit pins (trig.next levels until s.trigger) s far (is_next levels until s.trigger k.moves) k
+    happened_went oid base until limit pins (trig.next_happening levels until s.trigger) s far (is_next levels until s.trigger k.moves) k
 tells_went (Some n) oid base until limit pins s e far k = absurd (let bad : None ≡ Some n = sym k.told ∙ e in cc)
 
 -- and to all of a board
@@ -180,9 +180,9 @@ goes_gone (Some at) oid base until limit s x y k l = l
 pass_gone : (n oid base until limit : ℕ) (r : Rig) (s : Slot) → until ≤ limit → slot_at r oid ≡ Some s → AllKeen base limit until r → Gone oid base until limit s (pass n r until).rig (pass n r until).answers
 pass_gone zero oid base until limit r s far here all = record { off = same_off oid base until limit s r [] here; keen = all; small = tt }
 pass_gone (suc n) oid base until limit r s far here all =
-    let next = earliest r until 0 r.triggers in
+    let next = earliest_moment r until 0 r.triggers in
     let ran = (runs_to r ((at_of next).0 / 3)).rig in
-    let first = happens r until (at_of next) in
+    let first = happens_at r until (at_of next) in
     let rest = pass n first.rig until in
     let one = happens_gone oid (at_of next).1 base until limit ran s (slot_at ran (at_of next).1) far refl here (λ i u at. all i u at) in
     let more = pass_gone n oid base until limit first.rig one.off.slot far one.off.is one.keen in

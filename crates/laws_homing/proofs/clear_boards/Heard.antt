@@ -25,12 +25,12 @@ use Rattle.trigger_group.specs.declared.round.Phase.{Phase}
 use Rattle.trigger_group.specs.declared.round.Phase.TheVariants.{Goes, Rests, Sends}
 use Rattle.trigger_group.specs.declared.seen.Fired.{Fired}
 use Rattle.trigger_group.specs.declared.seen.Seen.{Seen}
-use Rattle.trigger_group.specs.Group.{GroupState, after_in, all_fired, answer, came, ended, first, hears_from, later, new_group, phase, unseen}
+use Rattle.trigger_group.specs.Group.{GroupState, after_in, all_fired, answer, came, ended, first_fired, hears_from, later, new_group, phase, unseen}
 use Rattle.trigger_group.specs.Kept.{may_be}
 use Rattle.axis_homing.specs.declared.homing.Homing.{Homing}
 use Rattle.axis_homing.specs.Homing.{answer_in, came_at, goes_on_homing, hears_all, hears_answer, hears_news, hears_state, hears_states, homing_after, homing_of, homing_with, members_from}
 use Rattle.host_reactor.specs.declared.ordered.Known.{Known}
-use Rattle.host_reactor.specs.Notes.{noted, told, told_all}
+use Rattle.host_reactor.specs.Notes.{noted, known_behind, told_all}
 use Rattle.host_reactor.specs.Reactor.{Reacted}
 use Rattle.host_reactor.specs.Runs.{Came, known_by, state_at}
 use Rattle.laws_board.proofs.clocks.Turning.{goes}
@@ -56,15 +56,15 @@ seen_none b P [] = tt
 seen_none b P (m ∷ ms) = (λ f is fired two. absurd (cc), seen_none b P ms)
 
 -- a report comes
-first_so : (P : ℕ → Type 0) (o : Option Fired) (n f : Fired) → ((g : Fired) → o ≡ Some g → g.reason ≡ 2 → P g.turn) → (n.reason ≡ 2 → P n.turn) → Some (first o n) ≡ Some f → f.reason ≡ 2 → P f.turn
+first_so : (P : ℕ → Type 0) (o : Option Fired) (n f : Fired) → ((g : Fired) → o ≡ Some g → g.reason ≡ 2 → P g.turn) → (n.reason ≡ 2 → P n.turn) → Some (first_fired o n) ≡ Some f → f.reason ≡ 2 → P f.turn
 first_so P None n f k new e two = let same : n ≡ f = cc in let At : Fired → Type 0 = λ g. g.reason ≡ 2 → P g.turn in subst At same new two
 first_so P (Some g) n f k new e two = k f e two
 
 one_heard : (here can : Bool) (b board : ℕ) (P : ℕ → Type 0) (s : TrigState) (tick turn : ℕ) (x : Seen) → (x.member.board == board) ≡ here → s.can ≡ can
     → ((f : Fired) → x.member.board ≡ b → x.fired ≡ Some f → f.reason ≡ 2 → P f.turn)
     → (board ≡ b → s.can ≡ false → s.reason ≡ 2 → P turn) → (f : Fired)
-    → (cond here (cond can (record x { heard = Some (later x.heard turn) }) (record x { fired = Some (first x.fired (record { reason = s.reason; tick = tick; turn = turn })) })) x).member.board ≡ b
-    → (cond here (cond can (record x { heard = Some (later x.heard turn) }) (record x { fired = Some (first x.fired (record { reason = s.reason; tick = tick; turn = turn })) })) x).fired ≡ Some f → f.reason ≡ 2 → P f.turn
+    → (cond here (cond can (record x { heard = Some (later x.heard turn) }) (record x { fired = Some (first_fired x.fired (record { reason = s.reason; tick = tick; turn = turn })) })) x).member.board ≡ b
+    → (cond here (cond can (record x { heard = Some (later x.heard turn) }) (record x { fired = Some (first_fired x.fired (record { reason = s.reason; tick = tick; turn = turn })) })) x).fired ≡ Some f → f.reason ≡ 2 → P f.turn
 one_heard true true b board P s tick turn x e c k new f is fired = k f is fired
 one_heard true false b board P s tick turn x e c k new f is fired =
     first_so P x.fired (record { reason = s.reason; tick = tick; turn = turn }) f (λ g. k g is) (new (sym (eqb-true x.member.board board e) ∙ is) c) fired
@@ -162,7 +162,7 @@ module _ (m : Machine) (switches : List Switch) (b : ℕ) where
       let ms = members_from m (axis_at m axis) moving 0 m.boards in
       begun_if (may_be (map unseen ms) turn last) section axis turn turn last came ms
 
-  told_so : (came : List Came) (r : Known) (n : NoteNews) → HomingSo came r.homing → HomingSo came (told m r n).homing
+  told_so : (came : List Came) (r : Known) (n : NoteNews) → HomingSo came r.homing → HomingSo came (known_behind m r n).homing
   told_so came r (news.Start section kind turn last moving) k = begun_so section kind turn last moving came
   told_so came r (news.Done section turn) k = k
   told_so came r (news.Read x sections) k = k
@@ -170,7 +170,7 @@ module _ (m : Machine) (switches : List Switch) (b : ℕ) where
 
   all_told_so : (came : List Came) (ns : List NoteNews) (r : Known) → HomingSo came r.homing → HomingSo came (told_all m ns r).homing
   all_told_so came [] r k = k
-  all_told_so came (n ∷ ns) r k = all_told_so came ns (told m r n) (told_so came r n k)
+  all_told_so came (n ∷ ns) r k = all_told_so came ns (known_behind m r n) (told_so came r n k)
 
   noted_so : (came : List Came) (note : Option Note) (r : Known) → HomingSo came r.homing → HomingSo came (noted m note r).homing
   noted_so came None r k = k

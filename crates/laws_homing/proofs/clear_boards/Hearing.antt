@@ -12,7 +12,7 @@ use Rattle.msg_code.specs.declared.cmd.Cmd.TheVariants as cmd
 use Rattle.msg_code.specs.declared.talk.News.{News}
 use Rattle.msg_code.specs.declared.talk.State.{State}
 use Rattle.trigger_group.specs.declared.seen.Seen.{Seen}
-use Rattle.trigger_group.specs.Group.{GroupState, came, first, heard_of, hears_from, later}
+use Rattle.trigger_group.specs.Group.{GroupState, came, first_fired, heard_of, hears_from, later}
 use Rattle.axis_homing.specs.declared.homing.Homing.{Homing}
 use Rattle.axis_homing.specs.Homing.{came_at, hears_all, hears_answer, hears_news, hears_state, hears_states}
 use Rattle.host_reactor.specs.Runs.{state_at}
@@ -20,7 +20,7 @@ use Rattle.laws_homing.specs.clear_boards.Hearing.{HeardBy, IsAble, TellAble}
 
 -- what was heard is never forgotten
 more_one : (here can : Bool) (start when tick turn : ℕ) (s : TrigState) (x : Seen) → start ≤ turn → when ≤ heard_of start x.heard
-    → when ≤ heard_of start (cond here (cond can (record x { heard = Some (later x.heard turn) }) (record x { fired = Some (first x.fired (record { reason = s.reason; tick = tick; turn = turn })) })) x).heard
+    → when ≤ heard_of start (cond here (cond can (record x { heard = Some (later x.heard turn) }) (record x { fired = Some (first_fired x.fired (record { reason = s.reason; tick = tick; turn = turn })) })) x).heard
 more_one true true start when tick turn s x low h = by x.heard h
   where
     by : (o : Option ℕ) → when ≤ heard_of start o → when ≤ heard_of start (Some (later o turn))
@@ -35,14 +35,14 @@ more_all start b when board tick turn s (x ∷ xs) low h =
     ((λ is. more_one (x.member.board == board) s.can start when tick turn s x low (h.0 (sym (same (x.member.board == board) s.can) ∙ is))), more_all start b when board tick turn s xs low h.1)
   where
     same : (here can : Bool)
-        → (cond here (cond can (record x { heard = Some (later x.heard turn) }) (record x { fired = Some (first x.fired (record { reason = s.reason; tick = tick; turn = turn })) })) x).member.board ≡ x.member.board
+        → (cond here (cond can (record x { heard = Some (later x.heard turn) }) (record x { fired = Some (first_fired x.fired (record { reason = s.reason; tick = tick; turn = turn })) })) x).member.board ≡ x.member.board
     same true true = refl
     same true false = refl
     same false can = refl
 
 -- and a report is heard of
 new_one : (here can : Bool) (start tick turn : ℕ) (s : TrigState) (x : Seen) → here ≡ true → can ≡ true
-    → turn ≤ heard_of start (cond here (cond can (record x { heard = Some (later x.heard turn) }) (record x { fired = Some (first x.fired (record { reason = s.reason; tick = tick; turn = turn })) })) x).heard
+    → turn ≤ heard_of start (cond here (cond can (record x { heard = Some (later x.heard turn) }) (record x { fired = Some (first_fired x.fired (record { reason = s.reason; tick = tick; turn = turn })) })) x).heard
 new_one true true start tick turn s x e f = by x.heard
   where
     by : (o : Option ℕ) → turn ≤ heard_of start (Some (later o turn))
@@ -57,7 +57,7 @@ new_all start board tick turn s (x ∷ xs) can =
     ((λ is. new_one (x.member.board == board) s.can start tick turn s x (here (sym (same (x.member.board == board) s.can) ∙ is)) can), new_all start board tick turn s xs can)
   where
     same : (h c : Bool)
-        → (cond h (cond c (record x { heard = Some (later x.heard turn) }) (record x { fired = Some (first x.fired (record { reason = s.reason; tick = tick; turn = turn })) })) x).member.board ≡ x.member.board
+        → (cond h (cond c (record x { heard = Some (later x.heard turn) }) (record x { fired = Some (first_fired x.fired (record { reason = s.reason; tick = tick; turn = turn })) })) x).member.board ≡ x.member.board
     same true true = refl
     same true false = refl
     same false c = refl

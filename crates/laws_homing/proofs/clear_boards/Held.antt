@@ -17,9 +17,9 @@ use Rattle.board_sim.specs.Rig.{Rig, Slot, takes, pass, tell}
 use Rattle.board_sim.specs.RigRuns.{RigStep, Takes, Passes}
 use Rattle.board_sim.proofs.Halting.{sampling_moves, quiet_moves}
 use Rattle.laws_board.proofs.clocks.Answers.{Each}
-use Rattle.laws_homing.specs.clear_boards.Held.{AllFar, AllHeld, AllTellOnly, AreFit, IsFit, IsHeld, TellsOnly, all_answers}
+use Rattle.laws_homing.specs.clear_boards.Held.{AllFar, AllHeld, AllTellOnly, AreFit, IsFitCommand, IsTriggerHeld, TellsOnly, all_answers}
 use Rattle.laws_homing.specs.clear_boards.Limited.{AllFired}
-use Rattle.laws_homing.specs.clear_boards.Turned.{Sets}
+use Rattle.laws_homing.specs.clear_boards.Turned.{SetsTimeout}
 use Rattle.laws_homing.proofs.clear_boards.Slots.{Follows, Lasts, Next, Tells, levels_at, pass_both, takes_both, with_trigger}
 use Rattle.laws_homing.proofs.home_runs.Saying.{IsOther, bit_none}
 pub use Rattle.laws_homing.proofs.clear_boards.Slots.{at_set, rested_is}
@@ -48,17 +48,17 @@ state_tells tick now oid t k = λ none two.
 
 -- what a command makes of a trigger
 sampling_other : (b : Bool) (now : ℕ) (g : Homing) (y : Sampling) → (g.reason ≡ 2 → ⊥)
-    → (if b then None else Some (record { at = trig.first_from now (nearest now g.clock) (trig.rest_of g); sample = g.sample_ticks; count = g.sample_count; rest = trig.rest_of g; value = g.pin_value == 1; reason = g.reason })) ≡ Some y → y.reason ≡ 2 → ⊥
+    → (if b then None else Some (record { at = trig.first_from now (nearest now g.clock) (trig.least_rest g); sample = g.sample_ticks; count = g.sample_count; rest = trig.least_rest g; value = g.pin_value == 1; reason = g.reason })) ≡ Some y → y.reason ≡ 2 → ⊥
 sampling_other true now g y n e two = cc
 sampling_other false now g y n e two = let same : g.reason ≡ y.reason = cc in n (same ∙ two)
 
 abbrev Held : ℕ → (List (List Level) → ℕ → Slot → Type 0)
-Held tick pins oid s = IsHeld tick s
+Held tick pins oid s = IsTriggerHeld tick s
 
-says_held : (tick : ℕ) (s u : Slot) (n : ℕ) → s.trigger.untold ≡ Some n → IsHeld tick s → IsHeld tick u
+says_held : (tick : ℕ) (s u : Slot) (n : ℕ) → s.trigger.untold ≡ Some n → IsTriggerHeld tick s → IsTriggerHeld tick u
 says_held tick s u n e h = absurd (let bad : None ≡ Some n = sym h.told ∙ e in cc)
 
-follows_held : (tick : ℕ) → Follows (Held tick) IsFit
+follows_held : (tick : ℕ) → Follows (Held tick) IsFitCommand
 follows_held tick = record {
   made = λ pins now oid fit. record { told = refl; moves = tt; other = λ y e. absurd (cc); expiry = λ e two. absurd (let bad : 0 ≡ 2 = two in cc) };
   starts = λ pins now oid s clock every reason fit h. record { told = h.told; moves = h.moves; other = h.other; expiry = λ e. absurd (let bad : true ≡ false = e in cc) };
@@ -75,19 +75,19 @@ follows_held tick = record {
   };
 }
 
-tells_held : (P : List (List Level) → ℕ → Slot → Type 0) (tick room : ℕ) → ((pins : List (List Level)) (oid : ℕ) (s : Slot) → P pins oid s → IsHeld tick s) → Tells P room (TellsOnly tick)
+tells_held : (P : List (List Level) → ℕ → Slot → Type 0) (tick room : ℕ) → ((pins : List (List Level)) (oid : ℕ) (s : Slot) → P pins oid s → IsTriggerHeld tick s) → Tells P room (TellsOnly tick)
 tells_held P tick room held = record { own = λ pins oid n s l k. state_tells tick n oid s.trigger (held pins oid s k).expiry; other = other_tells tick }
 
-pub takes_held : (tick : ℕ) (r : Rig) (c : Cmd) → IsFit r.controller.tick c → AllHeld tick r → AllHeld tick (takes r c).rig × AllTellOnly tick (takes r c).answers
+pub takes_held : (tick : ℕ) (r : Rig) (c : Cmd) → IsFitCommand r.controller.tick c → AllHeld tick r → AllHeld tick (takes r c).rig × AllTellOnly tick (takes r c).answers
 takes_held tick r c fit all =
-    let both = takes_both (Held tick) (length r.triggers) (TellsOnly tick) (tells_held (Held tick) tick _ (λ pins oid s h. h)) IsFit (follows_held tick) r c (omega arith) fit all in
+    let both = takes_both (Held tick) (length r.triggers) (TellsOnly tick) (tells_held (Held tick) tick _ (λ pins oid s h. h)) IsFitCommand (follows_held tick) r c (omega arith) fit all in
     (both.0, each_tells tick (takes r c).answers both.2)
 
 -- a timeout is set where no trigger can trigger
 abbrev Fell : ℕ → (List (List Level) → ℕ → Slot → Type 0)
-Fell tick pins oid s = IsHeld tick s × (s.trigger.can ≡ false)
+Fell tick pins oid s = IsTriggerHeld tick s × (s.trigger.can ≡ false)
 
-sets_held : (tick : ℕ) → Follows (Fell tick) (λ now c. Sets c)
+sets_held : (tick : ℕ) → Follows (Fell tick) (λ now c. SetsTimeout c)
 sets_held tick = record {
   made = λ pins now oid fit. absurd fit;
   starts = λ pins now oid s clock every reason fit h. absurd fit;
@@ -103,7 +103,7 @@ pub limit_held : (tick : ℕ) (r : Rig) (oid clock : ℕ) → AllFired r → All
 limit_held tick r oid clock fired all =
     let c = cmd.TrsyncSetTimeout oid clock in
     let tells = tells_held (Fell tick) tick (length r.triggers) (λ pins i s h. h.0) in
-    let both = takes_both (Fell tick) (length r.triggers) (TellsOnly tick) tells (λ now a. Sets a) (sets_held tick) r c (omega arith) tt (λ i s at. (all i s at, fired i s at)) in
+    let both = takes_both (Fell tick) (length r.triggers) (TellsOnly tick) tells (λ now a. SetsTimeout a) (sets_held tick) r c (omega arith) tt (λ i s at. (all i s at, fired i s at)) in
     ((λ i s at. (both.0 i s at).0), each_tells tick (takes r c).answers both.2)
 
 -- readings are for the reason that they were
@@ -128,7 +128,7 @@ read_other (Some s) levels until n y e two =
 abbrev Far : ℕ → ℕ → Trigger → Type 0
 Far until tick t = (x : ℕ) → ExpiresAt t x → (until ≤ x) ⊎ (x ≡ tick)
 
-quiet_held : (tick : ℕ) (levels : List Level) (until : ℕ) (s : Slot) → IsHeld tick s → IsHeld tick (record s { trigger = (trig.happened levels until Nothing s.trigger).trigger })
+quiet_held : (tick : ℕ) (levels : List Level) (until : ℕ) (s : Slot) → IsTriggerHeld tick s → IsTriggerHeld tick (record s { trigger = (trig.happened levels until Nothing s.trigger).trigger })
 quiet_held tick levels until s h = record {
   told = h.told;
   moves = quiet_moves s.trigger.sampling levels until h.moves;
@@ -142,10 +142,10 @@ switch_reason (Some s) y e = let same : s ≡ y = cc in ap (λ (x : Sampling). x
 
 -- it is held on, and its timeout is as far
 abbrev Kept : ℕ → ℕ → (List (List Level) → ℕ → Slot → Type 0)
-Kept tick until pins oid s = IsHeld tick s × Far until tick s.trigger
+Kept tick until pins oid s = IsTriggerHeld tick s × Far until tick s.trigger
 
-happened_held : (tick until : ℕ) (levels : List Level) (e : Happening) (s : Slot) → Next levels until s.trigger e → IsHeld tick s × Far until tick s.trigger
-    → let u = with_trigger s (trig.happened levels until e s.trigger).trigger in IsHeld tick u × Far until tick u.trigger
+happened_held : (tick until : ℕ) (levels : List Level) (e : Happening) (s : Slot) → Next levels until s.trigger e → IsTriggerHeld tick s × Far until tick s.trigger
+    → let u = with_trigger s (trig.happened levels until e s.trigger).trigger in IsTriggerHeld tick u × Far until tick u.trigger
 happened_held tick until levels Nothing s next k = (quiet_held tick levels until s k.0, k.1)
 happened_held tick until levels (Expires at) s next k =
     let low = next.comes.1 in

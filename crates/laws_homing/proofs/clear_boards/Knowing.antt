@@ -13,7 +13,7 @@ use Rattle.msg_code.specs.declared.talk.News.{News}
 use Rattle.msg_code.specs.declared.talk.State.{State}
 use Rattle.trigger_group.specs.declared.seen.Fired.{Fired}
 use Rattle.trigger_group.specs.declared.seen.Seen.{Seen}
-use Rattle.trigger_group.specs.Group.{GroupState, came, fired_by, first, hears_from, later}
+use Rattle.trigger_group.specs.Group.{GroupState, came, fired_by, first_fired, hears_from, later}
 use Rattle.axis_homing.specs.declared.homing.Homing.{Homing}
 use Rattle.axis_homing.specs.Homing.{came_at, hears_all, hears_answer, hears_news, hears_state, hears_states}
 use Rattle.host_reactor.specs.Runs.{state_at}
@@ -22,14 +22,14 @@ use Rattle.laws_homing.specs.home_runs.Windows.{IsFired, SayFired}
 
 -- a member behind a report
 abbrev pub behind : Bool → Bool → TrigState → ℕ → ℕ → Seen → Seen
-behind here can s tick turn x = cond here (cond can (record x { heard = Some (later x.heard turn) }) (record x { fired = Some (first x.fired (record { reason = s.reason; tick = tick; turn = turn })) })) x
+behind here can s tick turn x = cond here (cond can (record x { heard = Some (later x.heard turn) }) (record x { fired = Some (first_fired x.fired (record { reason = s.reason; tick = tick; turn = turn })) })) x
 
 pub same_board : (here can : Bool) (s : TrigState) (tick turn : ℕ) (x : Seen) → (behind here can s tick turn x).member.board ≡ x.member.board
 same_board true true s tick turn x = refl
 same_board true false s tick turn x = refl
 same_board false can s tick turn x = refl
 
-first_still : (last : ℕ) (o : Option Fired) (n : Fired) → fired_by last o ≡ true → fired_by last (Some (first o n)) ≡ true
+first_still : (last : ℕ) (o : Option Fired) (n : Fired) → fired_by last o ≡ true → fired_by last (Some (first_fired o n)) ≡ true
 first_still last None n e = cc
 first_still last (Some f) n e = e
 
@@ -41,7 +41,7 @@ one_still last false can s tick turn x e = e
 le_is : (a b : ℕ) → a ≤ b → nat_le a b ≡ true
 le_is a b l = elim (leb_tells a b) [ inl p ↦ p.0 | inr p ↦ absurd (omega (arith, p.1, l)) ]
 
-first_new : (last : ℕ) (o : Option Fired) (n : Fired) → n.turn ≤ last → (fired_by last o ≡ true) ⊎ (o ≡ None) → fired_by last (Some (first o n)) ≡ true
+first_new : (last : ℕ) (o : Option Fired) (n : Fired) → n.turn ≤ last → (fired_by last o ≡ true) ⊎ (o ≡ None) → fired_by last (Some (first_fired o n)) ≡ true
 first_new last None n low k = le_is n.turn last low
 first_new last (Some f) n low (inl e) = e
 first_new last (Some f) n low (inr e) = cc

@@ -4,7 +4,7 @@ use Rattle.std.specs.List.{Contains}
 use Rattle.board_sim.specs.Rig.{Rig, Slot, slot_at}
 use Rattle.trigger_group.specs.declared.order.Member.{Member}
 use Rattle.trigger_group.specs.declared.seen.Seen.{Seen}
-use Rattle.trigger_group.specs.Group.{GroupState, after, all_fired, any_fired_by}
+use Rattle.trigger_group.specs.Group.{GroupState, turned_group, all_fired, any_fired_by}
 use Rattle.trigger_group.proofs.Answering.{first_there, there_more}
 use Rattle.axis_homing.specs.Rising.{members_of}
 use Rattle.laws_homing.specs.home_runs.Guards.{HasFired}
@@ -46,7 +46,7 @@ all_same f (x ∷ xs) (y ∷ ys) e a =
     let rest : map (λ (s : Seen). s.member) xs ≡ map (λ (s : Seen). s.member) ys = cc in
     (ap (λ (n : Member). f n.board) (sym one) ∙ a.0, all_same f xs ys rest a.1)
 
-pub leads_on : (own : ℕ → ℕ → ℕ) (oids bases every : ℕ → ℕ) (now next : ℕ → Rig) (turn : ℕ) (g h : GroupState) → g.start ≤ turn → all_fired g.members ≡ false → IsTimed g → Hears (after g turn) h → members_of h ≡ members_of g
+pub leads_on : (own : ℕ → ℕ → ℕ) (oids bases every : ℕ → ℕ) (now next : ℕ → Rig) (turn : ℕ) (g h : GroupState) → g.start ≤ turn → all_fired g.members ≡ false → IsTimed g → Hears (turned_group g turn) h → members_of h ≡ members_of g
     → ((x : Seen) → Contains g.members x → HasFired (oids x.member.board) (now x.member.board) → HasFired (oids x.member.board) (next x.member.board))
     → (g.start + 4 ≤ turn → any_fired_by g.last g.members ≡ true → g.relay ≡ None → (x : Seen) → Contains g.members x → HasFired (oids x.member.board) (next x.member.board))
     → (any_fired_by g.last g.members ≡ false → (x : Seen) → Contains h.members x

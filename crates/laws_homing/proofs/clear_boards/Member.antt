@@ -21,7 +21,7 @@ use Rattle.laws_homing.proofs.home_runs.Guarding.{passes_next}
 use Rattle.laws_homing.proofs.home_runs.Saying.{IsOther, Says, all_later, all_say, board_tells, shut_other, time_says}
 use Rattle.laws_homing.specs.clear_boards.Alive.{RelayNone}
 use Rattle.laws_homing.specs.clear_boards.Firing.{AreNumbered, AreSpoken, IsNumbered, IsSpoken}
-use Rattle.laws_homing.specs.clear_boards.Turned.{AreBehind, IsBehind, Relays}
+use Rattle.laws_homing.specs.clear_boards.Turned.{AreSentBehind, IsSentBehind, Relays}
 use Rattle.laws_homing.proofs.clear_boards.Alive.{one_left, timed_is, less_is, with_timeout}
 use Rattle.laws_homing.proofs.clear_boards.Bridging.{IsOff}
 use Rattle.laws_homing.proofs.clear_boards.Firing.{small_both}
@@ -48,7 +48,7 @@ timeout_spoken base limit until oid clock r s told ahead =
     let t = trig.with_timeout now clock s.trigger in
     once_spoken base limit until t.untold r oid s t (ap (λ (y : Trigger). y.untold) x.1 ∙ told)
 
-acts_spoken : (base limit until oid clock : ℕ) (r : Rig) (c : Cmd) (s : Slot) → slot_at r oid ≡ Some s → s.trigger.untold ≡ None → r.controller.tick < nearest r.controller.tick clock → IsBehind oid clock c → (Relays c → ⊥) → AreSpoken base limit until (acts r c).answers
+acts_spoken : (base limit until oid clock : ℕ) (r : Rig) (c : Cmd) (s : Slot) → slot_at r oid ≡ Some s → s.trigger.untold ≡ None → r.controller.tick < nearest r.controller.tick clock → IsSentBehind oid clock c → (Relays c → ⊥) → AreSpoken base limit until (acts r c).answers
 acts_spoken base limit until oid clock r (cmd.TrsyncSetTimeout other at) s there told ahead k none =
     let At : ℕ → Type 0 = λ i. AreSpoken base limit until (set_timeout r i (slot_at r i) at).answers in
     let Of : Option Slot → Type 0 = λ o. AreSpoken base limit until (set_timeout r oid o at).answers in
@@ -62,7 +62,7 @@ acts_spoken base limit until oid clock r (cmd.ConfigEndstop other pin pull) s th
 acts_spoken base limit until oid clock r (cmd.EndstopHome other at sample count rest value trigger reason) s there told ahead k none = absurd k
 acts_spoken base limit until oid clock r c s there told ahead k none = others_spoken base limit until (board_takes r.controller c).answers (board_tells r.controller c)
 
-pub takes_spoken : (base limit until oid clock now : ℕ) (r : Rig) (cs : List Cmd) (s : Slot) → (takes_all r cs).rig.controller.state ≡ Running → slot_at r oid ≡ Some s → s.trigger.untold ≡ None → r.controller.tick ≡ now → now < nearest now clock → AreBehind oid clock cs
+pub takes_spoken : (base limit until oid clock now : ℕ) (r : Rig) (cs : List Cmd) (s : Slot) → (takes_all r cs).rig.controller.state ≡ Running → slot_at r oid ≡ Some s → s.trigger.untold ≡ None → r.controller.tick ≡ now → now < nearest now clock → AreSentBehind oid clock cs
     → RelayNone cs → AreSpoken base limit until (takes_all r cs).answers
 takes_spoken base limit until oid clock now r [] s runs there told at ahead k none = tt
 takes_spoken base limit until oid clock now r (c ∷ cs) s runs there told at ahead k none =
@@ -94,7 +94,7 @@ numbered_both : (xs ys : List Cmd) → AreNumbered xs → AreNumbered ys → Are
 numbered_both [] ys k l = l
 numbered_both (x ∷ xs) ys k l = (k.0, numbered_both xs ys k.1 l)
 
-pub turn_numbered : (oid clock until : ℕ) (r : Rig) (cs : List Cmd) → length r.triggers ≤ 256 → length (takes_all r cs).rig.triggers ≤ 256 → IsSole oid r → IsSole oid (takes_all r cs).rig → AreBehind oid clock cs
+pub turn_numbered : (oid clock until : ℕ) (r : Rig) (cs : List Cmd) → length r.triggers ≤ 256 → length (takes_all r cs).rig.triggers ≤ 256 → IsSole oid r → IsSole oid (takes_all r cs).rig → AreSentBehind oid clock cs
     → AreNumbered ((takes_all r cs).answers ++ says (takes_all r cs).rig until)
 turn_numbered oid clock until r cs few still sole sole_still k =
     let q = (takes_all r cs).rig in
@@ -114,7 +114,7 @@ each_off : (j : ℕ) (q : Rig) (cs : List Cmd) → Each (Says ⊥ j q) cs → Ea
 each_off j q [] k = tt
 each_off j q (c ∷ cs) k = (λ off. off_not j q c k.0 off, each_off j q cs k.1)
 
-pub turn_off : (oid clock until : ℕ) (r : Rig) (cs : List Cmd) → length r.triggers ≤ 256 → length (takes_all r cs).rig.triggers ≤ 256 → IsSole oid r → IsSole oid (takes_all r cs).rig → AreBehind oid clock cs
+pub turn_off : (oid clock until : ℕ) (r : Rig) (cs : List Cmd) → length r.triggers ≤ 256 → length (takes_all r cs).rig.triggers ≤ 256 → IsSole oid r → IsSole oid (takes_all r cs).rig → AreSentBehind oid clock cs
     → Each (λ c. IsOff c → HasFired oid (passes (takes_all r cs).rig until).rig) ((takes_all r cs).answers ++ says (takes_all r cs).rig until)
 turn_off oid clock until r cs few still sole sole_still k =
     let q = (takes_all r cs).rig in

@@ -10,15 +10,15 @@ use Rattle.trigger_group.specs.declared.round.Phase.{Phase}
 use Rattle.trigger_group.specs.declared.round.Round.TheVariants.{Relays, Timeouts}
 use Rattle.trigger_group.specs.declared.seen.Fired.{Fired}
 use Rattle.trigger_group.specs.declared.seen.Seen.{Seen}
-use Rattle.trigger_group.specs.Group.{GroupState, after, after_in, all_fired, any_fired_by, fired_by, first_timeout, goes, limit, orders, relay_begins, relay_from, relay_in, relays_in, round_of, to_board, unless_fired}
+use Rattle.trigger_group.specs.Group.{GroupState, turned_group, after_in, all_fired, any_fired_by, fired_by, first_timeout, goes, limit, orders, relay_begins, relay_from, relay_in, relays_in, round_of, to_board, unless_fired}
 use Rattle.trigger_group.proofs.Answering.{either, first_there, none_there}
 use Rattle.trigger_group.proofs.Knows.{after_last, after_members, after_start}
-use Rattle.laws_homing.specs.clear_boards.Modes.{AllOn, HeardLately, Hears, IsAheadIn, IsIn, IsKnown, IsLive, IsTimed}
+use Rattle.laws_homing.specs.clear_boards.Modes.{AllOn, HeardLately, Hears, IsAheadIn, IsIn, IsFiringKnown, IsLive, IsTimed}
 use Rattle.laws_homing.specs.clear_boards.Renewed.{HeardFrom}
 use Rattle.laws_homing.proofs.clear_boards.Renewed.{after_is, orders_are, phase_goes, renewed}
 
 -- what a turn makes of a group
-pub relay_is : (g : GroupState) (turn : ℕ) → g.start ≤ turn → all_fired g.members ≡ false → (after g turn).relay ≡ relay_in g turn
+pub relay_is : (g : GroupState) (turn : ℕ) → g.start ≤ turn → all_fired g.members ≡ false → (turned_group g turn).relay ≡ relay_in g turn
 relay_is g turn low fired =
     ap (λ (p : Phase). (after_in p g turn).relay) (phase_goes g.start g.last turn low)
     ∙ ap (λ (b : Bool). (if b then g else record g { sent = max g.sent (limit g); relay = relay_in g turn }).relay) fired
@@ -27,7 +27,7 @@ limit_most : (g : GroupState) → limit g ≤ g.last + 1
 limit_most g = omega arith
 
 -- a timeout that was sent stays in its bounds
-pub timed_after : (g : GroupState) (turn : ℕ) → g.start ≤ turn → all_fired g.members ≡ false → IsTimed g → (first_timeout g.start g.last ≤ (after g turn).sent) × ((after g turn).sent ≤ g.last + 1) × (g.sent ≤ (after g turn).sent)
+pub timed_after : (g : GroupState) (turn : ℕ) → g.start ≤ turn → all_fired g.members ≡ false → IsTimed g → (first_timeout g.start g.last ≤ (turned_group g turn).sent) × ((turned_group g turn).sent ≤ g.last + 1) × (g.sent ≤ (turned_group g turn).sent)
 timed_after g turn low fired k =
     let is = after_is g turn low fired in
     let first = k.first in
@@ -37,7 +37,7 @@ timed_after g turn low fired k =
 
 -- it is three turns ahead, or the last one, unless none can trigger any more
 pub stays_ahead : (Dead : ℕ → Bool) (turn : ℕ) (g : GroupState) → g.start ≤ turn → all_fired g.members ≡ false → IsTimed g → IsIn Dead turn g
-    → (turn + 3 ≤ (after g turn).sent) ⊎ (((after g turn).sent ≡ g.last + 1) ⊎ AllOn Dead g.members)
+    → (turn + 3 ≤ (turned_group g turn).sent) ⊎ (((turned_group g turn).sent ≡ g.last + 1) ⊎ AllOn Dead g.members)
 stays_ahead Dead turn g low fired k (inl far) = let s = timed_after g turn low fired k in let most = s.1 in let more = s.2 in inr (inl (omega (arith, far, most, more)))
 stays_ahead Dead turn g low fired k (inr (inl dead)) = inr (inr dead)
 stays_ahead Dead turn g low fired k (inr (inr (inl live))) =
@@ -136,20 +136,20 @@ lives turn g relay none k = elim (leb_tells 10 turn) [
 ]
 
 -- what a group knows to have triggered it still knows behind its turn
-some_after : (g : GroupState) (turn : ℕ) → any_fired_by g.last g.members ≡ true → any_fired_by (after g turn).last (after g turn).members ≡ true
-some_after g turn some = ap (λ (n : ℕ). any_fired_by n (after g turn).members) (after_last g turn) ∙ ap (λ (xs : List Seen). any_fired_by g.last xs) (after_members g turn) ∙ some
+some_after : (g : GroupState) (turn : ℕ) → any_fired_by g.last g.members ≡ true → any_fired_by (turned_group g turn).last (turned_group g turn).members ≡ true
+some_after g turn some = ap (λ (n : ℕ). any_fired_by n (turned_group g turn).members) (after_last g turn) ∙ ap (λ (xs : List Seen). any_fired_by g.last xs) (after_members g turn) ∙ some
 
-still_none : (g h : GroupState) (turn : ℕ) → g.start ≤ turn → all_fired g.members ≡ false → Hears (after g turn) h → g.relay ≡ None → relay_begins g turn ≡ false → h.relay ≡ None
+still_none : (g h : GroupState) (turn : ℕ) → g.start ≤ turn → all_fired g.members ≡ false → Hears (turned_group g turn) h → g.relay ≡ None → relay_begins g turn ≡ false → h.relay ≡ None
 still_none g h turn low fired hears relay none =
     hears.relay ∙ relay_is g turn low fired ∙ ap (λ (o : Option ℕ). relay_from o (relay_begins g turn) turn) relay ∙ ap (λ (b : Bool). relay_from None b turn) none
 
 -- where all could trigger, all still can, or one is known to have triggered
-from_live : (turn : ℕ) (g h : GroupState) (b : Bool) → any_fired_by h.last h.members ≡ b → h.relay ≡ None → turn + 1 + 3 ≤ h.sent → HeardLately h.start h.last (turn + 1) h.members → IsLive (turn + 1) h ⊎ IsKnown (turn + 1) h
+from_live : (turn : ℕ) (g h : GroupState) (b : Bool) → any_fired_by h.last h.members ≡ b → h.relay ≡ None → turn + 1 + 3 ≤ h.sent → HeardLately h.start h.last (turn + 1) h.members → IsLive (turn + 1) h ⊎ IsFiringKnown (turn + 1) h
 from_live turn g h true some relay far lately = inr (record { relay = relay; some = some; ahead = inr (inl far) })
 from_live turn g h false none relay far lately = inl (lives (turn + 1) h relay none lately)
 
 -- a group and its boards go on
-pub goes_on : (Dead Later : ℕ → Bool) (turn : ℕ) (g h : GroupState) → g.start ≤ turn → all_fired g.members ≡ false → IsTimed g → Hears (after g turn) h → IsIn Dead turn g
+pub goes_on : (Dead Later : ℕ → Bool) (turn : ℕ) (g h : GroupState) → g.start ≤ turn → all_fired g.members ≡ false → IsTimed g → Hears (turned_group g turn) h → IsIn Dead turn g
     → (AllOn Dead g.members → AllOn Later h.members)
     → (g.start + 4 ≤ turn → any_fired_by g.last g.members ≡ true → g.relay ≡ None → AllOn Later h.members)
     → (any_fired_by g.last g.members ≡ false → HeardLately h.start h.last (turn + 1) h.members) → IsIn Later (turn + 1) h
@@ -169,7 +169,7 @@ goes_on Dead Later turn g h low fired timed hears (inr (inr (inl live))) keeps r
     let last = hears.last in
     let same = after_last g turn in
     let near = live.near in
-    elim (leb_tells (turn + 4) (after g turn).sent) [
+    elim (leb_tells (turn + 4) (turned_group g turn).sent) [
       | inl p ↦
           let far = p.1 in
           let relay = still_none g h turn low fired hears live.relay (begins_none g turn live.none (omega (arith, far, most))) in
@@ -195,12 +195,12 @@ goes_on Dead Later turn g h low fired timed hears (inr (inr (inr known))) keeps 
 pub begins_in : (Dead : ℕ → Bool) (g : GroupState) → g.relay ≡ None → HeardLately g.start g.last g.start g.members → IsIn Dead g.start g
 begins_in Dead g relay lately = inr (inr (by (any_fired_by g.last g.members) refl))
   where
-    by : (b : Bool) → any_fired_by g.last g.members ≡ b → IsLive g.start g ⊎ IsKnown g.start g
+    by : (b : Bool) → any_fired_by g.last g.members ≡ b → IsLive g.start g ⊎ IsFiringKnown g.start g
     by true some = inr (record { relay = relay; some = some; ahead = inl (omega arith) })
     by false none = inl (lives g.start g relay none lately)
 
 -- a group stays timed
-pub timed_on : (g h : GroupState) (turn : ℕ) → g.start ≤ turn → all_fired g.members ≡ false → IsTimed g → Hears (after g turn) h → IsTimed h
+pub timed_on : (g h : GroupState) (turn : ℕ) → g.start ≤ turn → all_fired g.members ≡ false → IsTimed g → Hears (turned_group g turn) h → IsTimed h
 timed_on g h turn low fired timed hears =
     let s = timed_after g turn low fired timed in
     let first = s.0 in
@@ -211,7 +211,7 @@ timed_on g h turn low fired timed hears =
     record { first = omega (arith, first, start, last, sent); most = omega (arith, most, last, sent) }
 
 -- and so far ahead
-pub goes_ahead : (Dead Later : ℕ → Bool) (turn : ℕ) (g h : GroupState) → g.start ≤ turn → all_fired g.members ≡ false → IsTimed g → Hears (after g turn) h → IsAheadIn Dead turn g
+pub goes_ahead : (Dead Later : ℕ → Bool) (turn : ℕ) (g h : GroupState) → g.start ≤ turn → all_fired g.members ≡ false → IsTimed g → Hears (turned_group g turn) h → IsAheadIn Dead turn g
     → (AllOn Dead g.members → AllOn Later h.members)
     → (g.start + 4 ≤ turn → any_fired_by g.last g.members ≡ true → g.relay ≡ None → AllOn Later h.members)
     → (any_fired_by g.last g.members ≡ false → HeardLately h.start h.last (turn + 1) h.members) → IsAheadIn Later (turn + 1) h

@@ -26,7 +26,7 @@ use Rattle.host_reactor.specs.declared.ordered.Known.{Known}
 use Rattle.host_reactor.specs.declared.ordered.Phase.TheVariants.{Connecting}
 use Rattle.host_reactor.specs.Notes.{noted}
 use Rattle.host_reactor.specs.Reactor.{Reacted, homing_commands, stop_command, stops}
-use Rattle.host_reactor.specs.Runs.{Came, known_by, last_turn}
+use Rattle.host_reactor.specs.Runs.{Came, known_by, last_reacted}
 use Rattle.laws_board.specs.turns.Turns.{BoardTurn}
 use Rattle.laws_board.specs.clocks.Runs.{IsInRun}
 use Rattle.laws_board.proofs.clocks.Lines.{turn_of}
@@ -34,7 +34,7 @@ use Rattle.laws_board.proofs.clocks.Turning.{Asks, BoardTurned, Ends, Runs}
 use Rattle.laws_homing.proofs.home_runs.Staging.{commands_both}
 use Rattle.laws_homing.specs.clear_boards.Alive.{RelayNone}
 use Rattle.laws_homing.specs.clear_boards.Ordered.{IsOrdered}
-use Rattle.laws_homing.specs.clear_boards.Turned.{AreBehind}
+use Rattle.laws_homing.specs.clear_boards.Turned.{AreSentBehind}
 use Rattle.laws_homing.proofs.clear_boards.Sending.{behind_both, none_both}
 use Rattle.laws_board.proofs.clocks.Clocked.{own_clocks}
 
@@ -44,21 +44,21 @@ plain_are [] = refl
 plain_are (c ∷ cs) = ap (λ (x : List Cmd). c ∷ x) (plain_are cs)
 
 -- a unit's commands
-reset_behind : (oid clock stepper : ℕ) (o : Option ℕ) → AreBehind oid clock (commands_of (map plain (reset_commands stepper o))) × RelayNone (commands_of (map plain (reset_commands stepper o)))
+reset_behind : (oid clock stepper : ℕ) (o : Option ℕ) → AreSentBehind oid clock (commands_of (map plain (reset_commands stepper o))) × RelayNone (commands_of (map plain (reset_commands stepper o)))
 reset_behind oid clock stepper None = (tt, tt)
 reset_behind oid clock stepper (Some n) = ((tt, tt), ((λ x. x), tt))
 
-dir_behind : (oid clock stepper : ℕ) (o : Option Bool) → AreBehind oid clock (commands_of (map plain (dir_commands stepper o))) × RelayNone (commands_of (map plain (dir_commands stepper o)))
+dir_behind : (oid clock stepper : ℕ) (o : Option Bool) → AreSentBehind oid clock (commands_of (map plain (dir_commands stepper o))) × RelayNone (commands_of (map plain (dir_commands stepper o)))
 dir_behind oid clock stepper None = (tt, tt)
 dir_behind oid clock stepper (Some up) = ((tt, tt), ((λ x. x), tt))
 
 abbrev Behind : ℕ → ℕ → List Meant → Type 0
-Behind oid clock ms = AreBehind oid clock (commands_of ms) × RelayNone (commands_of ms)
+Behind oid clock ms = AreSentBehind oid clock (commands_of ms) × RelayNone (commands_of ms)
 
 both : (oid clock : ℕ) (xs ys : List Meant) → Behind oid clock xs → Behind oid clock ys → Behind oid clock (xs ++ ys)
 both oid clock xs ys k l =
     let same = commands_both xs ys in
-    (subst (λ (cs : List Cmd). AreBehind oid clock cs) (sym same) (behind_both oid clock (commands_of xs) (commands_of ys) k.0 l.0), subst RelayNone (sym same) (none_both (commands_of xs) (commands_of ys) k.1 l.1))
+    (subst (λ (cs : List Cmd). AreSentBehind oid clock cs) (sym same) (behind_both oid clock (commands_of xs) (commands_of ys) k.0 l.0), subst RelayNone (sym same) (none_both (commands_of xs) (commands_of ys) k.1 l.1))
 
 unit_behind : (oid clock : ℕ) (u : StepUnit) → Behind oid clock (unit_orders u)
 unit_behind oid clock u =
@@ -70,7 +70,7 @@ units_behind oid clock [] = (tt, tt)
 units_behind oid clock (u ∷ us) = both oid clock (unit_orders u) (units_orders us) (unit_behind oid clock u) (units_behind oid clock us)
 
 -- the asking, and the order to stop
-question_behind : (oid clock : ℕ) (b stop : Bool) → AreBehind oid clock (cond b (cmd.GetUptime ∷ []) [] ++ stop_command stop) × RelayNone (cond b (cmd.GetUptime ∷ []) [] ++ stop_command stop)
+question_behind : (oid clock : ℕ) (b stop : Bool) → AreSentBehind oid clock (cond b (cmd.GetUptime ∷ []) [] ++ stop_command stop) × RelayNone (cond b (cmd.GetUptime ∷ []) [] ++ stop_command stop)
 question_behind oid clock true true = ((tt, (tt, tt)), ((λ x. x), ((λ x. x), tt)))
 question_behind oid clock true false = ((tt, tt), ((λ x. x), tt))
 question_behind oid clock false true = ((tt, tt), ((λ x. x), tt))
@@ -111,4 +111,4 @@ pub turn_ordered : (m : Machine) (switches : List Switch) (pins : List (List Lev
     → IsOrdered m (section.clocks_at (noted m c.note (known_by m switches before)).clocks b) b h (length before) (hears_all (noted m c.note (known_by m switches before)).clocks c.states h).group (commands_of (queued_in (orders t.control t.batch)))
 turn_ordered m switches pins entries b c before t turns h r is n goes =
     let s = turn_of m switches pins entries b c before t turns r in
-    ordered_by m b c (noted m c.note (known_by m switches before)) (length before) s.a (last_turn m switches c before) t h is n goes s.turned
+    ordered_by m b c (noted m c.note (known_by m switches before)) (length before) s.a (last_reacted m switches c before) t h is n goes s.turned

@@ -10,7 +10,7 @@ use Rattle.trigger_group.specs.declared.round.Round.TheVariants.{Homes, Relays, 
 use Rattle.trigger_group.specs.declared.round.Phase.{Phase}
 use Rattle.trigger_group.specs.declared.round.Phase.TheVariants.{Goes, Rests, Sends}
 use Rattle.trigger_group.specs.declared.seen.Seen.{Seen}
-use Rattle.trigger_group.specs.Group.{GroupState, after, after_in, all_fired, first_timeout, goes, heard_of, least_heard, limit, orders, orders_in, phase, relay_in, relays_in, round_of, to_board}
+use Rattle.trigger_group.specs.Group.{GroupState, turned_group, after_in, all_fired, first_timeout, goes, heard_of, least_heard, limit, orders, orders_of_group, phase, relay_in, relays_in, round_of, to_board}
 use Rattle.trigger_group.proofs.Answering.{either, first_there, none_there, there_more}
 use Rattle.laws_homing.specs.clear_boards.Renewed.{HeardFrom}
 
@@ -48,15 +48,15 @@ phase_goes start last turn low =
     else (if n == 0 then Goes else Rests))))) in
     ap By e
 
-pub after_is : (g : GroupState) (turn : ℕ) → g.start ≤ turn → all_fired g.members ≡ false → (after g turn).sent ≡ max g.sent (limit g)
+pub after_is : (g : GroupState) (turn : ℕ) → g.start ≤ turn → all_fired g.members ≡ false → (turned_group g turn).sent ≡ max g.sent (limit g)
 after_is g turn low fired =
     ap (λ (p : Phase). (after_in p g turn).sent) (phase_goes g.start g.last turn low)
     ∙ ap (λ (b : Bool). (if b then g else record g { sent = max g.sent (limit g); relay = relay_in g turn }).sent) fired
 
 pub orders_are : (g : GroupState) (turn : ℕ) → g.start ≤ turn → all_fired g.members ≡ false → orders g turn ≡ goes g turn
-orders_are g turn low fired = ap (λ (p : Phase). orders_in p g turn) (phase_goes g.start g.last turn low) ∙ ap (λ (b : Bool). if b then [] else goes g turn) fired
+orders_are g turn low fired = ap (λ (p : Phase). orders_of_group p g turn) (phase_goes g.start g.last turn low) ∙ ap (λ (b : Bool). if b then [] else goes g turn) fired
 
-pub renewed : (g : GroupState) (turn u : ℕ) → g.start ≤ turn → HeardFrom g.start u g.members → all_fired g.members ≡ false → (u + 25 ≤ (after g turn).sent) ⊎ (g.last + 1 ≤ (after g turn).sent)
+pub renewed : (g : GroupState) (turn u : ℕ) → g.start ≤ turn → HeardFrom g.start u g.members → all_fired g.members ≡ false → (u + 25 ≤ (turned_group g turn).sent) ⊎ (g.last + 1 ≤ (turned_group g turn).sent)
 renewed g turn u low h fired =
     let is = after_is g turn low fired in
     elim (limit_from g u h) [ inl l ↦ inl (omega (arith, l, is)) | inr l ↦ inr (omega (arith, l, is)) ]
@@ -72,16 +72,16 @@ in_round t m (x ∷ ms) c = elim (either x m ms c) [
 less_is : (a b : ℕ) → a < b → nat_lt a b ≡ true
 less_is a b l = elim (leb_tells (a + 1) b) [ inl p ↦ (let e : a + 1 ≡ 1 + a = omega arith in grind arith) | inr p ↦ absurd (omega (arith, p.1, l)) ]
 
-pub sent_all : (g : GroupState) (turn : ℕ) (m : Seen) → g.start ≤ turn → all_fired g.members ≡ false → Contains g.members m → g.sent < (after g turn).sent → Contains (orders g turn) (to_board m (Timeout (after g turn).sent))
+pub sent_all : (g : GroupState) (turn : ℕ) (m : Seen) → g.start ≤ turn → all_fired g.members ≡ false → Contains g.members m → g.sent < (turned_group g turn).sent → Contains (orders g turn) (to_board m (Timeout (turned_group g turn).sent))
 sent_all g turn m low fired c grew =
     let is = after_is g turn low fired in
     let more : g.sent < limit g = omega (arith, is, grew) in
-    let same : limit g ≡ (after g turn).sent = omega (arith, is, more) in
+    let same : limit g ≡ (turned_group g turn).sent = omega (arith, is, more) in
     let others = if relays_in (relay_in g turn) turn then round_of Relays g.members else [] in
     let first : (if nat_lt g.sent (limit g) then round_of (Timeouts (limit g)) g.members else []) ≡ round_of (Timeouts (limit g)) g.members =
     ap (λ (b : Bool). if b then round_of (Timeouts (limit g)) g.members else []) (less_is g.sent (limit g) more) in
     let are : orders g turn ≡ round_of (Timeouts (limit g)) g.members ++ others = orders_are g turn low fired ∙ ap (λ (x : List Ctl). x ++ others) first in
     let At : ℕ → Type 0 = λ t. Contains (round_of (Timeouts (limit g)) g.members ++ others) (to_board m (Timeout t)) in
     let there : At (limit g) = Contains-append_left (round_of (Timeouts (limit g)) g.members) others (to_board m (Timeout (limit g))) (in_round (limit g) m g.members c) in
-    let All : List Ctl → Type 0 = λ x. Contains x (to_board m (Timeout (after g turn).sent)) in
+    let All : List Ctl → Type 0 = λ x. Contains x (to_board m (Timeout (turned_group g turn).sent)) in
     subst All (sym are) (subst At same there)

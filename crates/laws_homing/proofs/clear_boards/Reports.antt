@@ -11,7 +11,7 @@ use Rattle.board_trig.specs.Trigger as trig
 use Rattle.board_trig.proofs.Nexts.{is_next}
 use Rattle.msg_code.specs.declared.cmd.Cmd.{Cmd}
 use Rattle.msg_code.specs.Units.{bit}
-use Rattle.board_sim.specs.Rig.{Passed, Rig, Slot, all_left, at_of, earliest, goes_on, happens, happens_to, levels_of, moment_in, moment_of, pass, passes_by, rested, rests_to, runs_to, slot_at, told}
+use Rattle.board_sim.specs.Rig.{Passed, Rig, Slot, all_left, at_of, earliest_moment, goes_on, happens_at, happens_to, levels_of, moment_in, moment_of, pass, passes_by, rested, rests_to, runs_to, slot_at, trigger_answers}
 use Rattle.board_sim.specs.RigRuns.{AreRegular, IsRegular}
 use Rattle.board_sim.proofs.Bound.{map_at, one_slot, same_or_not, slot_range}
 use Rattle.board_sim.proofs.Chosen.{chosen_is}
@@ -36,7 +36,7 @@ record Stepped (oid until report : ℕ) (s : Slot) (a : trig.Advanced) : Type 0 
   next : ℕ
   report_is : a.trigger.report ≡ Some next
   stays : a.trigger.can ≡ true → s.trigger.can ≡ true
-  tells : (next ≡ report) ⊎ ((at : ℕ) × (report ≤ at) × (at < until) × (at + s.trigger.every ≡ next) × (a.trigger.can ≡ true → TellCan oid (at % 2 ^ 32) (told oid a.event)))
+  tells : (next ≡ report) ⊎ ((at : ℕ) × (report ≤ at) × (at < until) × (at + s.trigger.every ≡ next) × (a.trigger.can ≡ true → TellCan oid (at % 2 ^ 32) (trigger_answers oid a.event)))
 
 pub same_report : (o : Option ℕ) (a b : ℕ) → o ≡ Some a → o ≡ Some b → a ≡ b
 same_report None a b e f = cc
@@ -55,7 +55,7 @@ happened_step oid until report levels (Reports at) s next is = record {
 }
 
 tells_step : (o : Option ℕ) (oid until report : ℕ) (levels : List Level) (s : Slot) → s.trigger.untold ≡ o → IsRegular (Some s) → s.trigger.report ≡ Some report → Stepped oid until report s (trig.tells o levels until s.trigger)
-tells_step None oid until report levels s e h is = happened_step oid until report levels (trig.next levels until s.trigger) s (is_next levels until s.trigger h.1) is
+tells_step None oid until report levels s e h is = happened_step oid until report levels (trig.next_happening levels until s.trigger) s (is_next levels until s.trigger h.1) is
 tells_step (Some n) oid until report levels s e h is = absurd (let bad : None ≡ Some n = sym h.0 ∙ e in cc)
 
 -- what happens on the board
@@ -87,7 +87,7 @@ happens_so oid k until report r s None there here h is = record { slot = s; is =
 happens_so oid k until report r s (Some u) there here h is = happens_here oid k until report r s u (same_or_not oid k) there here h is
 
 -- where nothing happens any more, no report is left
-pub none_in : (r : Rig) (until p oid : ℕ) (xs : List (Option Slot)) (s : Slot) → earliest r until p xs ≡ None → get_or xs oid None ≡ Some s → moment_in r until (Some s) ≡ None
+pub none_in : (r : Rig) (until p oid : ℕ) (xs : List (Option Slot)) (s : Slot) → earliest_moment r until p xs ≡ None → get_or xs oid None ≡ Some s → moment_in r until (Some s) ≡ None
 none_in r until p oid xs s e at = none_next r until p oid xs s at e
 
 pub none_left : (levels : List Level) (until report : ℕ) (t : Trigger) (e : Happening) → moment_of e ≡ None → IsNextOf levels until t e → ReportsAt t report → until ≤ report
@@ -104,11 +104,11 @@ regular_at (suc i) (x ∷ xs) h = regular_at i xs h.1
 Late : (oid until report every : ℕ) (can : Bool) → Passed → Type 0
 Late oid until report every can p = (x : IsReported oid until report every can p.rig p.answers) × (until ≤ x.next)
 
-rests_late : (oid until report : ℕ) (r : Rig) (s : Slot) → earliest r until 0 r.triggers ≡ None → slot_at r oid ≡ Some s → IsRegular (Some s) → s.trigger.report ≡ Some report → Late oid until report s.trigger.every s.trigger.can (rests_to r until)
+rests_late : (oid until report : ℕ) (r : Rig) (s : Slot) → earliest_moment r until 0 r.triggers ≡ None → slot_at r oid ≡ Some s → IsRegular (Some s) → s.trigger.report ≡ Some report → Late oid until report s.trigger.every s.trigger.can (rests_to r until)
 unfolding Late
 rests_late oid until report r s e here h is =
     let levels = levels_of r s.pin in
-    let late = none_left levels until report s.trigger (trig.next levels until s.trigger) (none_in r until 0 oid r.triggers s e here) (is_next levels until s.trigger h.1) is in (
+    let late = none_left levels until report s.trigger (trig.next_happening levels until s.trigger) (none_in r until 0 oid r.triggers s e here) (is_next levels until s.trigger h.1) is in (
       record {
         slot = record s { trigger = (trig.happened levels until Nothing s.trigger).trigger };
         is = map_at (rested r.pins until) r.triggers oid refl ∙ ap (rested r.pins until) here;
@@ -142,26 +142,26 @@ then_late oid until report every can first rest x l =
     later (inl e) = omega (arith, e)
     later (inr z) = let low = z.1 in let e = z.3 in omega (arith, low, e)
 
-goes_late : (o : Option (ℕ × ℕ)) (oid until report : ℕ) (r : Rig) (s : Slot) (rest : Passed) → earliest r until 0 r.triggers ≡ o → slot_at r oid ≡ Some s → AreRegular r.triggers → r.controller.tick ≤ until → s.trigger.report ≡ Some report
-    → ((x : IsReported oid until report s.trigger.every s.trigger.can (happens r until (at_of o)).rig (happens r until (at_of o)).answers) → Left until r (happens r until (at_of o)).rig → Late oid until x.next x.slot.trigger.every x.slot.trigger.can rest)
-    → Late oid until report s.trigger.every s.trigger.can (goes_on o (rests_to r until) (passes_by (happens r until (at_of o)) rest))
+goes_late : (o : Option (ℕ × ℕ)) (oid until report : ℕ) (r : Rig) (s : Slot) (rest : Passed) → earliest_moment r until 0 r.triggers ≡ o → slot_at r oid ≡ Some s → AreRegular r.triggers → r.controller.tick ≤ until → s.trigger.report ≡ Some report
+    → ((x : IsReported oid until report s.trigger.every s.trigger.can (happens_at r until (at_of o)).rig (happens_at r until (at_of o)).answers) → Left until r (happens_at r until (at_of o)).rig → Late oid until x.next x.slot.trigger.every x.slot.trigger.can rest)
+    → Late oid until report s.trigger.every s.trigger.can (goes_on o (rests_to r until) (passes_by (happens_at r until (at_of o)) rest))
 goes_late None oid until report r s rest e here regular tick is more =
     rests_late oid until report r s e here (subst (λ (x : Option Slot). IsRegular x) here (regular_at oid r.triggers regular)) is
 goes_late (Some at) oid until report r s rest e here regular tick is more =
     let ran = (runs_to r (at.0 / 3)).rig in
-    let far : at.0 / 3 ≤ until = in_time (earliest r until 0 r.triggers) at until e (all_in r until 0 r.triggers) in
+    let far : at.0 / 3 ≤ until = in_time (earliest_moment r until 0 r.triggers) at until e (all_in r until 0 r.triggers) in
     let early : ran.controller.tick ≤ until = (timed 0 (at.0 / 3) r.controller).stays until tick far in
     let moment : moment_in r until (slot_at r at.1) ≡ Some at.0 = chosen_is r until at e in
     let left = happens_left ran until at.0 at.1 (slot_at ran at.1) refl moment regular early in
     let x = happens_so oid at.1 until report ran s (slot_at ran at.1) refl here (subst (λ (y : Option Slot). IsRegular y) here (regular_at oid r.triggers regular)) is in
-    then_late oid until report s.trigger.every s.trigger.can (happens r until at) rest x (more x (record { regular = left.regular; less = left.less; tick = left.tick }))
+    then_late oid until report s.trigger.every s.trigger.can (happens_at r until at) rest x (more x (record { regular = left.regular; less = left.less; tick = left.tick }))
 
 pass_late : (n oid until report : ℕ) (r : Rig) (s : Slot) → slot_at r oid ≡ Some s → AreRegular r.triggers → r.controller.tick ≤ until → all_left until r.triggers < n → s.trigger.report ≡ Some report
     → Late oid until report s.trigger.every s.trigger.can (pass n r until)
 pass_late zero oid until report r s here regular tick less is = absurd (omega (arith, less))
 pass_late (suc n) oid until report r s here regular tick less is =
-    let first = happens r until (at_of (earliest r until 0 r.triggers)) in
-    goes_late (earliest r until 0 r.triggers) oid until report r s (pass n first.rig until) refl here regular tick is
+    let first = happens_at r until (at_of (earliest_moment r until 0 r.triggers)) in
+    goes_late (earliest_moment r until 0 r.triggers) oid until report r s (pass n first.rig until) refl here regular tick is
     (λ x left. pass_late n oid until x.next first.rig x.slot x.is left.regular left.tick (let l = left.less in omega (arith, l, less)) x.report_is)
 
 pub reports_told : (n oid until report : ℕ) (r : Rig) (s : Slot) → slot_at r oid ≡ Some s → AreRegular r.triggers → r.controller.tick ≤ until → all_left until r.triggers < n → s.trigger.report ≡ Some report

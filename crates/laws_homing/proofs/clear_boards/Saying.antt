@@ -14,7 +14,7 @@ use Rattle.board_sim.specs.Fair.{Meant, commands_of}
 use Rattle.board_sim.specs.Rig.{Rig, takes_all, takes}
 use Rattle.board_world.specs.declared.event.Event.{Event}
 use Rattle.board_world.specs.declared.event.Event.TheVariants as event
-use Rattle.board_world.specs.World.{Core, happens, run, says, text_of, Step, Do, Turn, does, in_turn, takes_in}
+use Rattle.board_world.specs.World.{Core, after_event, run_world, says, wire_text, Step, Do, Turn, does, in_turn, takes_in}
 use Rattle.link_work.specs.Answers.{IsAmong}
 use Rattle.link_work.specs.Runs.{queued_in}
 use Rattle.link_work.specs.Stands.{first_state, orders}
@@ -37,9 +37,9 @@ use Rattle.link_work.proofs.Saying.{among_left, among_right}
 
 -- a reply has the bytes of an answer of which this holds, or none
 abbrev From : (Cmd → Type 0) → Reply → Type 0
-From P r = (r.answer ≡ []) ⊎ ((a : Cmd) × P a × (r.answer ≡ text_of a))
+From P r = (r.answer ≡ []) ⊎ ((a : Cmd) × P a × (r.answer ≡ wire_text a))
 
-from_answers : (P : Cmd → Type 0) (n : ℕ) (cs : List Cmd) → Each P cs → AllUp (From P) (numbered n (map text_of cs))
+from_answers : (P : Cmd → Type 0) (n : ℕ) (cs : List Cmd) → Each P cs → AllUp (From P) (numbered n (map wire_text cs))
 from_answers P n [] k = tt
 from_answers P n (c ∷ cs) k = (inr (c, k.0, refl), from_answers P n cs k.1)
 
@@ -48,19 +48,19 @@ say_parts P [] ys k = (tt, k)
 say_parts P (x ∷ xs) ys k = let r = say_parts P xs ys k.1 in ((k.0, r.0), r.1)
 
 -- the replies behind an event of whose answers this holds
-from_by : (P : Cmd → Type 0) (h : Core) (e : Event) → Each P (does h e).answers → AllUp (From P) h.link.up → AllUp (From P) (happens h e).link.up
+from_by : (P : Cmd → Type 0) (h : Core) (e : Event) → Each P (does h e).answers → AllUp (From P) h.link.up → AllUp (From P) (after_event h e).link.up
 from_by P h e t k = up_by (From P) h e (λ n. inl refl) (λ n is. from_answers P n (does h e).answers t) k
 
 -- what is taken in some steps
 unfoldable pub taken_along : List Step → Core → List Meant
 taken_along [] h = []
-taken_along (Do e ∷ steps) h = takes_in h e ++ taken_along steps (happens h e)
+taken_along (Do e ∷ steps) h = takes_in h e ++ taken_along steps (after_event h e)
 taken_along (Turn turn ∷ steps) h = taken_along steps (in_turn h turn)
 
-pub taken_is : (steps : List Step) (h : Core) → (run steps h).taken ≡ h.taken ++ taken_along steps h
+pub taken_is : (steps : List Step) (h : Core) → (run_world steps h).taken ≡ h.taken ++ taken_along steps h
 unfolding taken_along
 taken_is [] h = sym (append-nil h.taken)
-taken_is (Do e ∷ steps) h = taken_is steps (happens h e) ∙ append_assoc h.taken (takes_in h e) (taken_along steps (happens h e))
+taken_is (Do e ∷ steps) h = taken_is steps (after_event h e) ∙ append_assoc h.taken (takes_in h e) (taken_along steps (after_event h e))
 taken_is (Turn turn ∷ steps) h = taken_is steps (in_turn h turn)
 
 pub answers_both : (r : Rig) (xs ys : List Cmd) → (takes_all r (xs ++ ys)).answers ≡ (takes_all r xs).answers ++ (takes_all (takes_all r xs).rig ys).answers
@@ -75,41 +75,41 @@ parts_say P r xs ys k =
     let all : All (takes_all r (commands_of xs ++ commands_of ys)).answers = subst (λ (cs : List Cmd). Each P (takes_all r cs).answers) (commands_both xs ys) k in
     say_parts P (takes_all r (commands_of xs)).answers (takes_all (takes_all r (commands_of xs)).rig (commands_of ys)).answers (subst All (answers_both r (commands_of xs) (commands_of ys)) all)
 
-ups_along : (P : Cmd → Type 0) (steps : List Step) (h : Core) → AllOf IsComing steps → Each P (takes_all h.board (commands_of (taken_along steps h))).answers → AllUp (From P) h.link.up → AllUp (From P) (run steps h).link.up
+ups_along : (P : Cmd → Type 0) (steps : List Step) (h : Core) → AllOf IsComing steps → Each P (takes_all h.board (commands_of (taken_along steps h))).answers → AllUp (From P) h.link.up → AllUp (From P) (run_world steps h).link.up
 unfolding taken_along
 ups_along P [] h c t k = k
-ups_along P (Do event.Lose ∷ steps) h c t k = ups_along P steps (happens h event.Lose) c.1 t (from_by P h event.Lose tt k)
-ups_along P (Do event.Garble ∷ steps) h c t k = ups_along P steps (happens h event.Garble) c.1 t (from_by P h event.Garble tt k)
+ups_along P (Do event.Lose ∷ steps) h c t k = ups_along P steps (after_event h event.Lose) c.1 t (from_by P h event.Lose tt k)
+ups_along P (Do event.Garble ∷ steps) h c t k = ups_along P steps (after_event h event.Garble) c.1 t (from_by P h event.Garble tt k)
 ups_along P (Do event.Arrive ∷ steps) h c t k =
-    let both = parts_say P h.board (takes_in h event.Arrive) (taken_along steps (happens h event.Arrive)) t in
-    ups_along P steps (happens h event.Arrive) c.1 both.1 (from_by P h event.Arrive both.0 k)
+    let both = parts_say P h.board (takes_in h event.Arrive) (taken_along steps (after_event h event.Arrive)) t in
+    ups_along P steps (after_event h event.Arrive) c.1 both.1 (from_by P h event.Arrive both.0 k)
 ups_along P (Do event.Repeat ∷ steps) h c t k =
-    let both = parts_say P h.board (takes_in h event.Repeat) (taken_along steps (happens h event.Repeat)) t in
-    ups_along P steps (happens h event.Repeat) c.1 both.1 (from_by P h event.Repeat both.0 k)
+    let both = parts_say P h.board (takes_in h event.Repeat) (taken_along steps (after_event h event.Repeat)) t in
+    ups_along P steps (after_event h event.Repeat) c.1 both.1 (from_by P h event.Repeat both.0 k)
 ups_along P (s ∷ steps) h c t k = absurd c.0
 
 -- the news of such replies
-news_from : (P : Cmd → Type 0) (rs : List Reply) (news : List News) (n : News) → AreNews rs news → AllUp (From P) rs → IsAmong n news → (a : Cmd) × P a × IsText own_formats n.answer (text_of a)
+news_from : (P : Cmd → Type 0) (rs : List Reply) (news : List News) (n : News) → AreNews rs news → AllUp (From P) rs → IsAmong n news → (a : Cmd) × P a × IsText own_formats n.answer (wire_text a)
 news_from P [] news n are k among = absurd (subst (λ (ns : List News). IsAmong n ns) are among)
 news_from P (r ∷ rs) news n are k among = by are.0 are.2 (subst (λ (ns : List News). IsAmong n ns) are.4 among) (λ later. news_from P rs are.1 n are.3 k.1 later)
   where
-    of : (c : Cmd) → IsText own_formats c r.answer → (a : Cmd) × P a × IsText own_formats c (text_of a)
+    of : (c : Cmd) → IsText own_formats c r.answer → (a : Cmd) × P a × IsText own_formats c (wire_text a)
     of c text = elim k.0 [
       | inl none ↦ absurd (none_said c (subst (λ (bytes : List ℕ). IsText own_formats c bytes) none text))
       | inr some ↦ (some.0, some.1, subst (λ (bytes : List ℕ). IsText own_formats c bytes) some.2 text)
     ]
 
-    by : (o : Option Cmd) → IsAnswer r o → IsAmong n (news_of r o ++ are.1) → (IsAmong n are.1 → (a : Cmd) × P a × IsText own_formats n.answer (text_of a)) → (a : Cmd) × P a × IsText own_formats n.answer (text_of a)
+    by : (o : Option Cmd) → IsAnswer r o → IsAmong n (news_of r o ++ are.1) → (IsAmong n are.1 → (a : Cmd) × P a × IsText own_formats n.answer (wire_text a)) → (a : Cmd) × P a × IsText own_formats n.answer (wire_text a)
     by None is m rest = rest m
     by (Some c) is m rest = elim m [
-      | inl same ↦ subst (λ (x : News). (a : Cmd) × P a × IsText own_formats x.answer (text_of a)) same (of c ((is c).0 refl))
+      | inl same ↦ subst (λ (x : News). (a : Cmd) × P a × IsText own_formats x.answer (wire_text a)) same (of c ((is c).0 refl))
       | inr later ↦ rest later
     ]
 
 pub news_said : (P : Cmd → Type 0) (b : BoardDef) (pins : List (List Level)) (board : ℕ) (entries : List Entry) (t : BoardTurn) (before : List BoardTurn) (n : News) → RestsOver t before → AreBoardTurns (clock_of b) (first_state b pins board entries) (t ∷ before)
     → Each P (takes_all (stands_after (first_state b pins board entries) before).core.board (commands_of (queued_in (orders t.control t.batch)))).answers
     → Each P (says (takes_all (stands_after (first_state b pins board entries) before).core.board (commands_of (queued_in (orders t.control t.batch)))).rig (board_tick (clock_of b) (length before + 1)))
-    → IsAmong n t.state.news → (a : Cmd) × P a × IsText own_formats n.answer (text_of a)
+    → IsAmong n t.state.news → (a : Cmd) × P a × IsText own_formats n.answer (wire_text a)
 news_said P b pins board entries t before n rest are takes says_so among =
     let first = first_state b pins board entries in
     let clock = clock_of b in
@@ -122,7 +122,7 @@ news_said P b pins board entries t before n rest are takes says_so among =
     let l1 : LinkState = after_host turn o resent l in
     let l2 : LinkState = after_board clock turn l1 in
     let down = come Down turn l1.down.copies in
-    let mid : Core = run down l1.core in
+    let mid : Core = run_world down l1.core in
     let host = host_quiet_all turn o resent l.core in
     let coming = all_come IsComing Down down_coming turn l1.down.copies in
     let x = down_taking b pins board entries t before rest are in
@@ -133,7 +133,7 @@ news_said P b pins board entries t before n rest are takes says_so among =
     let start : AllUp (From P) l1.core.link.up = subst (λ (rs : List Reply). AllUp (From P) rs) (sym (x.2 ∙ empty)) tt in
     let ups = ups_along P down l1.core coming taken start in
     let said : Each P (says mid.board tick) = subst (λ (r : Rig). Each P (says r tick)) (sym x.1) says_so in
-    let behind : l2.core ≡ happens mid (event.Pass tick) = run_append down (Do (event.Pass tick) ∷ []) l1.core in
+    let behind : l2.core ≡ after_event mid (event.Pass tick) = run_append down (Do (event.Pass tick) ∷ []) l1.core in
     let all = subst (λ (h : Core). AllUp (From P) h.link.up) (sym behind) (from_by P mid (event.Pass tick) said ups) in
     let heard = (up_come (From P) turn l2.up.copies l2.core all).0 in
     news_from P (heard_in (come Up turn l2.up.copies) l2.core) t.state.news n are.0.1.news heard among
@@ -148,7 +148,7 @@ pub said_in_turn : (b : BoardDef) (pins : List (List Level)) (board : ℕ) (entr
     → (a : Cmd)
     × IsAmong a ((takes_all (stands_after (first_state b pins board entries) before).core.board (commands_of (queued_in (orders t.control t.batch)))).answers
     ++ says (takes_all (stands_after (first_state b pins board entries) before).core.board (commands_of (queued_in (orders t.control t.batch)))).rig (board_tick (clock_of b) (length before + 1)))
-    × IsText own_formats n.answer (text_of a)
+    × IsText own_formats n.answer (wire_text a)
 said_in_turn b pins board entries t before n rest are among =
     let done = takes_all (stands_after (first_state b pins board entries) before).core.board (commands_of (queued_in (orders t.control t.batch))) in
     let xs = done.answers in

@@ -15,16 +15,16 @@ use Rattle.trigger_group.specs.declared.order.Order.TheVariants as order
 use Rattle.trigger_group.specs.declared.round.Round.TheVariants.{Relays, Timeouts}
 use Rattle.trigger_group.specs.declared.seen.Fired.{Fired}
 use Rattle.trigger_group.specs.declared.seen.Seen.{Seen}
-use Rattle.trigger_group.specs.Group.{GroupState, after, all_fired, limit, orders, relay_begins, relay_from, relay_in, relays_in, round_of, to_board, unless_fired}
+use Rattle.trigger_group.specs.Group.{GroupState, turned_group, all_fired, limit, orders, relay_begins, relay_from, relay_in, relays_in, round_of, to_board, unless_fired}
 use Rattle.trigger_group.proofs.Answering.{either, none_there}
 use Rattle.axis_homing.specs.Homing.{command_to, commands_to, low, order_command}
 use Rattle.board_asking.specs.Machine.{trigger_of}
 use Rattle.laws_homing.specs.clear_boards.Alive.{RelayNone}
-use Rattle.laws_homing.specs.clear_boards.Turned.{AreBehind, IsBehind, RelaysOne, Sets, SetsNone, SetsOne}
+use Rattle.laws_homing.specs.clear_boards.Turned.{AreSentBehind, IsSentBehind, RelaysOne, SetsTimeout, SetsNone, SetsOne}
 use Rattle.laws_homing.proofs.clear_boards.Renewed.{after_is, orders_are, sent_all}
 
 -- commands of which each is behind the set-up
-pub behind_both : (oid clock : ℕ) (xs ys : List Cmd) → AreBehind oid clock xs → AreBehind oid clock ys → AreBehind oid clock (xs ++ ys)
+pub behind_both : (oid clock : ℕ) (xs ys : List Cmd) → AreSentBehind oid clock xs → AreSentBehind oid clock ys → AreSentBehind oid clock (xs ++ ys)
 behind_both oid clock [] ys k l = l
 behind_both oid clock (x ∷ xs) ys k l = (k.0, behind_both oid clock xs ys k.1 l)
 
@@ -86,32 +86,32 @@ module _ (m : Machine) (clocks : Clocks) (b start : ℕ) (axis : AxisDef) where
   commands_both : (xs ys : List Ctl) → Commands (xs ++ ys) ≡ Commands xs ++ Commands ys
   commands_both xs ys = Rattle.laws_homing.proofs.home_runs.Setting.commands_both m clocks b start axis xs ys
 
-  timed_one : (timeout : ℕ) (what : Order) → what ≡ order.Timeout timeout → (here : Bool) → let cs : List Cmd = if here then order_command m clocks b start axis what ∷ [] else [] in AreBehind (trigger_of m b) (low (turn_tick clocks timeout)) cs × RelayNone cs
+  timed_one : (timeout : ℕ) (what : Order) → what ≡ order.Timeout timeout → (here : Bool) → let cs : List Cmd = if here then order_command m clocks b start axis what ∷ [] else [] in AreSentBehind (trigger_of m b) (low (turn_tick clocks timeout)) cs × RelayNone cs
   timed_one timeout what e here =
-      let At : Order → Type 0 = λ w. let cs : List Cmd = if here then order_command m clocks b start axis w ∷ [] else [] in AreBehind (trigger_of m b) (low (turn_tick clocks timeout)) cs × RelayNone cs in
+      let At : Order → Type 0 = λ w. let cs : List Cmd = if here then order_command m clocks b start axis w ∷ [] else [] in AreSentBehind (trigger_of m b) (low (turn_tick clocks timeout)) cs × RelayNone cs in
       subst At (sym e) (by here)
     where
-      by : (h : Bool) → let cs : List Cmd = if h then order_command m clocks b start axis (order.Timeout timeout) ∷ [] else [] in AreBehind (trigger_of m b) (low (turn_tick clocks timeout)) cs × RelayNone cs
+      by : (h : Bool) → let cs : List Cmd = if h then order_command m clocks b start axis (order.Timeout timeout) ∷ [] else [] in AreSentBehind (trigger_of m b) (low (turn_tick clocks timeout)) cs × RelayNone cs
       by true = (((refl, refl), tt), ((λ r. r), tt))
       by false = (tt, tt)
 
-  timed_commands : (timeout : ℕ) (ctls : List Ctl) → AreTimed timeout ctls → AreBehind (trigger_of m b) (low (turn_tick clocks timeout)) (Commands ctls) × RelayNone (Commands ctls)
+  timed_commands : (timeout : ℕ) (ctls : List Ctl) → AreTimed timeout ctls → AreSentBehind (trigger_of m b) (low (turn_tick clocks timeout)) (Commands ctls) × RelayNone (Commands ctls)
   timed_commands timeout [] k = (tt, tt)
   timed_commands timeout (c ∷ ctls) k =
       let one = timed_one timeout c.what k.0 (c.board == b) in
       let rest = timed_commands timeout ctls k.1 in
       (behind_both (trigger_of m b) (low (turn_tick clocks timeout)) (command_to m clocks b start axis c) (Commands ctls) one.0 rest.0, none_both (command_to m clocks b start axis c) (Commands ctls) one.1 rest.1)
 
-  relay_one : (clock : ℕ) (what : Order) → what ≡ order.Trigger → (here : Bool) → AreBehind (trigger_of m b) clock (if here then order_command m clocks b start axis what ∷ [] else [])
+  relay_one : (clock : ℕ) (what : Order) → what ≡ order.Trigger → (here : Bool) → AreSentBehind (trigger_of m b) clock (if here then order_command m clocks b start axis what ∷ [] else [])
   relay_one clock what e here =
-      let At : Order → Type 0 = λ w. AreBehind (trigger_of m b) clock (if here then order_command m clocks b start axis w ∷ [] else []) in
+      let At : Order → Type 0 = λ w. AreSentBehind (trigger_of m b) clock (if here then order_command m clocks b start axis w ∷ [] else []) in
       subst At (sym e) (by here)
     where
-      by : (h : Bool) → AreBehind (trigger_of m b) clock (if h then order_command m clocks b start axis order.Trigger ∷ [] else [])
+      by : (h : Bool) → AreSentBehind (trigger_of m b) clock (if h then order_command m clocks b start axis order.Trigger ∷ [] else [])
       by true = ((refl, refl), tt)
       by false = tt
 
-  relay_commands : (clock : ℕ) (ctls : List Ctl) → AreRelays ctls → AreBehind (trigger_of m b) clock (Commands ctls)
+  relay_commands : (clock : ℕ) (ctls : List Ctl) → AreRelays ctls → AreSentBehind (trigger_of m b) clock (Commands ctls)
   relay_commands clock [] k = tt
   relay_commands clock (c ∷ ctls) k = behind_both (trigger_of m b) clock (command_to m clocks b start axis c) (Commands ctls) (relay_one clock c.what k.0 (c.board == b)) (relay_commands clock ctls k.1)
 
@@ -141,26 +141,26 @@ module _ (m : Machine) (clocks : Clocks) (b start : ℕ) (axis : AxisDef) where
   ]
 
   -- what a group orders in a turn
-  timeouts_if : (g : GroupState) (turn : ℕ) (c : Bool) → nat_lt g.sent (limit g) ≡ c → (after g turn).sent ≡ max g.sent (limit g) → let ctls : List Ctl = if c then round_of (Timeouts (limit g)) g.members else [] in
-      AreBehind (trigger_of m b) (low (turn_tick clocks (after g turn).sent)) (Commands ctls) × RelayNone (Commands ctls)
+  timeouts_if : (g : GroupState) (turn : ℕ) (c : Bool) → nat_lt g.sent (limit g) ≡ c → (turned_group g turn).sent ≡ max g.sent (limit g) → let ctls : List Ctl = if c then round_of (Timeouts (limit g)) g.members else [] in
+      AreSentBehind (trigger_of m b) (low (turn_tick clocks (turned_group g turn).sent)) (Commands ctls) × RelayNone (Commands ctls)
   timeouts_if g turn false e is = (tt, tt)
   timeouts_if g turn true e is =
       let less : g.sent < limit g = (elim (leb_tells (g.sent + 1) (limit g)) [ inl p ↦ (let l = p.1 in omega (arith, l)) | inr p ↦ absurd (let n = p.0 in let f : g.sent + 1 ≡ 1 + g.sent = omega arith in grind arith) ]) in
-      let same : (after g turn).sent ≡ limit g = omega (arith, is, less) in
-      let At : ℕ → Type 0 = λ n. AreBehind (trigger_of m b) (low (turn_tick clocks n)) (Commands (round_of (Timeouts (limit g)) g.members)) × RelayNone (Commands (round_of (Timeouts (limit g)) g.members)) in
+      let same : (turned_group g turn).sent ≡ limit g = omega (arith, is, less) in
+      let At : ℕ → Type 0 = λ n. AreSentBehind (trigger_of m b) (low (turn_tick clocks n)) (Commands (round_of (Timeouts (limit g)) g.members)) × RelayNone (Commands (round_of (Timeouts (limit g)) g.members)) in
       subst At (sym same) (timed_commands (limit g) (round_of (Timeouts (limit g)) g.members) (timed_round (limit g) g.members))
 
-  relays_if : (clock : ℕ) (g : GroupState) (c : Bool) → AreBehind (trigger_of m b) clock (Commands (if c then round_of Relays g.members else []))
+  relays_if : (clock : ℕ) (g : GroupState) (c : Bool) → AreSentBehind (trigger_of m b) clock (Commands (if c then round_of Relays g.members else []))
   relays_if clock g true = relay_commands clock (round_of Relays g.members) (relay_round g.members)
   relays_if clock g false = tt
 
-  pub ordered_behind : (g : GroupState) (turn : ℕ) → g.start ≤ turn → all_fired g.members ≡ false → AreBehind (trigger_of m b) (low (turn_tick clocks (after g turn).sent)) (Commands (orders g turn))
+  pub ordered_behind : (g : GroupState) (turn : ℕ) → g.start ≤ turn → all_fired g.members ≡ false → AreSentBehind (trigger_of m b) (low (turn_tick clocks (turned_group g turn).sent)) (Commands (orders g turn))
   ordered_behind g turn low_so fired =
-      let clock = low (turn_tick clocks (after g turn).sent) in
+      let clock = low (turn_tick clocks (turned_group g turn).sent) in
       let front = if nat_lt g.sent (limit g) then round_of (Timeouts (limit g)) g.members else [] in
       let rest = if relays_in (relay_in g turn) turn then round_of Relays g.members else [] in
       let both = behind_both (trigger_of m b) clock (Commands front) (Commands rest) (timeouts_if g turn (nat_lt g.sent (limit g)) refl (after_is g turn low_so fired)).0 (relays_if clock g (relays_in (relay_in g turn) turn)) in
-      let All : List Cmd → Type 0 = λ cs. AreBehind (trigger_of m b) clock cs in
+      let All : List Cmd → Type 0 = λ cs. AreSentBehind (trigger_of m b) clock cs in
       subst All (sym (ap Commands (orders_are g turn low_so fired) ∙ commands_both front rest)) both
 
   -- none relays before the first relay
@@ -175,9 +175,9 @@ module _ (m : Machine) (clocks : Clocks) (b start : ℕ) (axis : AxisDef) where
       subst RelayNone (sym (ap Commands (orders_are g turn low_so fired) ∙ commands_both front rest)) both
 
   -- each member is sent the timeout where it grows
-  pub ordered_sets : (g : GroupState) (turn : ℕ) (x : Seen) → g.start ≤ turn → all_fired g.members ≡ false → Contains g.members x → x.member.board ≡ b → (g.sent ≡ (after g turn).sent) ⊎ SetsOne (Commands (orders g turn))
-  ordered_sets g turn x low_so fired is_there on = elim (leb_tells (g.sent + 1) (after g turn).sent) [
-    | inl p ↦ inr (let grew = p.1 in sets_there x (after g turn).sent (orders g turn) on (sent_all g turn x low_so fired is_there (omega (arith, grew))))
+  pub ordered_sets : (g : GroupState) (turn : ℕ) (x : Seen) → g.start ≤ turn → all_fired g.members ≡ false → Contains g.members x → x.member.board ≡ b → (g.sent ≡ (turned_group g turn).sent) ⊎ SetsOne (Commands (orders g turn))
+  ordered_sets g turn x low_so fired is_there on = elim (leb_tells (g.sent + 1) (turned_group g turn).sent) [
+    | inl p ↦ inr (let grew = p.1 in sets_there x (turned_group g turn).sent (orders g turn) on (sent_all g turn x low_so fired is_there (omega (arith, grew))))
     | inr p ↦ inl (let not = p.1 in let is = after_is g turn low_so fired in omega (arith, not, is))
   ]
 
@@ -210,10 +210,10 @@ module _ (m : Machine) (clocks : Clocks) (b start : ℕ) (axis : AxisDef) where
       subst SetsNone (sym same) (relays_none g (relays_in (relay_in g turn) turn))
 
 -- what is behind the set-up whatever timeout was sent sets none
-one_unset : (oid : ℕ) (c : Cmd) → ((clock : ℕ) → IsBehind oid clock c) → Sets c → ⊥
+one_unset : (oid : ℕ) (c : Cmd) → ((clock : ℕ) → IsSentBehind oid clock c) → SetsTimeout c → ⊥
 one_unset oid (cmd.TrsyncSetTimeout other at) k s = let zero_is = (k 0).1 in let one_is = (k 1).1 in omega (arith, zero_is, one_is)
 one_unset oid c k s = absurd s
 
-pub unset_all : (oid : ℕ) (cs : List Cmd) → ((clock : ℕ) → AreBehind oid clock cs) → SetsNone cs
+pub unset_all : (oid : ℕ) (cs : List Cmd) → ((clock : ℕ) → AreSentBehind oid clock cs) → SetsNone cs
 unset_all oid [] k = tt
 unset_all oid (c ∷ cs) k = ((λ s. one_unset oid c (λ clock. (k clock).0) s), unset_all oid cs (λ clock. (k clock).1))

@@ -7,13 +7,13 @@ use Rattle.plan_types.specs.Machines.{axis_at}
 use Rattle.clock_line.specs.Early.{turn_tick}
 use Rattle.msg_code.specs.declared.cmd.Cmd.{Cmd}
 use Rattle.trigger_group.specs.declared.seen.Seen.{Seen}
-use Rattle.trigger_group.specs.Group.{GroupState, after, all_fired, any_fired_by, orders, relay_begins, relay_in, relays_in}
+use Rattle.trigger_group.specs.Group.{GroupState, turned_group, all_fired, any_fired_by, orders, relay_begins, relay_in, relays_in}
 use Rattle.axis_homing.specs.declared.homing.Homing.{Homing}
 use Rattle.axis_homing.specs.Homing.{commands_to, low}
 use Rattle.board_asking.specs.Machine.{trigger_of}
 use Rattle.laws_homing.specs.clear_boards.Alive.{RelayNone}
 use Rattle.laws_homing.specs.clear_boards.Ordered.{IsOrdered}
-use Rattle.laws_homing.specs.clear_boards.Turned.{AreBehind, RelaysOne, SetsNone, SetsOne}
+use Rattle.laws_homing.specs.clear_boards.Turned.{AreSentBehind, RelaysOne, SetsNone, SetsOne}
 use Rattle.laws_homing.proofs.clear_boards.Modes.{relayed, relayed_in}
 use Rattle.laws_homing.proofs.clear_boards.Sending.{behind_both, none_both, ordered_behind, ordered_far, ordered_none, ordered_sets, relays_front, relays_there, sets_front, unset_all, unset_both}
 
@@ -21,16 +21,16 @@ module _ (m : Machine) (clocks : Clocks) (b : ℕ) (h : Homing) (turn : ℕ) (g 
   abbrev Front : List Cmd
   Front = commands_to m clocks b h.start (axis_at m h.axis) (orders g turn)
 
-  pub sent_behind : AreBehind (trigger_of m b) (low (turn_tick clocks (after g turn).sent)) commands
+  pub sent_behind : AreSentBehind (trigger_of m b) (low (turn_tick clocks (turned_group g turn).sent)) commands
   sent_behind =
-      let clock = low (turn_tick clocks (after g turn).sent) in
+      let clock = low (turn_tick clocks (turned_group g turn).sent) in
       let front = ordered_behind m clocks b h.start (axis_at m h.axis) g turn begun fired in
-      subst (λ (cs : List Cmd). AreBehind (trigger_of m b) clock cs) (sym o.are) (behind_both (trigger_of m b) clock Front o.tail front (o.behind (trigger_of m b) clock))
+      subst (λ (cs : List Cmd). AreSentBehind (trigger_of m b) clock cs) (sym o.are) (behind_both (trigger_of m b) clock Front o.tail front (o.behind (trigger_of m b) clock))
 
   pub sent_none : g.relay ≡ None → relay_begins g turn ≡ false → RelayNone commands
   sent_none relay none = subst RelayNone (sym o.are) (none_both Front o.tail (ordered_none m clocks b h.start (axis_at m h.axis) g turn begun fired relay none) o.none)
 
-  pub sent_sets : (x : Seen) → Contains g.members x → x.member.board ≡ b → (g.sent ≡ (after g turn).sent) ⊎ SetsOne commands
+  pub sent_sets : (x : Seen) → Contains g.members x → x.member.board ≡ b → (g.sent ≡ (turned_group g turn).sent) ⊎ SetsOne commands
   sent_sets x there on = elim (ordered_sets m clocks b h.start (axis_at m h.axis) g turn x begun fired there on) [
     | inl same ↦ inl same
     | inr one ↦ inr (subst SetsOne (sym o.are) (sets_front Front o.tail one))

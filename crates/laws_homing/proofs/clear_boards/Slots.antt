@@ -20,7 +20,7 @@ use Rattle.board_trig.proofs.Nexts.{is_next, was_before, was_switch}
 use Rattle.msg_code.specs.declared.cmd.Cmd.{Cmd}
 use Rattle.msg_code.specs.declared.cmd.Cmd.TheVariants as cmd
 use Rattle.board_sim.specs.Board.{stepper_at, takes as board_takes}
-use Rattle.board_sim.specs.Rig.{Passed, Rig, Slot, acts, acts_running, all_left, at_of, becomes, bind, by_board, earliest, expires_at_once, goes_on, happens, happens_to, home, make_endstop, make_trigger, moment_in, moment_of, pass, passes, passes_by, rested, rests_to, runs_to, set_timeout, slot_at, sooner, start, takes, takes_all, tell, told, trigger}
+use Rattle.board_sim.specs.Rig.{Passed, Rig, Slot, acts, acts_running, all_left, at_of, becomes, bind, by_board, earliest_moment, expires_at_once, goes_on, happens_at, happens_to, home, make_endstop, make_trigger, moment_in, moment_of, pass, passes, passes_by, rested, rests_to, runs_to, set_timeout, slot_at, sooner, start_trigger, takes, takes_all, tell, trigger_answers, trigger}
 use Rattle.board_sim.proofs.Bound.{map_at, same_or_not, slot_range}
 use Rattle.board_sim.proofs.RigTicks.{takes_rig_tick}
 use Rattle.board_world.specs.World.{says, shut_before}
@@ -74,10 +74,10 @@ sooner_none oid (Some m) (Some rest) e = absurd (by (nat_le m rest.0) e)
     by true f = cc
     by false f = cc
 
-pub none_next : (r : Rig) (until oid p : ℕ) (ss : List (Option Slot)) (s : Slot) → get_or ss p None ≡ Some s → earliest r until oid ss ≡ None → moment_in r until (Some s) ≡ None
+pub none_next : (r : Rig) (until oid p : ℕ) (ss : List (Option Slot)) (s : Slot) → get_or ss p None ≡ Some s → earliest_moment r until oid ss ≡ None → moment_in r until (Some s) ≡ None
 none_next r until oid p [] s at e = absurd (cc)
-none_next r until oid zero (o ∷ os) s at e = ap (moment_in r until) (sym at) ∙ (sooner_none oid (moment_in r until o) (earliest r until (oid + 1) os) e).0
-none_next r until oid (suc p) (o ∷ os) s at e = none_next r until (oid + 1) p os s at (sooner_none oid (moment_in r until o) (earliest r until (oid + 1) os) e).1
+none_next r until oid zero (o ∷ os) s at e = ap (moment_in r until) (sym at) ∙ (sooner_none oid (moment_in r until o) (earliest_moment r until (oid + 1) os) e).0
+none_next r until oid (suc p) (o ∷ os) s at e = none_next r until (oid + 1) p os s at (sooner_none oid (moment_in r until o) (earliest_moment r until (oid + 1) os) e).1
 
 -- what happens next to a trigger: an expiry or a switch that is before the tick; and where its readings move on, the earliest of all
 abbrev Comes : List Level → ℕ → Trigger → Happening → Type 0
@@ -93,7 +93,7 @@ expiry_under : (until : ℕ) (o e : Option ℕ) → tick_before until o ≡ e �
 expiry_under until o None at = omega arith
 expiry_under until o (Some n) at = let x = (was_before until o n at).1 in omega (arith, x)
 
-comes_by : (e s report : Option ℕ) (levels : List Level) (until : ℕ) (t : Trigger) → trig.expiry_of until t ≡ e → trig.switch_of levels until t ≡ s → Comes levels until t (trig.earliest e s report)
+comes_by : (e s report : Option ℕ) (levels : List Level) (until : ℕ) (t : Trigger) → trig.expiry_of until t ≡ e → trig.switch_of levels until t ≡ s → Comes levels until t (trig.earliest_happening e s report)
 comes_by e s (Some tick) levels until t at on = tt
 comes_by e (Some tick) None levels until t at on =
     let is = was_switch levels (trig.or_until until (trig.expiry_of until t)) t.can t.sampling tick on in
@@ -103,7 +103,7 @@ comes_by e (Some tick) None levels until t at on =
 comes_by (Some tick) None None levels until t at on = was_before until t.timeout tick at
 comes_by None None None levels until t at on = tt
 
-next_is : (levels : List Level) (until : ℕ) (t : Trigger) → Next levels until t (trig.next levels until t)
+next_is : (levels : List Level) (until : ℕ) (t : Trigger) → Next levels until t (trig.next_happening levels until t)
 next_is levels until t = record { comes = comes_by (trig.expiry_of until t) (trig.switch_of levels until t) (trig.report_of levels until t) levels until t refl refl; whole = is_next levels until t }
 
 -- the same place with another trigger; and a place as it is made
@@ -229,9 +229,9 @@ module _ (P : List (List Level) → ℕ → Slot → Type 0) where
     -- as time passes
     module _ (until : ℕ) (lasts : Lasts until) where
       abbrev One : List (List Level) → ℕ → Slot → trig.Advanced → Type 0
-      One pins oid s a = P pins oid (with_trigger s a.trigger) × Each Q (told oid a.event)
+      One pins oid s a = P pins oid (with_trigger s a.trigger) × Each Q (trigger_answers oid a.event)
 
-      comes_told : (pins : List (List Level)) (oid : ℕ) (s : Slot) (e : Happening) → oid < room → P pins oid (with_trigger s (trig.happened (levels_at pins s) until e s.trigger).trigger) → Each Q (told oid (trig.happened (levels_at pins s) until e s.trigger).event)
+      comes_told : (pins : List (List Level)) (oid : ℕ) (s : Slot) (e : Happening) → oid < room → P pins oid (with_trigger s (trig.happened (levels_at pins s) until e s.trigger).trigger) → Each Q (trigger_answers oid (trig.happened (levels_at pins s) until e s.trigger).event)
       comes_told pins oid s Nothing l k = tt
       comes_told pins oid s (Expires at) l k = (tells.own pins oid at (with_trigger s (trig.happened (levels_at pins s) until (Expires at) s.trigger).trigger) l k, tt)
       comes_told pins oid s (Switches at) l k = (tells.own pins oid at (with_trigger s (trig.happened (levels_at pins s) until (Switches at) s.trigger).trigger) l k, tt)
@@ -239,7 +239,7 @@ module _ (P : List (List Level) → ℕ → Slot → Type 0) where
 
       tells_one : (o : Option ℕ) (pins : List (List Level)) (oid : ℕ) (s : Slot) → oid < room → s.trigger.untold ≡ o → P pins oid s → One pins oid s (trig.tells o (levels_at pins s) until s.trigger)
       tells_one None pins oid s l e k =
-          let next = trig.next (levels_at pins s) until s.trigger in
+          let next = trig.next_happening (levels_at pins s) until s.trigger in
           let new = lasts.comes pins oid s next (next_is (levels_at pins s) until s.trigger) k in
           (new, comes_told pins oid s next l new)
       tells_one (Some n) pins oid s l e k = let new = lasts.says pins oid s n e k in (new, (tells.own pins oid n (with_trigger s (record s.trigger { untold = None })) l new, tt))
@@ -252,33 +252,33 @@ module _ (P : List (List Level) → ℕ → Slot → Type 0) where
           let new = set_turned (Unit {0}) r (becomes r oid s a.trigger) oid (with_trigger s a.trigger) refl refl refl all one.0 in
           (new.0, new.1, one.1)
 
-      rests_each : (r : Rig) → earliest r until 0 r.triggers ≡ None → OfEach r → OfEach (rests_to r until).rig
+      rests_each : (r : Rig) → earliest_moment r until 0 r.triggers ≡ None → OfEach r → OfEach (rests_to r until).rig
       rests_each r none all oid u at =
           let x = rested_is r.pins until (slot_at r oid) u (sym (map_at (rested r.pins until) r.triggers oid refl) ∙ at) in
           let s = x.0 in
           let levels = levels_at r.pins s in
-          let nothing : trig.next levels until s.trigger ≡ Nothing = moment_none (trig.next levels until s.trigger) (none_next r until 0 oid r.triggers s x.1 none) in
+          let nothing : trig.next_happening levels until s.trigger ≡ Nothing = moment_none (trig.next_happening levels until s.trigger) (none_next r until 0 oid r.triggers s x.1 none) in
           let next : Next levels until s.trigger Nothing = subst (λ (e : Happening). Next levels until s.trigger e) nothing (next_is levels until s.trigger) in
           subst (λ (z : Slot). P r.pins oid z) (sym x.2) (lasts.comes r.pins oid s Nothing next (all oid s x.1))
 
-      goes_both : (o : Option (ℕ × ℕ)) (r : Rig) (rest : Passed) → Few r → earliest r until 0 r.triggers ≡ o → OfEach r
-          → (let q = (happens r until (at_of o)).rig in Few q → OfEach q → Both (Unit {0}) q rest.rig rest.answers)
-          → let p = goes_on o (rests_to r until) (passes_by (happens r until (at_of o)) rest) in Both (Unit {0}) r p.rig p.answers
+      goes_both : (o : Option (ℕ × ℕ)) (r : Rig) (rest : Passed) → Few r → earliest_moment r until 0 r.triggers ≡ o → OfEach r
+          → (let q = (happens_at r until (at_of o)).rig in Few q → OfEach q → Both (Unit {0}) q rest.rig rest.answers)
+          → let p = goes_on o (rests_to r until) (passes_by (happens_at r until (at_of o)) rest) in Both (Unit {0}) r p.rig p.answers
       goes_both None r rest few e all more = (rests_each r e all, (refl, length-map r.triggers (rested r.pins until), (λ m. refl), λ i s at. (_, map_at (rested r.pins until) r.triggers i refl ∙ ap (rested r.pins until) at)), tt)
       goes_both (Some at) r rest few e all more =
           let ran = (runs_to r (at.0 / 3)).rig in
-          let q = (happens r until at).rig in
+          let q = (happens_at r until at).rig in
           let first = happens_both at.1 ran (slot_at ran at.1) few refl (same_each r ran refl refl all) in
           let places = first.1.1 in
           let behind = more (omega (arith, few, places)) first.0 in
           let beside = beside_then (Unit {0}) (Unit {0}) ran q rest.rig first.1 behind.1 in
-          (behind.0, (beside.0, beside.1, (λ m. beside.2 (tt, tt)), beside.3), each_both Q (happens r until at).answers rest.answers first.2 behind.2)
+          (behind.0, (beside.0, beside.1, (λ m. beside.2 (tt, tt)), beside.3), each_both Q (happens_at r until at).answers rest.answers first.2 behind.2)
 
       pub pass_both : (n : ℕ) (r : Rig) → Few r → OfEach r → Both (Unit {0}) r (pass n r until).rig (pass n r until).answers
       pass_both zero r few all = quietly (Unit {0}) r r (same_turned (Unit {0}) r r refl refl refl all)
       pass_both (suc n) r few all =
-          let o = earliest r until 0 r.triggers in
-          goes_both o r (pass n (happens r until (at_of o)).rig until) few refl all (λ l k. pass_both n (happens r until (at_of o)).rig l k)
+          let o = earliest_moment r until 0 r.triggers in
+          goes_both o r (pass n (happens_at r until (at_of o)).rig until) few refl all (λ l k. pass_both n (happens_at r until (at_of o)).rig l k)
 
       pub passes_both : (r : Rig) → Few r → OfEach r → Both (Unit {0}) r (passes r until).rig (passes r until).answers
       passes_both r few all = by (nat_le r.controller.tick until)
@@ -351,7 +351,7 @@ module _ (P : List (List Level) → ℕ → Slot → Type 0) where
       made_turned r oid None fit all = set_turned (Unit {0}) r (make_trigger r oid None) oid new_slot refl refl refl all (f.made r.pins r.controller.tick oid fit)
       made_turned r oid (Some s) fit all = same_turned (Unit {0}) r r refl refl refl all
 
-      start_turned : (r : Rig) (oid clock every reason : ℕ) (o : Option Slot) → slot_at r oid ≡ o → Acts r (cmd.TrsyncStart oid clock every reason) (start r oid o clock every reason)
+      start_turned : (r : Rig) (oid clock every reason : ℕ) (o : Option Slot) → slot_at r oid ≡ o → Acts r (cmd.TrsyncStart oid clock every reason) (start_trigger r oid o clock every reason)
       start_turned r oid clock every reason None e fit all = same_turned (Unit {0}) r r refl refl refl all
       start_turned r oid clock every reason (Some s) e fit all =
           let now = r.controller.tick in
@@ -383,7 +383,7 @@ module _ (P : List (List Level) → ℕ → Slot → Type 0) where
 
       acts_both : (r : Rig) (c : Cmd) → Answers r c (acts r c).rig (acts r c).answers
       acts_both r (cmd.ConfigTrsync oid) few fit all = quietly (Unit {0}) r (make_trigger r oid (slot_at r oid)) (made_turned r oid (slot_at r oid) fit all)
-      acts_both r (cmd.TrsyncStart oid clock every reason) few fit all = quietly (Unit {0}) r (start r oid (slot_at r oid) clock every reason) (start_turned r oid clock every reason (slot_at r oid) refl fit all)
+      acts_both r (cmd.TrsyncStart oid clock every reason) few fit all = quietly (Unit {0}) r (start_trigger r oid (slot_at r oid) clock every reason) (start_turned r oid clock every reason (slot_at r oid) refl fit all)
       acts_both r (cmd.TrsyncSetTimeout oid clock) few fit all = timeout_both r oid clock (slot_at r oid) refl few fit all
       acts_both r (cmd.TrsyncTrigger oid reason) few fit all = trigger_both r oid reason (slot_at r oid) refl few fit all
       acts_both r (cmd.StepperStopOnTrigger i oid) few fit all = quietly (Unit {0}) r (bind r i (stepper_at r.controller i) oid (slot_at r oid)) (bind_turned r i oid (stepper_at r.controller i) (slot_at r oid) refl fit all)

@@ -12,7 +12,7 @@ use Rattle.board_sim.specs.Rig.{Rig, Slot, passes, takes_all}
 use Rattle.board_world.specs.World.{says}
 use Rattle.laws_board.proofs.clocks.Answers.{Each, each_both}
 use Rattle.laws_homing.specs.clear_boards.Firing.{AllSmall, AreSmall, HasSmall, IsSmall}
-use Rattle.laws_homing.specs.clear_boards.Turned.{AreBehind, IsBehind}
+use Rattle.laws_homing.specs.clear_boards.Turned.{AreSentBehind, IsSentBehind}
 use Rattle.laws_homing.proofs.clear_boards.Firing.{read_reason}
 use Rattle.laws_homing.proofs.clear_boards.Slots.{Follows, Lasts, Tells, all_both, clock_small, levels_at, says_both, with_trigger}
 use Rattle.laws_homing.proofs.home_runs.Saying.{IsOther}
@@ -40,7 +40,7 @@ Small pins oid s = HasSmall s
 lasts_small : (until : ℕ) → Lasts Small until
 lasts_small until = record { comes = λ pins oid s e next k. happened_small (levels_at pins s) until e s k; says = λ pins oid s n e k. record { reason = k.reason; expire = k.expire; sampled = k.sampled } }
 
-follows_small : (oid clock : ℕ) → Follows Small (λ now c. IsBehind oid clock c)
+follows_small : (oid clock : ℕ) → Follows Small (λ now c. IsSentBehind oid clock c)
 follows_small oid clock = record {
   made = λ pins now other fit. absurd fit;
   starts = λ pins now other s at every reason fit k. absurd fit;
@@ -55,7 +55,7 @@ follows_small oid clock = record {
 tells_small : (room : ℕ) → Tells Small room IsSmall
 tells_small room = record { own = λ pins oid n s l k. (k.reason, clock_small (if s.trigger.can then n else s.trigger.tick)); other = other_small }
 
-behind_each : (oid clock : ℕ) (cs : List Cmd) → AreBehind oid clock cs → Each (IsBehind oid clock) cs
+behind_each : (oid clock : ℕ) (cs : List Cmd) → AreSentBehind oid clock cs → Each (IsSentBehind oid clock) cs
 behind_each oid clock [] k = tt
 behind_each oid clock (c ∷ cs) k = (k.0, behind_each oid clock cs k.1)
 
@@ -64,9 +64,9 @@ each_small [] k = tt
 each_small (c ∷ cs) k = (k.0, each_small cs k.1)
 
 -- a turn
-pub turn_small : (oid clock until : ℕ) (r : Rig) (cs : List Cmd) → AreBehind oid clock cs → AllSmall r → AllSmall (passes (takes_all r cs).rig until).rig × AreSmall ((takes_all r cs).answers ++ says (takes_all r cs).rig until)
+pub turn_small : (oid clock until : ℕ) (r : Rig) (cs : List Cmd) → AreSentBehind oid clock cs → AllSmall r → AllSmall (passes (takes_all r cs).rig until).rig × AreSmall ((takes_all r cs).answers ++ says (takes_all r cs).rig until)
 turn_small oid clock until r cs k all =
     let q = (takes_all r cs).rig in
-    let one = all_both Small (length r.triggers) IsSmall (tells_small _) (λ now c. IsBehind oid clock c) (follows_small oid clock) r cs (omega arith) (behind_each oid clock cs k) all in
+    let one = all_both Small (length r.triggers) IsSmall (tells_small _) (λ now c. IsSentBehind oid clock c) (follows_small oid clock) r cs (omega arith) (behind_each oid clock cs k) all in
     let two = says_both Small (length q.triggers) IsSmall (tells_small _) until (lasts_small until) q (omega arith) one.0 in
     (two.0, each_small ((takes_all r cs).answers ++ says q until) (each_both IsSmall (takes_all r cs).answers (says q until) one.2 two.2))

@@ -35,7 +35,7 @@ use Rattle.laws_homing.specs.clear_boards.Hearing.{AllFiredIn, FiringNone, NoneO
 use Rattle.laws_homing.specs.clear_boards.Lately.{IsHeardOf}
 use Rattle.laws_homing.specs.clear_boards.Limited.{IsLimited}
 use Rattle.laws_homing.specs.clear_boards.Member.{IsMember}
-use Rattle.laws_homing.specs.clear_boards.Turned.{AreBehind, IsTurnedTo, SetsOne}
+use Rattle.laws_homing.specs.clear_boards.Turned.{AreSentBehind, IsTurnedTo, SetsOne}
 use Rattle.laws_homing.proofs.clear_boards.Alive.{turn_alive}
 use Rattle.laws_homing.proofs.clear_boards.Bridging.{all_fired_in, none_firing, tells_firing, turn_is}
 use Rattle.laws_homing.proofs.clear_boards.Clocking.{line_ahead, lines_up, report_counts, timeout_ahead}
@@ -72,7 +72,7 @@ module _ (b : BoardDef) (pins : List (List Level)) (place : ℕ) (entries : List
   pub goes_on : (all : List Clocks) (states : List State) (h : Homing) (oid base every ready sent next : ℕ) → AreTicks own → (k : AreTracked own (clocks_at all place) ready) → place < length all → state_at place states ≡ t.state ∷ [] → h.start ≡ h.group.start
       → lines_tick (clocks_at all place) (h.start * turn_ns) ≡ base → ready + 5 ≤ h.start → ready + 4 ≤ length before → length before + 1 ≤ k.until → h.start ≤ k.until → next ≤ k.until → k.until < run_turns → own (length before) < 2 ^ 63
       → own (length before) < own (length before + 1) → ((u : ℕ) → own u + every < own (u + 6)) → length before + 2 ≤ next → next ≤ length before + 1_000 → next ≤ h.group.last + 1 → oid < 2 ^ 8 → length Start.triggers ≤ 256
-      → Start.controller.tick ≡ own (length before) → Taken.controller.state ≡ Running → AreBehind oid (low (turn_tick (clocks_at all place) next)) Commands → RelayNone Commands
+      → Start.controller.tick ≡ own (length before) → Taken.controller.state ≡ Running → AreSentBehind oid (low (turn_tick (clocks_at all place) next)) Commands → RelayNone Commands
       → (sent ≡ next) ⊎ SetsOne Commands → ((tick : ℕ) → IsLimited oid tick (lines_tick (clocks_at all place) (sent * turn_ns)) Start) → AllSound Start
       → (a : IsAlive oid base every (own (length before)) Start) → IsHeardOf own base every h.group.start place a.next h.group.members → NoneOn place h.group.members
       → ((tick : ℕ) → IsTurnedTo oid tick (lines_tick (clocks_at all place) (next * turn_ns)) (own (length before + 1)) Start Commands)

@@ -13,9 +13,9 @@ use Rattle.laws_board.specs.turns.Turns.{AreBoardTurns, BoardTurn, stands_after}
 use Rattle.laws_board.specs.clocks.Runs.{orders_in}
 use Rattle.laws_board.proofs.clocks.Orders.{turns_in_order}
 use Rattle.laws_board.proofs.sections.Calm.{AreClear}
-use Rattle.board_world.specs.World.{Core, Step, Do, Turn, after, happens, run, takes_in}
+use Rattle.board_world.specs.World.{Core, Step, Do, Turn, world_after, after_event, run_world, takes_in}
 use Rattle.link_work.specs.Runs.{queued_in}
-use Rattle.laws_homing.specs.home_runs.Sections.{queued_by}
+use Rattle.laws_homing.specs.home_runs.Sections.{queued_in_turns}
 use Rattle.board_sim.specs.Fair.{Meant, commands_of}
 use Rattle.board_sim.specs.Rig.{Rig, passes, takes, takes_all}
 use Rattle.board_world.specs.declared.event.Event.TheVariants as event
@@ -39,7 +39,7 @@ IsQuiet (Do event.Repeat) = ⊥
 IsQuiet (Do (event.Pass t)) = ⊥
 IsQuiet _ = Unit {0}
 
-quiet_step : (s : Step) (h : Core) → IsQuiet s → ((after h s).board ≡ h.board) × ((after h s).taken ≡ h.taken)
+quiet_step : (s : Step) (h : Core) → IsQuiet s → ((world_after h s).board ≡ h.board) × ((world_after h s).taken ≡ h.taken)
 quiet_step (Turn turn) h q = (refl, refl)
 quiet_step (Do event.Arrive) h q = absurd q
 quiet_step (Do event.Repeat) h q = absurd q
@@ -53,11 +53,11 @@ quiet_step (Do event.Garble) h q = (refl, append-nil h.taken)
 quiet_step (Do event.Reply) h q = (refl, append-nil h.taken)
 quiet_step (Do event.LoseReply) h q = (refl, append-nil h.taken)
 
-quiet_all : (steps : List Step) (h : Core) → AllOf IsQuiet steps → ((run steps h).board ≡ h.board) × ((run steps h).taken ≡ h.taken)
+quiet_all : (steps : List Step) (h : Core) → AllOf IsQuiet steps → ((run_world steps h).board ≡ h.board) × ((run_world steps h).taken ≡ h.taken)
 quiet_all [] h q = (refl, refl)
 quiet_all (s ∷ steps) h q =
     let one = quiet_step s h q.0 in
-    let rest = quiet_all steps (after h s) q.1 in
+    let rest = quiet_all steps (world_after h s) q.1 in
     (rest.0 ∙ one.0, rest.1 ∙ one.1)
 
 -- steps in which blocks come to the board
@@ -74,7 +74,7 @@ record Obeyed (h g : Core) : Type 0 where
   taken : g.taken ≡ h.taken ++ meant
   board : g.board ≡ (takes_all h.board (commands_of meant)).rig
 
-coming_step : (s : Step) (h : Core) → IsComing s → Obeyed h (after h s)
+coming_step : (s : Step) (h : Core) → IsComing s → Obeyed h (world_after h s)
 coming_step (Do event.Lose) h c = record { meant = []; taken = refl; board = refl }
 coming_step (Do event.Garble) h c = record { meant = []; taken = refl; board = refl }
 coming_step (Do event.Arrive) h c = record { meant = takes_in h event.Arrive; taken = refl; board = refl }
@@ -85,11 +85,11 @@ pub takes_both : (r : Rig) (xs ys : List Cmd) → (takes_all r (xs ++ ys)).rig �
 takes_both r [] ys = refl
 takes_both r (c ∷ xs) ys = takes_both (takes r c).rig xs ys
 
-coming_all : (steps : List Step) (h : Core) → AllOf IsComing steps → Obeyed h (run steps h)
+coming_all : (steps : List Step) (h : Core) → AllOf IsComing steps → Obeyed h (run_world steps h)
 coming_all [] h c = record { meant = []; taken = sym (append-nil h.taken); board = refl }
 coming_all (s ∷ steps) h c =
     let one = coming_step s h c.0 in
-    let rest = coming_all steps (after h s) c.1 in
+    let rest = coming_all steps (world_after h s) c.1 in
     record {
       meant = one.meant ++ rest.meant;
       taken = rest.taken ∙ ap (λ (ms : List Meant). ms ++ rest.meant) one.taken ∙ append_assoc h.taken one.meant rest.meant;
@@ -119,7 +119,7 @@ pub record Turned (clock : BoardClock) (turn : ℕ) (o : Orders) (resent : Bool)
   pub board : m.core.board ≡ (passes (takes_all l.core.board (commands_of meant)).rig (board_tick clock (turn + 1))).rig
   pub mid : Core
   pub mid_board : mid.board ≡ (takes_all l.core.board (commands_of meant)).rig
-  pub behind : (after_board clock turn (after_host turn o resent l)).core ≡ happens mid (event.Pass (board_tick clock (turn + 1)))
+  pub behind : (after_board clock turn (after_host turn o resent l)).core ≡ after_event mid (event.Pass (board_tick clock (turn + 1)))
 
 turned : (clock : BoardClock) (turn : ℕ) (o : Orders) (l m : LinkState) (t : IsTurn clock turn o l m) → Turned clock turn o t.resent l m
 turned clock turn o l m t =
@@ -130,10 +130,10 @@ turned clock turn o l m t =
     let up = come Up turn l2.up.copies in
     let host = quiet_all (host_steps turn o t.resent) l.core (host_quiet turn o t.resent) in
     let came = coming_all down l1.core (all_come IsComing Down down_coming turn l1.down.copies) in
-    let mid : Core = run down l1.core in
-    let cut : l2.core ≡ happens mid (event.Pass tick) = run_append down (Do (event.Pass tick) ∷ []) l1.core in
+    let mid : Core = run_world down l1.core in
+    let cut : l2.core ≡ after_event mid (event.Pass tick) = run_append down (Do (event.Pass tick) ∷ []) l1.core in
     let back = quiet_all up l2.core (all_come IsQuiet Up up_quiet turn l2.up.copies) in
-    let last : m.core ≡ run up l2.core = ap (λ (x : LinkState). x.core) t.becomes in
+    let last : m.core ≡ run_world up l2.core = ap (λ (x : LinkState). x.core) t.becomes in
     record {
       mid = mid;
       mid_board = came.board ∙ ap (λ (r : Rig). (takes_all r (commands_of came.meant)).rig) host.0;
@@ -152,8 +152,8 @@ taking b pins board entries t before rest are =
     let x = turned (clock_of b) (length before) o (stands_after first before) t.after are.0.0 in
     let old = rests_took b pins board entries before are.1 (rests_idle b pins board entries before are.1 rest.0) in
     let new = rests_took b pins board entries (t ∷ before) are (rests_idle b pins board entries (t ∷ before) are rest.1) in
-    let both : queued_by before ++ x.meant ≡ queued_by before ++ queued_in o = ap (λ (ms : List Meant). ms ++ x.meant) (sym old) ∙ sym x.taken ∙ new in
-    (x, append_cancel_left (queued_by before) x.meant (queued_in o) both)
+    let both : queued_in_turns before ++ x.meant ≡ queued_in_turns before ++ queued_in o = ap (λ (ms : List Meant). ms ++ x.meant) (sym old) ∙ sym x.taken ∙ new in
+    (x, append_cancel_left (queued_in_turns before) x.meant (queued_in o) both)
 
 pub takes_rested : (b : BoardDef) (pins : List (List Level)) (board : ℕ) (entries : List Entry) (t : BoardTurn) (before : List BoardTurn) → RestsOver t before → AreBoardTurns (clock_of b) (first_state b pins board entries) (t ∷ before)
     → (stands_after (first_state b pins board entries) (t ∷ before)).core.board
@@ -176,13 +176,13 @@ pub clear_at : (b : BoardDef) (pins : List (List Level)) (board : ℕ) (entries 
 clear_at b pins board entries turns e are limits = (free_at b pins board entries turns e are limits).clear
 
 -- the host's part leaves the board as it is, and what it took
-pub host_quiet_all : (turn : ℕ) (o : Orders) (resent : Bool) (h : Core) → ((run (host_steps turn o resent) h).board ≡ h.board) × ((run (host_steps turn o resent) h).taken ≡ h.taken)
+pub host_quiet_all : (turn : ℕ) (o : Orders) (resent : Bool) (h : Core) → ((run_world (host_steps turn o resent) h).board ≡ h.board) × ((run_world (host_steps turn o resent) h).taken ≡ h.taken)
 host_quiet_all turn o resent h = quiet_all (host_steps turn o resent) h (host_quiet turn o resent)
 
 -- what the board took by what came down, and how it stands then
 pub down_taking : (b : BoardDef) (pins : List (List Level)) (board : ℕ) (entries : List Entry) (t : BoardTurn) (before : List BoardTurn) → RestsOver t before → (are : AreBoardTurns (clock_of b) (first_state b pins board entries) (t ∷ before))
     → let l1 : LinkState = after_host (length before) (orders t.control t.batch) are.0.0.resent (stands_after (first_state b pins board entries) before) in
-    let mid : Core = run (come Down (length before) l1.down.copies) l1.core in
+    let mid : Core = run_world (come Down (length before) l1.down.copies) l1.core in
     (mid.taken ≡ l1.core.taken ++ queued_in (orders t.control t.batch))
     × (mid.board ≡ (takes_all (stands_after (first_state b pins board entries) before).core.board (commands_of (queued_in (orders t.control t.batch)))).rig)
     × (l1.core.link.up ≡ (stands_after (first_state b pins board entries) before).core.link.up)
@@ -197,13 +197,13 @@ down_taking b pins board entries t before rest are =
     let l2 : LinkState = after_board clock turn l1 in
     let tick = board_tick clock (turn + 1) in
     let down = come Down turn l1.down.copies in
-    let mid : Core = run down l1.core in
+    let mid : Core = run_world down l1.core in
     let came = coming_all down l1.core (all_come IsComing Down down_coming turn l1.down.copies) in
     let host = host_quiet_all turn o resent l.core in
     let x = taking b pins board entries t before rest are in
-    let cut : l2.core ≡ happens mid (event.Pass tick) = run_append down (Do (event.Pass tick) ∷ []) l1.core in
+    let cut : l2.core ≡ after_event mid (event.Pass tick) = run_append down (Do (event.Pass tick) ∷ []) l1.core in
     let back = quiet_all (come Up turn l2.up.copies) l2.core (all_come IsQuiet Up up_quiet turn l2.up.copies) in
-    let last : t.after.core ≡ run (come Up turn l2.up.copies) l2.core = ap (λ (y : LinkState). y.core) are.0.0.becomes in
+    let last : t.after.core ≡ run_world (come Up turn l2.up.copies) l2.core = ap (λ (y : LinkState). y.core) are.0.0.becomes in
     let whole : t.after.core.taken ≡ l.core.taken ++ came.meant =
     ap (λ (h : Core). h.taken) last ∙ back.1 ∙ ap (λ (h : Core). h.taken) cut ∙ append-nil mid.taken ∙ came.taken ∙ ap (λ (ms : List Meant). ms ++ came.meant) host.1 in
     let same : came.meant ≡ queued_in o = append_cancel_left l.core.taken came.meant x.0.meant (sym whole ∙ x.0.taken) ∙ x.1 in

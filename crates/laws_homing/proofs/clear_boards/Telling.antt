@@ -18,7 +18,7 @@ use Rattle.wire_scene.specs.Wire.{Copy}
 use Rattle.board_sim.specs.Fair.{Meant, commands_of}
 use Rattle.board_sim.specs.Rig.{Rig, takes_all}
 use Rattle.board_world.specs.declared.event.Event.TheVariants as event
-use Rattle.board_world.specs.World.{Core, happens, run, says, text_of}
+use Rattle.board_world.specs.World.{Core, after_event, run_world, says, wire_text}
 use Rattle.link_work.specs.Answers.{IsAmong}
 use Rattle.link_work.specs.Runs.{queued_in}
 use Rattle.link_work.specs.Stands.{first_state, orders}
@@ -50,7 +50,7 @@ first_heard Stays r rs h f e = cc
 first_heard Garbled r rs h f e = cc
 
 heard_both : (turn : ℕ) (c : Copy) (cs : List Copy) (h : Core) → nat_le c.due turn ≡ true
-    → heard_in (come Up turn (c ∷ cs)) h ≡ heard_in (comes Up c.fate) h ++ heard_in (come Up turn cs) (run (comes Up c.fate) h)
+    → heard_in (come Up turn (c ∷ cs)) h ≡ heard_in (comes Up c.fate) h ++ heard_in (come Up turn cs) (run_world (comes Up c.fate) h)
 heard_both turn c cs h due =
     ap (λ (b : Bool). heard_in (if b then comes Up c.fate ++ come Up turn cs else []) h) due ∙ heard_append (comes Up c.fate) (come Up turn cs) h
 
@@ -61,7 +61,7 @@ heard_here turn [] h (x ∷ more) r e many last none k = absurd (omega (arith, m
 heard_here turn (d ∷ ds) h [] r e many last none k = absurd k
 heard_here turn (d ∷ ds) h (x ∷ more) r e many last none k =
     let due = due_if (nat_le d.due turn) d ds (still turn ds) none in
-    let g = run (comes Up d.fate) h in
+    let g = run_world (comes Up d.fate) h in
     let both = heard_both turn d ds h due.0 in
     let rest = heard_in (come Up turn ds) g in
     subst (IsAmong r) (sym both) (elim k [
@@ -106,13 +106,13 @@ all_heard clock turn o resent l r sound empty calm none k =
     heard_here turn l2.up.copies l2.core l2.core.link.up r refl many last none k
 
 -- what the board says as it runs on
-pub in_numbered : (n : ℕ) (cs : List Cmd) (c : Cmd) → IsAmong c cs → IsAmong (record { number = n; answer = text_of c }) (numbered n (map text_of cs))
+pub in_numbered : (n : ℕ) (cs : List Cmd) (c : Cmd) → IsAmong c cs → IsAmong (record { number = n; answer = wire_text c }) (numbered n (map wire_text cs))
 in_numbered n [] c k = absurd k
-in_numbered n (x ∷ cs) c k = elim k [ inl e ↦ inl (ap (λ (y : Cmd). record { number = n; answer = text_of y }) e) | inr m ↦ inr (in_numbered n cs c m) ]
+in_numbered n (x ∷ cs) c k = elim k [ inl e ↦ inl (ap (λ (y : Cmd). record { number = n; answer = wire_text y }) e) | inr m ↦ inr (in_numbered n cs c m) ]
 
 pub told_at_once : (b : BoardDef) (pins : List (List Level)) (board : ℕ) (entries : List Entry) (t : BoardTurn) (before : List BoardTurn) (c : Cmd) → RestsOver t before → AreBoardTurns (clock_of b) (first_state b pins board entries) (t ∷ before)
     → IsAmong c (says (takes_all (stands_after (first_state b pins board entries) before).core.board (commands_of (queued_in (orders t.control t.batch)))).rig (board_tick (clock_of b) (length before + 1)))
-    → IsText own_formats c (text_of c) → (n : ℕ) × IsAmong (record { number = n; answer = c }) t.state.news
+    → IsText own_formats c (wire_text c) → (n : ℕ) × IsAmong (record { number = n; answer = c }) t.state.news
 told_at_once b pins board entries t before c rest are among text =
     let first = first_state b pins board entries in
     let clock = clock_of b in
@@ -127,9 +127,9 @@ told_at_once b pins board entries t before c rest are among text =
     let sound = subst Sound (order_length before) (begins b pins board entries (orders_in before) l (turns_in_order clock first before are.1)).sound in
     let board_is : mid.board ≡ (takes_all l.core.board (commands_of (queued_in o))).rig = x.0.mid_board ∙ ap (λ (ms : List Meant). (takes_all l.core.board (commands_of ms)).rig) x.1 in
     let said : IsAmong c (says mid.board tick) = subst (λ (r : Rig). IsAmong c (says r tick)) (sym board_is) among in
-    let reply : Reply = record { number = mid.link.accepted; answer = text_of c } in
-    let up : IsAmong reply (happens mid (event.Pass tick)).link.up =
-    among_right reply mid.link.up (numbered mid.link.accepted (map text_of (says mid.board tick))) (in_numbered mid.link.accepted (says mid.board tick) c said) in
+    let reply : Reply = record { number = mid.link.accepted; answer = wire_text c } in
+    let up : IsAmong reply (after_event mid (event.Pass tick)).link.up =
+    among_right reply mid.link.up (numbered mid.link.accepted (map wire_text (says mid.board tick))) (in_numbered mid.link.accepted (says mid.board tick) c said) in
     let there = subst (λ (h : Core). IsAmong reply h.link.up) (sym x.0.behind) up in
     let resent = are.0.0.resent in
     let l3 = after_replies turn (after_board clock turn (after_host turn o resent l)) in

@@ -18,12 +18,12 @@ use Rattle.board_trig.specs.Sampling.{IsTriggerTick}
 use Rattle.board_trig.proofs.Nexts.{is_next}
 use Rattle.msg_code.specs.declared.cmd.Cmd.{Cmd}
 use Rattle.msg_code.specs.declared.cmd.Cmd.TheVariants as cmd
-use Rattle.board_sim.specs.Rig.{Passed, Rig, Slot, acts, acts_running, all_left, at_of, becomes, earliest, expires_at_once, goes_on, happens, happens_to, levels_of, pass, passes, passes_by, rested, rests_to, runs_to, set_timeout, slot_at, takes, takes_all, told, trigger}
+use Rattle.board_sim.specs.Rig.{Passed, Rig, Slot, acts, acts_running, all_left, at_of, becomes, earliest_moment, expires_at_once, goes_on, happens_at, happens_to, levels_of, pass, passes, passes_by, rested, rests_to, runs_to, set_timeout, slot_at, takes, takes_all, trigger_answers, trigger}
 use Rattle.board_sim.proofs.Bound.{map_at, one_slot, same_or_not, slot_range}
 use Rattle.board_sim.proofs.Halting.{quiet_moves, quiet_switch}
 use Rattle.board_sim.proofs.RigTicks.{takes_rig_tick}
 use Rattle.laws_homing.specs.clear_boards.Firing.{TellOff}
-use Rattle.laws_homing.specs.clear_boards.Turned.{AreBehind, IsBehind, Relays, RelaysOne, Sets, SetsOne}
+use Rattle.laws_homing.specs.clear_boards.Turned.{AreSentBehind, IsSentBehind, Relays, RelaysOne, SetsTimeout, SetsOne}
 use Rattle.laws_homing.proofs.clear_boards.Firing.{off_behind, off_front}
 use Rattle.laws_homing.proofs.clear_boards.Slots.{no_both}
 
@@ -55,7 +55,7 @@ module _ (oid low until : ℕ) where
 
   -- what happens to it
   fires : (s : Slot) (at reason : ℕ) (xs : List Cmd) → low ≤ at → at < until → s.trigger.untold ≡ None
-      → Gone oid low until (record s { trigger = trig.fired at reason s.trigger }) (xs ++ told oid (trig.told at (trig.fired at reason s.trigger)).event)
+      → Gone oid low until (record s { trigger = trig.fired at reason s.trigger }) (xs ++ trigger_answers oid (trig.state_told at (trig.fired at reason s.trigger)).event)
   fires s at reason xs begun early told_all = record {
     fired = refl;
     told = told_all;
@@ -63,7 +63,7 @@ module _ (oid low until : ℕ) where
     moves = tt;
     begun = begun;
     early = early;
-    tells = off_behind oid (at % 2 ^ 32) xs (told oid (trig.told at (trig.fired at reason s.trigger)).event) (inl (refl, refl, refl));
+    tells = off_behind oid (at % 2 ^ 32) xs (trigger_answers oid (trig.state_told at (trig.fired at reason s.trigger)).event) (inl (refl, refl, refl));
   }
 
   quiet_so : (pins : List (List Level)) (s : Slot) (xs : List Cmd) → So pins s xs → So pins (record s { trigger = (trig.happened (slice_index_or pins s.pin []) until Nothing s.trigger).trigger }) (xs ++ [])
@@ -75,7 +75,7 @@ module _ (oid low until : ℕ) where
       inr (record { fired = g.fired; told = g.told; idle = g.idle; moves = quiet_moves s.trigger.sampling levels until g.moves; begun = g.begun; early = g.early; tells = off_front oid (s.trigger.tick % 2 ^ 32) xs [] g.tells })
 
   happened_so : (pins : List (List Level)) (e : Happening) (s : Slot) (xs : List Cmd) → IsNextOf (slice_index_or pins s.pin []) until s.trigger e → So pins s xs
-      → So pins (record s { trigger = (trig.happened (slice_index_or pins s.pin []) until e s.trigger).trigger }) (xs ++ told oid (trig.happened (slice_index_or pins s.pin []) until e s.trigger).event)
+      → So pins (record s { trigger = (trig.happened (slice_index_or pins s.pin []) until e s.trigger).trigger }) (xs ++ trigger_answers oid (trig.happened (slice_index_or pins s.pin []) until e s.trigger).event)
   happened_so pins Nothing s xs next k = quiet_so pins s xs k
   happened_so pins (Expires at) s xs next (inl k) = inr (fires s at s.trigger.expire xs (k.timed at next.0) next.1 k.told)
   happened_so pins (Expires at) s xs next (inr g) = absurd (let bad : None ≡ Some at = sym g.idle ∙ next.0 in cc)
@@ -83,17 +83,17 @@ module _ (oid low until : ℕ) where
   happened_so pins (Switches at) s xs next (inr g) = absurd (no_both s.trigger.can next.0.1 g.fired)
   happened_so pins (Reports at) s xs next (inl k) = inl (record { can = k.can; told = k.told; moves = k.moves; timed = k.timed; sampled = k.sampled })
   happened_so pins (Reports at) s xs next (inr g) =
-      inr (record { fired = g.fired; told = g.told; idle = g.idle; moves = g.moves; begun = g.begun; early = g.early; tells = off_front oid (s.trigger.tick % 2 ^ 32) xs (told oid (trig.happened (slice_index_or pins s.pin []) until (Reports at) s.trigger).event) g.tells })
+      inr (record { fired = g.fired; told = g.told; idle = g.idle; moves = g.moves; begun = g.begun; early = g.early; tells = off_front oid (s.trigger.tick % 2 ^ 32) xs (trigger_answers oid (trig.happened (slice_index_or pins s.pin []) until (Reports at) s.trigger).event) g.tells })
 
   moves_of : (pins : List (List Level)) (s : Slot) (xs : List Cmd) → So pins s xs → (s.trigger.untold ≡ None) × MovesOn s.trigger.sampling
   moves_of pins s xs (inl k) = (k.told, k.moves)
   moves_of pins s xs (inr g) = (g.told, g.moves)
 
   tells_so : (pins : List (List Level)) (o : Option ℕ) (s : Slot) (xs : List Cmd) → s.trigger.untold ≡ o → So pins s xs
-      → So pins (record s { trigger = (trig.tells o (slice_index_or pins s.pin []) until s.trigger).trigger }) (xs ++ told oid (trig.tells o (slice_index_or pins s.pin []) until s.trigger).event)
+      → So pins (record s { trigger = (trig.tells o (slice_index_or pins s.pin []) until s.trigger).trigger }) (xs ++ trigger_answers oid (trig.tells o (slice_index_or pins s.pin []) until s.trigger).event)
   tells_so pins None s xs e k =
       let levels = slice_index_or pins s.pin [] in
-      happened_so pins (trig.next levels until s.trigger) s xs (is_next levels until s.trigger (moves_of pins s xs k).1) k
+      happened_so pins (trig.next_happening levels until s.trigger) s xs (is_next levels until s.trigger (moves_of pins s xs k).1) k
   tells_so pins (Some n) s xs e k = absurd (let bad : None ≡ Some n = sym (moves_of pins s xs k).0 ∙ e in cc)
 
   -- so stands a board's trigger
@@ -121,10 +121,10 @@ module _ (oid low until : ℕ) where
         let alike : d.slot ≡ u = one_slot (slot_at r oid) d.slot u d.is there in
         let now : So r.pins u xs = subst (λ (s : Slot). So r.pins s xs) alike d.so in
         let By : ℕ → Type 0 = λ n. Stands (happens_to r until n (Some u)).rig (xs ++ (happens_to r until n (Some u)).answers) in
-        subst By same (set_here r (becomes r oid u a.trigger) u (record u { trigger = a.trigger }) (xs ++ told oid a.event) there refl refl (tells_so r.pins u.trigger.untold u xs refl now))
+        subst By same (set_here r (becomes r oid u a.trigger) u (record u { trigger = a.trigger }) (xs ++ trigger_answers oid a.event) there refl refl (tells_so r.pins u.trigger.untold u xs refl now))
     | inr other ↦
         let a = trig.advanced (levels_of r u.pin) until u.trigger in
-        let ys = told k a.event in
+        let ys = trigger_answers k a.event in
         record { slot = d.slot; is = get_or-set_other r.triggers k oid (Some (record u { trigger = a.trigger })) None other ∙ d.is; so = more_so r.pins d.slot xs ys d.so }
   ]
 
@@ -142,9 +142,9 @@ module _ (oid low until : ℕ) where
   pass_so : (n : ℕ) (r : Rig) (xs : List Cmd) → Stands r xs → Stands (pass n r until).rig (xs ++ (pass n r until).answers)
   pass_so zero r xs d = more_stands r xs [] d
   pass_so (suc n) r xs d =
-      let next = earliest r until 0 r.triggers in
+      let next = earliest_moment r until 0 r.triggers in
       let ran = (runs_to r ((at_of next).0 / 3)).rig in
-      let first = happens r until (at_of next) in
+      let first = happens_at r until (at_of next) in
       let rest = pass n first.rig until in
       let on : Stands ran xs = record { slot = d.slot; is = d.is; so = d.so } in
       let one : Stands first.rig (xs ++ first.answers) = happens_so (at_of next).1 ran (slot_at ran (at_of next).1) xs refl on in
@@ -204,7 +204,7 @@ module _ (oid low until : ℕ) where
     TimesOut r s xs b = let t : Trigger = if b then trig.limited r.controller.tick (nearest r.controller.tick clock) s.trigger else s.trigger in Stands (expires_at_once r oid s t t.untold).rig (xs ++ (expires_at_once r oid s t t.untold).answers)
 
     abbrev RelaysOut : Rig → Slot → List Cmd → Bool → Type 0
-    RelaysOut r s xs b = let t : Trigger = if b then trig.fired r.controller.tick 3 s.trigger else s.trigger in Stands (becomes r oid s t) (xs ++ told oid (trig.told r.controller.tick t).event)
+    RelaysOut r s xs b = let t : Trigger = if b then trig.fired r.controller.tick 3 s.trigger else s.trigger in Stands (becomes r oid s t) (xs ++ trigger_answers oid (trig.state_told r.controller.tick t).event)
 
     times_so : (r : Rig) (xs : List Cmd) → r.controller.tick ≡ now → ((now < nearest now clock) × (low ≤ nearest now clock)) ⊎ (low ≤ now) → Stands r xs → Stands (acts r (cmd.TrsyncSetTimeout oid clock)).rig (xs ++ (acts r (cmd.TrsyncSetTimeout oid clock)).answers)
     times_so r xs at fit d =
@@ -224,13 +224,13 @@ module _ (oid low until : ℕ) where
         by : So r.pins d.slot xs → RelaysOut r d.slot xs d.slot.trigger.can
         by (inl k) =
             let t = trig.fired r.controller.tick 3 d.slot.trigger in
-            let ys = told oid (trig.told r.controller.tick t).event in
+            let ys = trigger_answers oid (trig.state_told r.controller.tick t).event in
             subst (RelaysOut r d.slot xs) (sym k.can) (set_here r (becomes r oid d.slot t) d.slot (record d.slot { trigger = t }) (xs ++ ys) d.is refl refl (inr (fires d.slot r.controller.tick 3 xs (omega (arith, begun, at)) (omega (arith, soon, at)) k.told)))
         by (inr g) =
-            let ys = told oid (trig.told r.controller.tick d.slot.trigger).event in
+            let ys = trigger_answers oid (trig.state_told r.controller.tick d.slot.trigger).event in
             subst (RelaysOut r d.slot xs) (sym g.fired) (set_here r (becomes r oid d.slot d.slot.trigger) d.slot d.slot (xs ++ ys) d.is refl refl (more_so r.pins d.slot xs ys (inr g)))
 
-    acts_so : (r : Rig) (c : Cmd) (xs : List Cmd) → r.controller.tick ≡ now → IsBehind oid clock c → Fits (Relays c) (Sets c) → Stands r xs → Stands (acts r c).rig (xs ++ (acts r c).answers)
+    acts_so : (r : Rig) (c : Cmd) (xs : List Cmd) → r.controller.tick ≡ now → IsSentBehind oid clock c → Fits (Relays c) (SetsTimeout c) → Stands r xs → Stands (acts r c).rig (xs ++ (acts r c).answers)
     acts_so r (cmd.TrsyncSetTimeout o n) xs at k f d =
         let By : ℕ → ℕ → Type 0 = λ i j. Stands (acts r (cmd.TrsyncSetTimeout i j)).rig (xs ++ (acts r (cmd.TrsyncSetTimeout i j)).answers) in
         subst (λ (i : ℕ). By i n) (sym k.0) (subst (λ (j : ℕ). By oid j) (sym k.1) (times_so r xs at (f.1 tt) d))
@@ -244,14 +244,14 @@ module _ (oid low until : ℕ) where
     acts_so r (cmd.EndstopHome o n sample count rest value t reason) xs at k f d = absurd k
     acts_so r c xs at k f d = record { slot = d.slot; is = d.is; so = more_so r.pins d.slot xs (acts r c).answers d.so }
 
-    takes_so : (r : Rig) (c : Cmd) (xs : List Cmd) → r.controller.tick ≡ now → IsBehind oid clock c → Fits (Relays c) (Sets c) → Stands r xs → Stands (takes r c).rig (xs ++ (takes r c).answers)
+    takes_so : (r : Rig) (c : Cmd) (xs : List Cmd) → r.controller.tick ≡ now → IsSentBehind oid clock c → Fits (Relays c) (SetsTimeout c) → Stands r xs → Stands (takes r c).rig (xs ++ (takes r c).answers)
     takes_so r c xs at k f d = by r.controller.state
       where
         by : (o : BoardState) → Stands (acts_running o r c).rig (xs ++ (acts_running o r c).answers)
         by Running = acts_so r c xs at k f d
         by (Shut reason tick first) = record { slot = d.slot; is = d.is; so = more_so r.pins d.slot xs (acts_running (Shut reason tick first) r c).answers d.so }
 
-    all_so : (r : Rig) (cs xs : List Cmd) → r.controller.tick ≡ now → AreBehind oid clock cs → Fits (RelaysOne cs) (SetsOne cs) → Stands r xs → Stands (takes_all r cs).rig (xs ++ (takes_all r cs).answers)
+    all_so : (r : Rig) (cs xs : List Cmd) → r.controller.tick ≡ now → AreSentBehind oid clock cs → Fits (RelaysOne cs) (SetsOne cs) → Stands r xs → Stands (takes_all r cs).rig (xs ++ (takes_all r cs).answers)
     all_so r [] xs at k f d = more_stands r xs [] d
     all_so r (c ∷ cs) xs at k f d =
         let one = takes_so r c xs at k.0 ((λ z. f.0 (inl z)), λ z. f.1 (inl z)) d in
@@ -260,6 +260,6 @@ module _ (oid low until : ℕ) where
         subst At (append_assoc xs (takes r c).answers (takes_all (takes r c).rig cs).answers) next
 
     -- over a turn
-    pub turn_so : (r : Rig) (cs : List Cmd) → r.controller.tick ≡ now → AreBehind oid clock cs → Fits (RelaysOne cs) (SetsOne cs) → (s : Slot) → slot_at r oid ≡ Some s → Keen low r.pins s
+    pub turn_so : (r : Rig) (cs : List Cmd) → r.controller.tick ≡ now → AreSentBehind oid clock cs → Fits (RelaysOne cs) (SetsOne cs) → (s : Slot) → slot_at r oid ≡ Some s → Keen low r.pins s
         → Stands (passes (takes_all r cs).rig until).rig ((takes_all r cs).answers ++ (passes (takes_all r cs).rig until).answers)
     turn_so r cs at k f s there keen = passes_so (takes_all r cs).rig (takes_all r cs).answers (all_so r cs [] at k f (record { slot = s; is = there; so = inl keen }))

@@ -21,7 +21,7 @@ use Rattle.laws_homing.proofs.home_runs.Guarding.{Next, fired_next, passes_next,
 use Rattle.laws_homing.proofs.home_runs.Saying.{EachCalm, all_next}
 use Rattle.laws_homing.specs.clear_boards.Held.{AllTellOnly}
 use Rattle.laws_homing.specs.clear_boards.Limited.{AllFired, IsLimited, IsRenewing, limit_by, limit_of}
-use Rattle.laws_homing.specs.clear_boards.Turned.{AreBehind, IsBehind, IsTurnedTo, Relays, RelaysOne, Sets, SetsNone, SetsOne}
+use Rattle.laws_homing.specs.clear_boards.Turned.{AreSentBehind, IsSentBehind, IsTurnedTo, Relays, RelaysOne, SetsTimeout, SetsNone, SetsOne}
 use Rattle.laws_homing.proofs.clear_boards.Held.{all_both, others_tell}
 use Rattle.laws_homing.proofs.home_runs.Saying.{shut_other}
 use Rattle.laws_homing.proofs.clear_boards.Limited.{pass_limited, takes_limited}
@@ -37,7 +37,7 @@ pub ran : (r : Rig) (cs : List Cmd) → (takes_all r cs).rig.controller.state �
 ran r cs runs = ran_by r.controller.state r cs refl runs
 
 -- such a command renews the timeout
-renews : (oid clock : ℕ) (r : Rig) (c : Cmd) → ((r.controller.tick < nearest r.controller.tick clock) ⊎ AllFired r) → IsBehind oid clock c → IsRenewing oid r c
+renews : (oid clock : ℕ) (r : Rig) (c : Cmd) → ((r.controller.tick < nearest r.controller.tick clock) ⊎ AllFired r) → IsSentBehind oid clock c → IsRenewing oid r c
 renews oid clock r (cmd.TrsyncSetTimeout other at) ahead k =
     let At : ℕ → Type 0 = λ n. (r.controller.tick < nearest r.controller.tick n) ⊎ AllFired r in
     (k.0, subst At (sym k.1) ahead)
@@ -50,7 +50,7 @@ renews oid clock r (cmd.EndstopHome other at sample count rest value trigger rea
 renews oid clock r c ahead k = tt
 
 -- the timeout behind it
-limit_step : (oid clock now limit next : ℕ) (c : Cmd) (cs : List Cmd) → IsBehind oid clock c → nearest now clock ≡ next → (limit ≡ next) ⊎ SetsOne (c ∷ cs) → (limit_by now limit c ≡ next) ⊎ SetsOne cs
+limit_step : (oid clock now limit next : ℕ) (c : Cmd) (cs : List Cmd) → IsSentBehind oid clock c → nearest now clock ≡ next → (limit ≡ next) ⊎ SetsOne (c ∷ cs) → (limit_by now limit c ≡ next) ⊎ SetsOne cs
 limit_step oid clock now limit next (cmd.TrsyncSetTimeout other at) cs k is some = inl (ap (nearest now) k.1 ∙ is)
 limit_step oid clock now limit next c cs k is (inl same) = inl same
 limit_step oid clock now limit next c cs k is (inr (inl sets)) = absurd sets
@@ -80,21 +80,21 @@ abbrev pub above : List Cmd → ℕ
 above [] = 0
 above (c ∷ cs) = suc (above_one c) + above cs
 
-pub calm_one : (i oid clock : ℕ) (c : Cmd) → above_one c < i → IsBehind oid clock c → IsCalm i oid c
+pub calm_one : (i oid clock : ℕ) (c : Cmd) → above_one c < i → IsSentBehind oid clock c → IsCalm i oid c
 calm_one i oid clock (cmd.ResetStepClock other at) less k = λ e. omega (arith, e, less)
 calm_one i oid clock (cmd.ConfigTrsync other) less k = absurd k
 calm_one i oid clock (cmd.TrsyncStart other at every reason) less k = absurd k
 calm_one i oid clock c less k = tt
 
-pub calm_all : (i oid clock : ℕ) (cs : List Cmd) → above cs ≤ i → AreBehind oid clock cs → EachCalm i oid cs
+pub calm_all : (i oid clock : ℕ) (cs : List Cmd) → above cs ≤ i → AreSentBehind oid clock cs → EachCalm i oid cs
 calm_all i oid clock [] less k = tt
 calm_all i oid clock (c ∷ cs) less k = (calm_one i oid clock c (omega (arith, less)) k.0, calm_all i oid clock cs (omega (arith, less)) k.1)
 
-pub next_all : (oid clock : ℕ) (r : Rig) (cs : List Cmd) → AreBehind oid clock cs → Next (above cs) oid r (takes_all r cs).rig
+pub next_all : (oid clock : ℕ) (r : Rig) (cs : List Cmd) → AreSentBehind oid clock cs → Next (above cs) oid r (takes_all r cs).rig
 next_all oid clock r cs k = all_next (above cs) oid r cs (calm_all (above cs) oid clock cs (omega arith) k)
 
 -- what a board takes in a turn
-pub takes_turned : (oid tick limit next clock now : ℕ) (r : Rig) (cs : List Cmd) → r.controller.tick ≡ now → nearest now clock ≡ next → now < next → (takes_all r cs).rig.controller.state ≡ Running → AreBehind oid clock cs → (limit ≡ next) ⊎ SetsOne cs
+pub takes_turned : (oid tick limit next clock now : ℕ) (r : Rig) (cs : List Cmd) → r.controller.tick ≡ now → nearest now clock ≡ next → now < next → (takes_all r cs).rig.controller.state ≡ Running → AreSentBehind oid clock cs → (limit ≡ next) ⊎ SetsOne cs
     → IsLimited oid tick limit r → IsLimited oid tick next (takes_all r cs).rig × AllTellOnly tick (takes_all r cs).answers
 takes_turned oid tick limit next clock now r [] at is ahead runs k (inl same) limited = (subst (λ (n : ℕ). IsLimited oid tick n r) same limited, tt)
 takes_turned oid tick limit next clock now r [] at is ahead runs k (inr none) limited = absurd none
@@ -105,7 +105,7 @@ takes_turned oid tick limit next clock now r (c ∷ cs) at is ahead runs k some 
     let rest = takes_turned oid tick (limit_by r.controller.tick limit c) next clock now (takes r c).rig cs (takes_rig_tick r c ∙ at) is ahead runs k.1 behind one.0 in
     (rest.0, all_both tick (takes r c).answers (takes_all (takes r c).rig cs).answers one.1 rest.1)
 
-takes_fired : (oid tick limit next clock : ℕ) (r : Rig) (cs : List Cmd) → (takes_all r cs).rig.controller.state ≡ Running → AreBehind oid clock cs → HasFired oid r → IsLimited oid tick limit r
+takes_fired : (oid tick limit next clock : ℕ) (r : Rig) (cs : List Cmd) → (takes_all r cs).rig.controller.state ≡ Running → AreSentBehind oid clock cs → HasFired oid r → IsLimited oid tick limit r
     → IsLimited oid tick next (takes_all r cs).rig × AllTellOnly tick (takes_all r cs).answers
 takes_fired oid tick limit next clock r [] runs k fired limited = (any_limit oid tick limit next r (all_fired oid r limited.sole fired) limited, tt)
 takes_fired oid tick limit next clock r (c ∷ cs) runs k fired limited =
@@ -135,12 +135,12 @@ runs_on oid tick limit until r cs far k =
     }
 
 -- a turn of a board whose timeout is ahead, or that can't trigger
-pub turn_ahead : (oid tick limit next clock now until : ℕ) (r : Rig) (cs : List Cmd) → r.controller.tick ≡ now → nearest now clock ≡ next → now < next → (takes_all r cs).rig.controller.state ≡ Running → AreBehind oid clock cs → (limit ≡ next) ⊎ SetsOne cs
+pub turn_ahead : (oid tick limit next clock now until : ℕ) (r : Rig) (cs : List Cmd) → r.controller.tick ≡ now → nearest now clock ≡ next → now < next → (takes_all r cs).rig.controller.state ≡ Running → AreSentBehind oid clock cs → (limit ≡ next) ⊎ SetsOne cs
     → ((until ≤ next) ⊎ (next ≡ tick)) → IsLimited oid tick limit r → IsTurnedTo oid tick next until r cs
 turn_ahead oid tick limit next clock now until r cs at is ahead runs k some far limited =
     runs_on oid tick next until r cs (elim far [ inl l ↦ inl l | inr l ↦ inr (inl l) ]) (takes_turned oid tick limit next clock now r cs at is ahead runs k some limited)
 
-pub turn_fired : (oid tick limit next clock until : ℕ) (r : Rig) (cs : List Cmd) → (takes_all r cs).rig.controller.state ≡ Running → AreBehind oid clock cs → HasFired oid r → IsLimited oid tick limit r
+pub turn_fired : (oid tick limit next clock until : ℕ) (r : Rig) (cs : List Cmd) → (takes_all r cs).rig.controller.state ≡ Running → AreSentBehind oid clock cs → HasFired oid r → IsLimited oid tick limit r
     → IsTurnedTo oid tick next until r cs
 turn_fired oid tick limit next clock until r cs runs k fired limited =
     let taken = takes_fired oid tick limit next clock r cs runs k fired limited in
@@ -148,7 +148,7 @@ turn_fired oid tick limit next clock until r cs runs k fired limited =
     runs_on oid tick next until r cs (inr (inr (all_fired oid (takes_all r cs).rig taken.0.sole still))) taken
 
 -- a board that can't trigger stays so, and a relay makes it so
-pub stays_fired : (oid clock until : ℕ) (r : Rig) (cs : List Cmd) → AreBehind oid clock cs → HasFired oid r → HasFired oid (passes (takes_all r cs).rig until).rig
+pub stays_fired : (oid clock until : ℕ) (r : Rig) (cs : List Cmd) → AreSentBehind oid clock cs → HasFired oid r → HasFired oid (passes (takes_all r cs).rig until).rig
 stays_fired oid clock until r cs k fired =
     let q = (takes_all r cs).rig in
     fired_next (above cs) oid q (passes q until).rig (passes_next (above cs) oid q until) (fired_next (above cs) oid r q (next_all oid clock r cs k) fired)
@@ -167,13 +167,13 @@ relay_now oid reason r s there runs =
     let Runs : BoardState → Type 0 = λ o. HasFired oid (acts_running o r (cmd.TrsyncTrigger oid reason)).rig in
     subst Runs (sym runs) (subst At (sym there) fires)
 
-relay_takes : (oid clock : ℕ) (r : Rig) (cs : List Cmd) (s : Slot) → slot_at r oid ≡ Some s → (takes_all r cs).rig.controller.state ≡ Running → AreBehind oid clock cs → RelaysOne cs → HasFired oid (takes_all r cs).rig
+relay_takes : (oid clock : ℕ) (r : Rig) (cs : List Cmd) (s : Slot) → slot_at r oid ≡ Some s → (takes_all r cs).rig.controller.state ≡ Running → AreSentBehind oid clock cs → RelaysOne cs → HasFired oid (takes_all r cs).rig
 relay_takes oid clock r [] s there runs k none = absurd none
 relay_takes oid clock r (c ∷ cs) s there runs k (inl now) =
     let q = (takes r c).rig in
     fired_next (above cs) oid q (takes_all q cs).rig (next_all oid clock q cs k.1) (by c k.0 now)
   where
-    by : (c : Cmd) → IsBehind oid clock c → Relays c → HasFired oid (takes r c).rig
+    by : (c : Cmd) → IsSentBehind oid clock c → Relays c → HasFired oid (takes r c).rig
     by (cmd.TrsyncTrigger other reason) b n =
         let At : ℕ → Type 0 = λ i. HasFired oid (takes r (cmd.TrsyncTrigger i reason)).rig in
         subst At (sym b.0) (relay_now oid reason r s there (ran r (c ∷ cs) runs))
@@ -183,13 +183,13 @@ relay_takes oid clock r (c ∷ cs) s there runs k (inr later) =
     let x = (takes_next i oid r c (calm_one i oid clock c (omega arith) k.0)).slots s there in
     relay_takes oid clock (takes r c).rig cs x.slot x.is runs k.1 later
 
-pub relay_fires : (oid clock until : ℕ) (r : Rig) (cs : List Cmd) (s : Slot) → slot_at r oid ≡ Some s → (takes_all r cs).rig.controller.state ≡ Running → AreBehind oid clock cs → RelaysOne cs → HasFired oid (passes (takes_all r cs).rig until).rig
+pub relay_fires : (oid clock until : ℕ) (r : Rig) (cs : List Cmd) (s : Slot) → slot_at r oid ≡ Some s → (takes_all r cs).rig.controller.state ≡ Running → AreSentBehind oid clock cs → RelaysOne cs → HasFired oid (passes (takes_all r cs).rig until).rig
 relay_fires oid clock until r cs s there runs k relays =
     let q = (takes_all r cs).rig in
     fired_next (above cs) oid q (passes q until).rig (passes_next (above cs) oid q until) (relay_takes oid clock r cs s there runs k relays)
 
 -- a turn of a board that is sent no timeout
-renews_none : (oid clock : ℕ) (r : Rig) (c : Cmd) → IsBehind oid clock c → (Sets c → ⊥) → IsRenewing oid r c
+renews_none : (oid clock : ℕ) (r : Rig) (c : Cmd) → IsSentBehind oid clock c → (SetsTimeout c → ⊥) → IsRenewing oid r c
 renews_none oid clock r (cmd.TrsyncSetTimeout other at) k none = absurd (none tt)
 renews_none oid clock r (cmd.TrsyncTrigger other reason) k none = λ two. (let three = k.1 in absurd (omega (arith, two, three)))
 renews_none oid clock r (cmd.ConfigTrsync other) k none = absurd k
@@ -199,11 +199,11 @@ renews_none oid clock r (cmd.ConfigEndstop other pin pull) k none = absurd k
 renews_none oid clock r (cmd.EndstopHome other at sample count rest value trigger reason) k none = absurd k
 renews_none oid clock r c k none = tt
 
-same_limit : (now limit : ℕ) (c : Cmd) → (Sets c → ⊥) → limit_by now limit c ≡ limit
+same_limit : (now limit : ℕ) (c : Cmd) → (SetsTimeout c → ⊥) → limit_by now limit c ≡ limit
 same_limit now limit (cmd.TrsyncSetTimeout other at) none = absurd (none tt)
 same_limit now limit c none = refl
 
-takes_none : (oid tick limit clock : ℕ) (r : Rig) (cs : List Cmd) → (takes_all r cs).rig.controller.state ≡ Running → AreBehind oid clock cs → SetsNone cs → IsLimited oid tick limit r
+takes_none : (oid tick limit clock : ℕ) (r : Rig) (cs : List Cmd) → (takes_all r cs).rig.controller.state ≡ Running → AreSentBehind oid clock cs → SetsNone cs → IsLimited oid tick limit r
     → IsLimited oid tick limit (takes_all r cs).rig × AllTellOnly tick (takes_all r cs).answers
 takes_none oid tick limit clock r [] runs k none limited = (limited, tt)
 takes_none oid tick limit clock r (c ∷ cs) runs k none limited =
@@ -212,6 +212,6 @@ takes_none oid tick limit clock r (c ∷ cs) runs k none limited =
     let rest = takes_none oid tick limit clock (takes r c).rig cs runs k.1 none.1 same in
     (rest.0, all_both tick (takes r c).answers (takes_all (takes r c).rig cs).answers one.1 rest.1)
 
-pub turn_far : (oid tick limit clock until : ℕ) (r : Rig) (cs : List Cmd) → (takes_all r cs).rig.controller.state ≡ Running → AreBehind oid clock cs → SetsNone cs → ((until ≤ limit) ⊎ (limit ≡ tick)) → IsLimited oid tick limit r
+pub turn_far : (oid tick limit clock until : ℕ) (r : Rig) (cs : List Cmd) → (takes_all r cs).rig.controller.state ≡ Running → AreSentBehind oid clock cs → SetsNone cs → ((until ≤ limit) ⊎ (limit ≡ tick)) → IsLimited oid tick limit r
     → IsTurnedTo oid tick limit until r cs
 turn_far oid tick limit clock until r cs runs k none far limited = runs_on oid tick limit until r cs (elim far [ inl l ↦ inl l | inr l ↦ inr (inl l) ]) (takes_none oid tick limit clock r cs runs k none limited)

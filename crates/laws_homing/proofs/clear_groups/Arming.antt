@@ -8,7 +8,7 @@ use Rattle.board_sim.proofs.Bound.{one_slot}
 use Rattle.board_sim.proofs.Sound.{sound_regular}
 use Rattle.laws_homing.specs.clear_boards.Alive.{IsAlive, IsSwitched, StaysAlive}
 use Rattle.laws_homing.specs.clear_boards.Firing.{AllSmall, HasSmall}
-use Rattle.laws_homing.specs.clear_boards.Held.{IsHeld}
+use Rattle.laws_homing.specs.clear_boards.Held.{IsTriggerHeld}
 use Rattle.laws_homing.specs.clear_boards.Limited.{IsLimited, limit_of}
 use Rattle.laws_homing.proofs.clear_boards.Alive.{turn_alive}
 use Rattle.laws_homing.proofs.clear_boards.Turned.{turn_ahead}
@@ -25,12 +25,12 @@ module _ (oid base every limit : ℕ) where
   armed_limited r h tick =
       let k = h.so in
       let p = k.prepared in
-      let held : IsHeld tick h.slot =
+      let held : IsTriggerHeld tick h.slot =
       record { told = p.told; moves = p.moves; other = λ y is. (p.sampled y is).1; expiry = λ none two. absurd (let bad : true ≡ false = sym k.can ∙ none in cc) } in
       let timed : h.slot.trigger.timeout ≡ limit_of h.slot.trigger.can limit = k.timed ∙ ap (λ (b : Bool). limit_of b limit) (sym k.can) in
       record {
         sole = h.sole;
-        held = λ i s at. subst (IsHeld tick) (same_slot r h i s at) held;
+        held = λ i s at. subst (IsTriggerHeld tick) (same_slot r h i s at) held;
         limited = λ i s at. subst (λ (x : Slot). x.trigger.timeout ≡ limit_of x.trigger.can limit) (same_slot r h i s at) timed;
       }
 

@@ -29,7 +29,7 @@ use Rattle.trigger_group.specs.declared.round.Phase.{Phase as GroupPhase}
 use Rattle.trigger_group.specs.declared.round.Phase.TheVariants.{Sends}
 use Rattle.trigger_group.specs.declared.round.Round.TheVariants.{Homes, Starts}
 use Rattle.trigger_group.specs.declared.seen.Seen.{Seen}
-use Rattle.trigger_group.specs.Group.{GroupState, after_in, first_timeout, orders, orders_in as ordered_in, phase, round_of, unseen}
+use Rattle.trigger_group.specs.Group.{GroupState, after_in, first_timeout, orders, orders_of_group as ordered_in, phase, round_of, unseen}
 use Rattle.axis_homing.specs.declared.homing.Homing.{Homing}
 use Rattle.axis_homing.specs.Homing.{answer_in, commands_to, hears_all, hears_news, hears_state, hears_states, low}
 use Rattle.axis_homing.specs.Rising.{members_of}
@@ -42,7 +42,7 @@ use Rattle.laws_homing.specs.clear_boards.Clocking.{IsAhead}
 use Rattle.laws_homing.specs.clear_boards.Hearing.{HeardBy, NoneOn}
 use Rattle.laws_homing.specs.clear_boards.Lately.{NearOn}
 use Rattle.laws_homing.specs.clear_boards.Ordered.{IsOrdered}
-use Rattle.laws_homing.specs.clear_boards.Turned.{AreBehind}
+use Rattle.laws_homing.specs.clear_boards.Turned.{AreSentBehind}
 use Rattle.laws_homing.proofs.clear_boards.Clocking.{line_ahead, timeout_ahead}
 use Rattle.laws_homing.proofs.clear_boards.Member.{all_sound}
 use Rattle.laws_homing.proofs.clear_boards.Ordered.{turn_ordered}
@@ -151,7 +151,7 @@ module _ (m : Machine) (b : ℕ) (pins : List (List Level)) (entries : List Entr
       let ends = f.ends in
       timeout_ahead own lines ready (length before) timeout f.ticks f.tracked low_so (omega (arith, most, close, reach, ends)) more (omega (arith, close, near)) (f.rises (length before)) in_range
 
-  armed_after : (A tail : List Cmd) → Commands ≡ A ++ tail → ((clock : ℕ) → AreBehind (trigger_of m b) clock tail) → RelayNone tail → ((takes_all Start A).rig.controller.state ≡ Running → Armed (takes_all Start A).rig) → Armed (passes Taken (own (length before + 1))).rig
+  armed_after : (A tail : List Cmd) → Commands ≡ A ++ tail → ((clock : ℕ) → AreSentBehind (trigger_of m b) clock tail) → RelayNone tail → ((takes_all Start A).rig.controller.state ≡ Running → Armed (takes_all Start A).rig) → Armed (passes Taken (own (length before + 1))).rig
   armed_after A tail e behind calm mid =
       let ends = f.ends in
       let order = f.goes in

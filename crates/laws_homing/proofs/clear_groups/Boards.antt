@@ -41,7 +41,7 @@ use Rattle.laws_homing.specs.clear_boards.Held.{AllTellOnly, TellsOnly}
 use Rattle.laws_homing.specs.clear_boards.Lately.{IsHeardOf}
 use Rattle.laws_homing.specs.clear_boards.Limited.{IsLimited}
 use Rattle.laws_homing.specs.clear_boards.Member.{IsMember}
-use Rattle.laws_homing.specs.clear_boards.Turned.{AreBehind, IsTurnedTo, RelaysOne, SetsNone, SetsOne}
+use Rattle.laws_homing.specs.clear_boards.Turned.{AreSentBehind, IsTurnedTo, RelaysOne, SetsNone, SetsOne}
 use Rattle.laws_homing.proofs.clear_boards.Alive.{all_left_of, with_timeout}
 use Rattle.laws_homing.proofs.clear_boards.Bridging.{turn_is}
 use Rattle.laws_homing.proofs.clear_boards.Clocking.{line_ahead, lines_up, report_counts, timeout_ahead}
@@ -52,7 +52,7 @@ use Rattle.laws_homing.proofs.clear_boards.Small.{turn_small}
 use Rattle.laws_homing.proofs.clear_boards.Standing.{runs_rested, sound_at, tick_is}
 use Rattle.laws_homing.proofs.clear_boards.Stepping.{goes_on}
 use Rattle.laws_homing.proofs.clear_boards.Turned.{next_all, relay_fires, stays_fired, turn_ahead, turn_far, turn_fired}
-use Rattle.laws_homing.specs.clear_groups.Early.{AllDue, HeardUntil, IsDue}
+use Rattle.laws_homing.specs.clear_groups.Early.{AllDue, HeardUntil, IsReportDue}
 use Rattle.laws_homing.specs.clear_groups.Safe.{IsLast, IsRenewed, IsWatched}
 use Rattle.laws_homing.specs.clear_groups.Sections.{IsAlike, IsFollowed, report_ticks}
 use Rattle.laws_homing.proofs.clear_groups.Alike.{followed_alike, tracked_alike, turn_alike}
@@ -131,7 +131,7 @@ module _ (m : Machine) (b : ℕ) (pins : List (List Level)) (entries : List Entr
   sound : AllSound Start
   sound = sound_at (board_at m b) pins b entries before are.1
 
-  numbered : (clock : ℕ) → AreBehind Oid clock Commands → IsSole Oid Start → AreNumbered Answers
+  numbered : (clock : ℕ) → AreSentBehind Oid clock Commands → IsSole Oid Start → AreNumbered Answers
   numbered clock behind sole =
       let next = next_all Oid clock Start Commands behind in
       let places = next.places in
@@ -141,12 +141,12 @@ module _ (m : Machine) (b : ℕ) (pins : List (List Level)) (entries : List Entr
   abbrev pub TellsNone : Type 0
   TellsNone = (known : Clocks) (when : ℕ) → TellExpiry known (length before) when t.state.news → ⊥
 
-  never : (clock limit : ℕ) → AreBehind Oid clock Commands → AllSmall Start → IsSole Oid Start → ((tick : ℕ) → IsTurnedTo Oid tick limit (own (length before + 1)) Start Commands) → TellsNone
+  never : (clock limit : ℕ) → AreSentBehind Oid clock Commands → AllSmall Start → IsSole Oid Start → ((tick : ℕ) → IsTurnedTo Oid tick limit (own (length before + 1)) Start Commands) → TellsNone
   never clock limit behind small sole turned = λ known when tells.
       no_expiry (board_at m b) pins b entries t before rests are known when (turned 0).tells (turned 1).tells (turn_small Oid clock (own (length before + 1)) Start Commands behind small).1 (numbered clock behind sole) tells
 
   -- a board that can't trigger
-  pub fired_step : (lines : Clocks) (clock sent next : ℕ) → AreBehind Oid clock Commands → AllSmall Start → IsRenewed Oid lines sent Start → HasFired Oid Start
+  pub fired_step : (lines : Clocks) (clock sent next : ℕ) → AreSentBehind Oid clock Commands → AllSmall Start → IsRenewed Oid lines sent Start → HasFired Oid Start
       → AllSmall After × IsRenewed Oid lines next After × HasFired Oid After × TellsNone
   fired_step lines clock sent next behind small renewed fired =
       let limit = lines_tick lines (next * turn_ns) in
@@ -165,7 +165,7 @@ module _ (m : Machine) (b : ℕ) (pins : List (List Level)) (entries : List Entr
 
   -- one that is sent a timeout in time, whatever else
   pub ahead_step : (lines : Clocks) (ready start last till sent next : ℕ) (f : IsFollowed m b lines ready start last till) → ready ≤ length before → length before + 276 ≤ till → length before + 2 ≤ next → next ≤ last + 1 → next ≤ length before + 276
-      → AreBehind Oid (low (turn_tick lines next)) Commands → (sent ≡ next) ⊎ SetsOne Commands → AllSmall Start → IsRenewed Oid lines sent Start
+      → AreSentBehind Oid (low (turn_tick lines next)) Commands → (sent ≡ next) ⊎ SetsOne Commands → AllSmall Start → IsRenewed Oid lines sent Start
       → AllSmall After × IsRenewed Oid lines next After × TellsNone
   ahead_step lines ready start last till sent next f low_so reach far most near behind sets small renewed =
       let clock = low (turn_tick lines next) in
@@ -182,11 +182,11 @@ module _ (m : Machine) (b : ℕ) (pins : List (List Level)) (entries : List Entr
       )
 
   -- a relay
-  pub relay_step : (clock : ℕ) (s : Slot) → slot_at Start Oid ≡ Some s → AreBehind Oid clock Commands → RelaysOne Commands → HasFired Oid After
+  pub relay_step : (clock : ℕ) (s : Slot) → slot_at Start Oid ≡ Some s → AreSentBehind Oid clock Commands → RelaysOne Commands → HasFired Oid After
   relay_step clock s there behind relays = relay_fires Oid clock (own (length before + 1)) Start Commands s there runs behind relays
 
   -- the reports of a board that can trigger
-  due_all : (lines : Clocks) (clock base every sent : ℕ) → own (length before) < nearest (own (length before)) clock → AreBehind Oid clock Commands → RelayNone Commands → IsRenewed Oid lines sent Start → IsAlive Oid base every (own (length before)) Start → AllDue (own (length before)) Taken
+  due_all : (lines : Clocks) (clock base every sent : ℕ) → own (length before) < nearest (own (length before)) clock → AreSentBehind Oid clock Commands → RelayNone Commands → IsRenewed Oid lines sent Start → IsAlive Oid base every (own (length before)) Start → AllDue (own (length before)) Taken
   due_all lines clock base every sent later behind relays renewed a =
       let told : a.slot.trigger.untold ≡ None = ((renewed 0).held Oid a.slot a.is).told in
       let left = all_left_of Oid clock (own (length before)) Start Commands a.slot runs a.is told at_tick later behind relays in
@@ -199,12 +199,12 @@ module _ (m : Machine) (b : ℕ) (pins : List (List Level)) (entries : List Entr
       let here : slot_at Taken Oid ≡ Some s = subst (λ (n : ℕ). slot_at Taken n ≡ Some s) (sole i s at) at in
       let same : u ≡ s = one_slot (slot_at Taken Oid) u s there here in
       let so = still i s at in
-      let k : IsDue (own (length before)) s =
+      let k : IsReportDue (own (length before)) s =
       record { told = so.told; moves = so.moves; due = λ x is. (let next : a.next ≡ x = same_next a.slot.trigger.report a.next x a.report (ap (λ (v : Slot). v.trigger.report) same ∙ is) in omega (arith, next, due)) } in
       k))
 
   -- what it told of its trigger counts by the next turn
-  able_now : (lines : Clocks) (clock base every sent ready start last till : ℕ) (f : IsFollowed m b lines ready start last till) → ready + 4 ≤ length before → length before + 276 ≤ till → length before + 1 ≤ last + 1 → own (length before) < nearest (own (length before)) clock → AreBehind Oid clock Commands → RelayNone Commands
+  able_now : (lines : Clocks) (clock base every sent ready start last till : ℕ) (f : IsFollowed m b lines ready start last till) → ready + 4 ≤ length before → length before + 276 ≤ till → length before + 1 ≤ last + 1 → own (length before) < nearest (own (length before)) clock → AreSentBehind Oid clock Commands → RelayNone Commands
       → AllSmall Start → IsRenewed Oid lines sent Start → IsAlive Oid base every (own (length before)) Start → AllAbleBy lines (length before) (length before + 1 + 249) t.state.news
   able_now lines clock base every sent ready start last till f low_so reach soon later behind relays small renewed a =
       let ends = f.ends in
@@ -224,7 +224,7 @@ module _ (m : Machine) (b : ℕ) (pins : List (List Level)) (entries : List Entr
   Watched lines start last next members =
       AllSmall After × IsRenewed Oid lines next After × IsWatched m lines b (length before + 1) start last next members After × TellsNone
 
-  known_step : (all : List Clocks) (states : List State) (h : Homing) (lines : Clocks) (clock sent next start last : ℕ) → AreBehind Oid clock Commands → AllSmall Start → IsRenewed Oid lines sent Start → HasFired Oid Start → FiredOn b last h.group.members
+  known_step : (all : List Clocks) (states : List State) (h : Homing) (lines : Clocks) (clock sent next start last : ℕ) → AreSentBehind Oid clock Commands → AllSmall Start → IsRenewed Oid lines sent Start → HasFired Oid Start → FiredOn b last h.group.members
       → Watched lines start last next (hears_all all states h).group.members
   known_step all states h lines clock sent next start last behind small renewed fired on =
       let x = fired_step lines clock sent next behind small renewed fired in
@@ -234,7 +234,7 @@ module _ (m : Machine) (b : ℕ) (pins : List (List Level)) (entries : List Entr
   pub watched_step : (all : List Clocks) (states : List State) (h : Homing) (lines : Clocks) (clock ready start last till sent : ℕ) (f : IsFollowed m b lines ready start last till) → IsAlike (length before + 277) (clocks_at all b) lines → b < length all → state_at b states ≡ t.state ∷ [] → h.start ≡ start
       → h.group.start ≡ start → h.group.last ≡ last → ready + 4 ≤ length before → length before + 276 ≤ till → start ≤ length before + 249 → length before + 2 ≤ h.group.sent → h.group.sent ≤ last + 1
       → (HeardUntil start b (length before + 249) h.group.members → sent ≤ length before + 274 → h.group.sent ≤ length before + 274)
-      → AreBehind Oid clock Commands → (h.group.sent ≤ length before + 274 → clock ≡ low (turn_tick lines h.group.sent)) → RelayNone Commands → (sent ≡ h.group.sent) ⊎ SetsOne Commands → AllSmall Start → IsRenewed Oid lines sent Start
+      → AreSentBehind Oid clock Commands → (h.group.sent ≤ length before + 274 → clock ≡ low (turn_tick lines h.group.sent)) → RelayNone Commands → (sent ≡ h.group.sent) ⊎ SetsOne Commands → AllSmall Start → IsRenewed Oid lines sent Start
       → IsWatched m lines b (length before) start last sent h.group.members Start → Watched lines start last h.group.sent (hears_all all states h).group.members
   watched_step all states h lines clock ready start last till sent f alike here is begins group_begins group_ends low_so reach far_start far most near behind_so clock_is relays sets small renewed (inr known) =
       known_step all states h lines clock sent h.group.sent start last behind_so small renewed known.0 known.1
@@ -256,8 +256,8 @@ module _ (m : Machine) (b : ℕ) (pins : List (List Level)) (entries : List Entr
         let next_low : next ≤ upto + 1 = omega (arith, soon, most) in
         let limit_is : lines_tick known (next * turn_ns) ≡ limit = alike.ticks next (omega (arith, soon)) in
         let by_known : IsRenewed Oid known sent Start = λ tick. subst (λ (n : ℕ). IsLimited Oid tick n Start) (sym (alike.ticks sent (omega (arith, sent_soon)))) (renewed tick) in
-        let behind : AreBehind Oid (low (turn_tick known next)) Commands =
-        subst (λ (n : ℕ). AreBehind Oid n Commands) (clock_is soon ∙ ap low (sym (turn_alike known lines (length before + 277) next alike (omega (arith, soon))))) behind_so in
+        let behind : AreSentBehind Oid (low (turn_tick known next)) Commands =
+        subst (λ (n : ℕ). AreSentBehind Oid n Commands) (clock_is soon ∙ ap low (sym (turn_alike known lines (length before + 277) next alike (omega (arith, soon))))) behind_so in
         let heard = subst (λ (n : ℕ). IsHeardOf own base every n b alive.0.next h.group.members) (sym group_begins) alive.1 in
         let on = goes_on (board_at m b) pins b entries t before rests are all states h Oid base every ready sent next k.ticks k.tracked here is (begins ∙ sym group_begins)
         (ap (λ (n : ℕ). lines_tick known (n * turn_ns)) begins ∙ alike.ticks start (omega (arith, far_start)))
@@ -315,7 +315,7 @@ module _ (m : Machine) (b : ℕ) (pins : List (List Level)) (entries : List Entr
   abbrev pub TellsLate : Clocks → ℕ → Type 0
   TellsLate lines last = (known : Clocks) → IsAlike (length before + 277) known lines → (when : ℕ) → TellExpiry known (length before) when t.state.news → last < when
 
-  late_by : (lines : Clocks) (clock ready start last till : ℕ) (f : IsFollowed m b lines ready start last till) → ready + 1 ≤ length before → length before + 276 ≤ till → lines_tick lines ((last + 1) * turn_ns) < own (length before + 1) → AreBehind Oid clock Commands → AllSmall Start → IsSole Oid Start
+  late_by : (lines : Clocks) (clock ready start last till : ℕ) (f : IsFollowed m b lines ready start last till) → ready + 1 ≤ length before → length before + 276 ≤ till → lines_tick lines ((last + 1) * turn_ns) < own (length before + 1) → AreSentBehind Oid clock Commands → AllSmall Start → IsSole Oid Start
       → AllTellOnly (lines_tick lines ((last + 1) * turn_ns)) Answers → TellsLate lines last
   late_by lines clock ready start last till f low_so reach past behind small sole only = λ known alike when tells. (
       let tick = lines_tick lines ((last + 1) * turn_ns) in
@@ -333,7 +333,7 @@ module _ (m : Machine) (b : ℕ) (pins : List (List Level)) (entries : List Entr
       (numbered clock behind sole) is (omega (arith, late, tick_is)) tells in
       omega (arith, low_when))
 
-  pub last_step : (lines : Clocks) (clock ready start last till : ℕ) (f : IsFollowed m b lines ready start last till) → ready + 1 ≤ length before → length before + 276 ≤ till → AreBehind Oid clock Commands → SetsNone Commands → AllSmall Start → IsLast m lines b (length before) last Start
+  pub last_step : (lines : Clocks) (clock ready start last till : ℕ) (f : IsFollowed m b lines ready start last till) → ready + 1 ≤ length before → length before + 276 ≤ till → AreSentBehind Oid clock Commands → SetsNone Commands → AllSmall Start → IsLast m lines b (length before) last Start
       → AllSmall After × IsLast m lines b (length before + 1) last After × TellsLate lines last
   last_step lines clock ready start last till f low_so reach behind unset small k =
       let tick = lines_tick lines ((last + 1) * turn_ns) in

@@ -10,11 +10,11 @@ use Rattle.board_trig.specs.Trigger as trig
 use Rattle.msg_code.specs.declared.cmd.Cmd.{Cmd}
 use Rattle.msg_code.specs.declared.cmd.Cmd.TheVariants as cmd
 use Rattle.board_sim.specs.Board.{takes as board_takes}
-use Rattle.board_sim.specs.Rig.{Passed, Rig, Slot, acts, acts_running, all_left, expires_at_once, pass, passes, set_timeout, slot_at, takes, takes_all, told, trigger}
+use Rattle.board_sim.specs.Rig.{Passed, Rig, Slot, acts, acts_running, all_left, expires_at_once, pass, passes, set_timeout, slot_at, takes, takes_all, trigger_answers, trigger}
 use Rattle.board_sim.specs.Turn.{says_shut}
 use Rattle.board_world.specs.World.{says, shut_before}
 use Rattle.laws_board.proofs.clocks.Answers.{Each}
-use Rattle.laws_homing.specs.clear_groups.Early.{AllDue, AreEarly, IsEarly}
+use Rattle.laws_homing.specs.clear_groups.Early.{AllDue, AreEarly, TellsBetween}
 use Rattle.laws_homing.proofs.clear_boards.Turned.{triggered_off}
 use Rattle.laws_homing.proofs.home_runs.Moments.{AllLate, IsMoment, LateAt, pass_says}
 use Rattle.laws_homing.proofs.home_runs.Saying.{IsOther, board_tells, shut_other}
@@ -23,7 +23,7 @@ all_both : (from until : ℕ) (xs ys : List Cmd) → AreEarly from until xs → 
 all_both from until [] ys k l = l
 all_both from until (x ∷ xs) ys k l = (k.0, all_both from until xs ys k.1 l)
 
-other_early : (from until : ℕ) (c : Cmd) → IsOther c → IsEarly from until c
+other_early : (from until : ℕ) (c : Cmd) → IsOther c → TellsBetween from until c
 other_early from until (cmd.TrsyncState oid can reason clock) o = absurd o
 other_early from until c o = tt
 
@@ -47,7 +47,7 @@ early_moments : (from until : ℕ) (P : ℕ → ℕ → Type 0) (cs : List Cmd)
 early_moments from until P [] k = tt
 early_moments from until P (c ∷ cs) k = (one c k.0, early_moments from until P cs k.1)
   where
-    one : (c : Cmd) → IsMoment (λ o x. (from ≤ x) × (x < until) × P o x) c → IsEarly from until c
+    one : (c : Cmd) → IsMoment (λ o x. (from ≤ x) × (x < until) × P o x) c → TellsBetween from until c
     one (cmd.TrsyncState oid can reason clock) m = λ able. let x = m able in (x.0, x.1.0, x.1.1, x.2)
     one c m = tt
 

@@ -26,7 +26,7 @@ use Rattle.laws_homing.proofs.home_runs.Grouped.{members_states}
 use Rattle.laws_homing.proofs.home_runs.Staging.{staged_after}
 use Rattle.trigger_group.specs.declared.order.Member.{Member}
 use Rattle.trigger_group.specs.declared.seen.Seen.{Seen}
-use Rattle.trigger_group.specs.Group.{GroupState, after, all_fired, any_fired_by, relay_begins}
+use Rattle.trigger_group.specs.Group.{GroupState, turned_group, all_fired, any_fired_by, relay_begins}
 use Rattle.trigger_group.proofs.Answering.{either, none_there}
 use Rattle.trigger_group.proofs.Knows.{after_last, after_members, after_start}
 use Rattle.axis_homing.specs.declared.homing.Homing.{Homing}
@@ -40,9 +40,9 @@ use Rattle.laws_homing.specs.clear_boards.Firing.{AllSmall}
 use Rattle.laws_homing.specs.clear_boards.Hearing.{FiredOn, NoneOn}
 use Rattle.laws_homing.specs.clear_boards.Lately.{NearOn}
 use Rattle.laws_homing.specs.clear_boards.Member.{IsMember as IsMemberAt, fired_at}
-use Rattle.laws_homing.specs.clear_boards.Modes.{AllOn, HeardLately, Hears, IsAheadIn, IsKnown, IsLive, IsTimed}
+use Rattle.laws_homing.specs.clear_boards.Modes.{AllOn, HeardLately, Hears, IsAheadIn, IsFiringKnown, IsLive, IsTimed}
 use Rattle.laws_homing.specs.clear_boards.Ordered.{IsOrdered}
-use Rattle.laws_homing.specs.clear_boards.Turned.{AreBehind, RelaysOne}
+use Rattle.laws_homing.specs.clear_boards.Turned.{AreSentBehind, RelaysOne}
 use Rattle.laws_homing.proofs.clear_boards.Keeping.{hears_keep}
 use Rattle.laws_homing.proofs.clear_boards.Lately.{lately_all}
 use Rattle.laws_homing.proofs.clear_boards.Leading.{fired_by_flag, leads_on}
@@ -51,7 +51,7 @@ use Rattle.laws_homing.proofs.clear_boards.Ordered.{turn_ordered}
 use Rattle.laws_homing.proofs.clear_boards.Sent.{sent_relays}
 use Rattle.laws_homing.proofs.clear_boards.Taking.{takes_rested}
 use Rattle.laws_homing.specs.clear_groups.Early.{HeardUntil}
-use Rattle.laws_homing.specs.clear_groups.Safe.{IsHeld, IsLast, IsRenewed, IsSafe, IsSafeIn, IsWatched}
+use Rattle.laws_homing.specs.clear_groups.Safe.{IsGroupHeld, IsLast, IsRenewed, IsSafe, IsSafeIn, IsWatched}
 use Rattle.laws_homing.specs.clear_boards.Rests.{RestsOver}
 use Rattle.laws_homing.specs.clear_groups.Sections.{IsAlike, IsRestingSection, IsFollowed, IsOnward, report_ticks, rig_at, turns_of}
 use Rattle.laws_homing.proofs.clear_groups.Alike.{turn_alike}
@@ -97,7 +97,7 @@ calm_early g turn low_so = ap (λ (b : Bool). b && (any_fired_by g.last g.member
 begins_so : (g : GroupState) (turn : ℕ) → g.start + 4 ≤ turn → any_fired_by g.last g.members ≡ true → relay_begins g turn ≡ true
 begins_so g turn low_so some = ap (λ (b : Bool). b && (any_fired_by g.last g.members || nat_le (g.last + 5) turn)) (le_is (g.start + 4) turn low_so) ∙ first_true (any_fired_by g.last g.members) (nat_le (g.last + 5) turn) some
 
-relay_of : (turn : ℕ) (g : GroupState) → IsLive turn g ⊎ IsKnown turn g → g.relay ≡ None
+relay_of : (turn : ℕ) (g : GroupState) → IsLive turn g ⊎ IsFiringKnown turn g → g.relay ≡ None
 relay_of turn g (inl live) = live.relay
 relay_of turn g (inr known) = known.relay
 
@@ -155,10 +155,10 @@ module _ (m : Machine) (switches : List Switch) (pins : ℕ → List (List Level
   pub next_of : (Next.start ≡ start) × (Next.group.start ≡ start) × (members_of Next.group ≡ members)
   next_of = of_known start members (noted m c.note (known_by m switches (d ∷ past))).homing Next (s.homes.0 (omega (arith, early))).1 next_known.0
 
-  pub hears : Hears (after G K) N
+  pub hears : Hears (turned_group G K) N
   hears = hears_keep All c.states Next
 
-  pub same_members : (after G K).members ≡ G.members
+  pub same_members : (turned_group G K).members ≡ G.members
   same_members = after_members G K
 
   pub are_members : members_of G ≡ members
@@ -216,10 +216,10 @@ module _ (m : Machine) (switches : List Switch) (pins : ℕ → List (List Level
     sent e = sent_from m Lines b h K G (Commands b) ordered (omega (arith, e, far)) (unended e)
 
     abbrev Clock : ℕ
-    Clock = low (turn_tick Lines (after G K).sent)
+    Clock = low (turn_tick Lines (turned_group G K).sent)
 
-    pub clock_is : (after G K).sent ≤ K + 274 → Clock ≡ low (turn_tick (lines b) (after G K).sent)
-    clock_is soon = ap low (turn_alike Lines (lines b) (K + 276) (after G K).sent alike (omega (arith, soon)))
+    pub clock_is : (turned_group G K).sent ≤ K + 274 → Clock ≡ low (turn_tick (lines b) (turned_group G K).sent)
+    clock_is soon = ap low (turn_alike Lines (lines b) (K + 276) (turned_group G K).sent alike (omega (arith, soon)))
 
     pub taken : Later b ≡ After m b (pins b) entries (j b) (turns_of b js) rests plain.run.turns_are plain.none_shut.0 few in_range
     taken = takes_rested (board_at m b) (pins b) b entries (j b) (turns_of b js) rests plain.run.turns_are
@@ -241,25 +241,25 @@ module _ (m : Machine) (switches : List Switch) (pins : ℕ → List (List Level
         (subst (λ (n : ℕ). IsLast m (lines b) b n last (Rigs b)) long k) in
         out (λ n r. AllSmall r × IsLast m (lines b) b (n + 1) last r × TellsLate b n) x
 
-    ahead_on : G.start ≡ start → K + 2 ≤ (after G K).sent → (after G K).sent ≤ last + 1 → (after G K).sent ≤ K + 274 → AllSmall (Rigs b) → IsRenewed (trigger_of m b) (lines b) G.sent (Rigs b)
-        → AllSmall (Later b) × IsRenewed (trigger_of m b) (lines b) (after G K).sent (Later b) × TellsLate b K
+    ahead_on : G.start ≡ start → K + 2 ≤ (turned_group G K).sent → (turned_group G K).sent ≤ last + 1 → (turned_group G K).sent ≤ K + 274 → AllSmall (Rigs b) → IsRenewed (trigger_of m b) (lines b) G.sent (Rigs b)
+        → AllSmall (Later b) × IsRenewed (trigger_of m b) (lines b) (turned_group G K).sent (Later b) × TellsLate b K
     ahead_on e next most near small renewed =
         let o = sent e in
-        let x = ahead_step m b (pins b) entries (j b) (turns_of b js) rests plain.run.turns_are plain.none_shut.0 few in_range (lines b) ready start last till G.sent (after G K).sent (followed b on) (omega (arith, low_so, long)) (omega (arith, reach, long)) (omega (arith, next, long)) most (omega (arith, near, long)) (subst (λ (n : ℕ). AreBehind (trigger_of m b) n (Commands b)) (clock_is near) o.behind)
+        let x = ahead_step m b (pins b) entries (j b) (turns_of b js) rests plain.run.turns_are plain.none_shut.0 few in_range (lines b) ready start last till G.sent (turned_group G K).sent (followed b on) (omega (arith, low_so, long)) (omega (arith, reach, long)) (omega (arith, next, long)) most (omega (arith, near, long)) (subst (λ (n : ℕ). AreSentBehind (trigger_of m b) n (Commands b)) (clock_is near) o.behind)
         (o.sets seen.0 seen.1 seen.2) small renewed in
-        out (λ n r. AllSmall r × IsRenewed (trigger_of m b) (lines b) (after G K).sent r × TellsLate b n) (x.0, x.1, λ known k when t. absurd (x.2 known when t))
+        out (λ n r. AllSmall r × IsRenewed (trigger_of m b) (lines b) (turned_group G K).sent r × TellsLate b n) (x.0, x.1, λ known k when t. absurd (x.2 known when t))
 
     pub relay_on : G.start ≡ start → (u : Slot) → slot_at (Rigs b) (trigger_of m b) ≡ Some u → RelaysOne (Commands b) → HasFired (trigger_of m b) (Later b)
     relay_on e u there relays =
         let x = relay_step m b (pins b) entries (j b) (turns_of b js) rests plain.run.turns_are plain.none_shut.0 few in_range Clock u there (sent e).behind relays in
         out (λ n r. HasFired (trigger_of m b) r) x
 
-    pub near_on : G.start ≡ start → HeardUntil start b (K + 249) G.members → G.sent ≤ K + 274 → (after G K).sent ≤ K + 274
+    pub near_on : G.start ≡ start → HeardUntil start b (K + 249) G.members → G.sent ≤ K + 274 → (turned_group G K).sent ≤ K + 274
     near_on e until soon = near_turn G b K seen.0 seen.1 seen.2 (omega (arith, e, far)) (unended e) (subst (λ (n : ℕ). HeardUntil n b (K + 249) G.members) (sym e) until) soon
 
-    watched_on : G.start ≡ start → G.last ≡ last → G.relay ≡ None → relay_begins G K ≡ false → K + 2 ≤ (after G K).sent → (after G K).sent ≤ last + 1 → AllSmall (Rigs b) → IsRenewed (trigger_of m b) (lines b) G.sent (Rigs b)
+    watched_on : G.start ≡ start → G.last ≡ last → G.relay ≡ None → relay_begins G K ≡ false → K + 2 ≤ (turned_group G K).sent → (turned_group G K).sent ≤ last + 1 → AllSmall (Rigs b) → IsRenewed (trigger_of m b) (lines b) G.sent (Rigs b)
         → IsWatched m (lines b) b K start last G.sent G.members (Rigs b)
-        → AllSmall (Later b) × IsRenewed (trigger_of m b) (lines b) (after G K).sent (Later b) × IsWatched m (lines b) b (K + 1) start last (after G K).sent N.members (Later b) × TellsLate b K
+        → AllSmall (Later b) × IsRenewed (trigger_of m b) (lines b) (turned_group G K).sent (Later b) × IsWatched m (lines b) b (K + 1) start last (turned_group G K).sent N.members (Later b) × TellsLate b K
     watched_on e f relay calm next most small renewed watched =
         let o = sent e in
         let turns = turns_of b js in
@@ -267,7 +267,7 @@ module _ (m : Machine) (switches : List Switch) (pins : ℕ → List (List Level
         let knows = s.knows.0 past_next Next next_known.0 next_of.0 b within in
         let same : length (d ∷ past) + 276 ≡ length turns + 277 = omega (arith, long) in
         let ends : Next.group.last ≡ last = after_last G K ∙ f in
-        let old : IsWatched m (lines b) b (length turns) start last G.sent (after G K).members (Rigs b) =
+        let old : IsWatched m (lines b) b (length turns) start last G.sent (turned_group G K).members (Rigs b) =
         subst (λ (xs : List Seen). IsWatched m (lines b) b (length turns) start last G.sent xs (Rigs b)) (sym same_members) (subst (λ (n : ℕ). IsWatched m (lines b) b n start last G.sent G.members (Rigs b)) long watched) in
         let x = watched_step m b (pins b) entries (j b) turns rests plain.run.turns_are plain.none_shut.0 few in_range All c.states Next (lines b) Clock ready start last till G.sent (followed b on) (subst (λ (n : ℕ). IsAlike n (clocks_at All b) (lines b)) same knows.1) knows.0 (s.states b on)
         next_of.0 next_of.1 ends (omega (arith, low_so, long)) (omega (arith, reach, long)) (omega (arith, far, long)) (omega (arith, next, long)) most
@@ -275,14 +275,14 @@ module _ (m : Machine) (switches : List Switch) (pins : ℕ → List (List Level
         let heard : HeardUntil start b (K + 249) G.members = subst (λ (n : ℕ). HeardUntil start b (n + 249) G.members) (sym long) (subst (λ (xs : List Seen). HeardUntil start b (length turns + 249) xs) same_members until) in
         let near = near_on e heard (omega (arith, soon, long)) in
         omega (arith, near, long))) o.behind (λ soon. clock_is (omega (arith, soon, long))) (o.none relay calm) (o.sets seen.0 seen.1 seen.2) small renewed old in
-        out (λ n r. AllSmall r × IsRenewed (trigger_of m b) (lines b) (after G K).sent r × IsWatched m (lines b) b (n + 1) start last (after G K).sent N.members r × TellsLate b n) (x.0, x.1, x.2, λ known k when t. absurd (x.3 known when t))
+        out (λ n r. AllSmall r × IsRenewed (trigger_of m b) (lines b) (turned_group G K).sent r × IsWatched m (lines b) b (n + 1) start last (turned_group G K).sent N.members r × TellsLate b n) (x.0, x.1, x.2, λ known k when t. absurd (x.3 known when t))
 
   -- the group behind the turn
   module _ (safe : IsSafe m lines start last members K G Rigs) where
-    pub grown : IsTimed (after G K) × (G.sent ≤ (after G K).sent)
+    pub grown : IsTimed (turned_group G K) × (G.sent ≤ (turned_group G K).sent)
     grown = (let e = safe.begins in timed_turn G K (omega (arith, e, far)) (unended safe.begins) safe.timed)
 
-    pub most : (after G K).sent ≤ last + 1
+    pub most : (turned_group G K).sent ≤ last + 1
     most = (let e = safe.ends in let f = after_last G K in let l = grown.0.most in omega (arith, e, f, l))
 
     begins_next : N.start ≡ start
@@ -300,21 +300,21 @@ module _ (m : Machine) (switches : List Switch) (pins : ℕ → List (List Level
         let e = hears.sent in
         record { first = omega (arith, first, a, b, e); most = omega (arith, end, b, e) }
 
-    sent_next : (b : ℕ) (r : Rig) → IsRenewed (trigger_of m b) (lines b) (after G K).sent r → IsRenewed (trigger_of m b) (lines b) N.sent r
+    sent_next : (b : ℕ) (r : Rig) → IsRenewed (trigger_of m b) (lines b) (turned_group G K).sent r → IsRenewed (trigger_of m b) (lines b) N.sent r
     sent_next b r k = subst (λ (n : ℕ). IsRenewed (trigger_of m b) (lines b) n r) (sym hears.sent) k
 
-    watched_next : (b : ℕ) (r : Rig) → IsWatched m (lines b) b (K + 1) start last (after G K).sent N.members r → IsWatched m (lines b) b (K + 1) start last N.sent N.members r
+    watched_next : (b : ℕ) (r : Rig) → IsWatched m (lines b) b (K + 1) start last (turned_group G K).sent N.members r → IsWatched m (lines b) b (K + 1) start last N.sent N.members r
     watched_next b r k = subst (λ (n : ℕ). IsWatched m (lines b) b (K + 1) start last n N.members r) (sym hears.sent) k
 
     abbrev Stepped : Type 0
     Stepped = IsSafe m lines start last members (K + 1) N Later × ((b : ℕ) → IsMember b members → TellsLate b K)
 
-    with_held : IsHeld m lines start last members (K + 1) N Later → ((b : ℕ) → IsMember b members → AllSmall (Later b)) → IsSafe m lines start last members (K + 1) N Later
+    with_held : IsGroupHeld m lines start last members (K + 1) N Later → ((b : ℕ) → IsMember b members → AllSmall (Later b)) → IsSafe m lines start last members (K + 1) N Later
     with_held held small = record { begins = begins_next; ends = ends_next; timed = timed_next; small = small; held = held }
 
     -- by how far it is ahead
     by_ahead : IsAheadIn (fired_at (λ b. trigger_of m b) Later) (K + 1) N → start ≤ K + 1
-        → ((b : ℕ) → IsMember b members → IsRenewed (trigger_of m b) (lines b) N.sent (Later b) × IsWatched m (lines b) b (K + 1) start last N.sent N.members (Later b)) → IsHeld m lines start last members (K + 1) N Later
+        → ((b : ℕ) → IsMember b members → IsRenewed (trigger_of m b) (lines b) N.sent (Later b) × IsWatched m (lines b) b (K + 1) start last N.sent N.members (Later b)) → IsGroupHeld m lines start last members (K + 1) N Later
     by_ahead (inl end) begun boards =
         let e : N.sent ≡ last + 1 = end ∙ ap (λ (n : ℕ). n + 1) ends_next in
         inl (e, λ b on. inl (subst (λ (n : ℕ). IsRenewed (trigger_of m b) (lines b) n (Later b)) e (boards b on).0))
@@ -326,9 +326,9 @@ module _ (m : Machine) (switches : List Switch) (pins : ℕ → List (List Level
 
     -- the boards that its group watches
     abbrev Watching : ℕ → Type 0
-    Watching b = AllSmall (Later b) × IsRenewed (trigger_of m b) (lines b) (after G K).sent (Later b) × IsWatched m (lines b) b (K + 1) start last (after G K).sent N.members (Later b) × TellsLate b K
+    Watching b = AllSmall (Later b) × IsRenewed (trigger_of m b) (lines b) (turned_group G K).sent (Later b) × IsWatched m (lines b) b (K + 1) start last (turned_group G K).sent N.members (Later b) × TellsLate b K
 
-    still : G.relay ≡ None → relay_begins G K ≡ false → K + 2 ≤ (after G K).sent
+    still : G.relay ≡ None → relay_begins G K ≡ false → K + 2 ≤ (turned_group G K).sent
         → ((b : ℕ) → IsMember b members → IsRenewed (trigger_of m b) (lines b) G.sent (Rigs b) × IsWatched m (lines b) b K start last G.sent G.members (Rigs b)) → (b : ℕ) → IsMember b members → Watching b
     still relay calm next boards b on = watched_on b on safe.begins safe.ends relay calm next most (safe.small b on) (boards b on).0 (boards b on).1
 
@@ -351,7 +351,7 @@ module _ (m : Machine) (switches : List Switch) (pins : ℕ → List (List Level
         let relay_next : N.relay ≡ None = hears.relay ∙ ap (λ (y : GroupState). y.relay) same ∙ relay in
         let begun = begins_next in
         let sent_is = hears.sent in
-        let held : IsHeld m lines start last members (K + 1) N Later = elim (leb_tells (K + 2) start) [
+        let held : IsGroupHeld m lines start last members (K + 1) N Later = elim (leb_tells (K + 2) start) [
           | inl p ↦ (let early_so = p.1 in inr (inr (relay_next, inl (omega (arith, early_so, begun), omega (arith, first, more, sent_is, begun, e)), next)))
           | inr p ↦
               let late_so = p.1 in
@@ -378,14 +378,14 @@ module _ (m : Machine) (switches : List Switch) (pins : ℕ → List (List Level
         let end = most in
         let e = safe.ends in
         let known = relay_known G K now (omega (arith, ahead, more, end, e)) in
-        let each : (b : ℕ) → IsMember b members → AllSmall (Later b) × IsRenewed (trigger_of m b) (lines b) (after G K).sent (Later b) × HasFired (trigger_of m b) (Later b) × TellsLate b K = (λ b on. by b on known (boards b on).0 (boards b on).1) in
+        let each : (b : ℕ) → IsMember b members → AllSmall (Later b) × IsRenewed (trigger_of m b) (lines b) (turned_group G K).sent (Later b) × HasFired (trigger_of m b) (Later b) × TellsLate b K = (λ b on. by b on known (boards b on).0 (boards b on).1) in
         (with_held (inr (inl (λ b on. (sent_next b (Later b) (each b on).1, (each b on).2)))) (λ b on. (each b on).0), λ b on. (each b on).3)
       where
-        off : (b : ℕ) (on : IsMember b members) → IsRenewed (trigger_of m b) (lines b) G.sent (Rigs b) → HasFired (trigger_of m b) (Rigs b) → AllSmall (Later b) × IsRenewed (trigger_of m b) (lines b) (after G K).sent (Later b) × HasFired (trigger_of m b) (Later b) × TellsLate b K
-        off b on renewed fired = fired_on b on safe.begins (safe.small b on) G.sent (after G K).sent renewed fired
+        off : (b : ℕ) (on : IsMember b members) → IsRenewed (trigger_of m b) (lines b) G.sent (Rigs b) → HasFired (trigger_of m b) (Rigs b) → AllSmall (Later b) × IsRenewed (trigger_of m b) (lines b) (turned_group G K).sent (Later b) × HasFired (trigger_of m b) (Later b) × TellsLate b K
+        off b on renewed fired = fired_on b on safe.begins (safe.small b on) G.sent (turned_group G K).sent renewed fired
 
         by : (b : ℕ) (on : IsMember b members) → (G.start + 4 ≤ K) × (any_fired_by G.last G.members ≡ true) → IsRenewed (trigger_of m b) (lines b) G.sent (Rigs b) → IsWatched m (lines b) b K start last G.sent G.members (Rigs b)
-            → AllSmall (Later b) × IsRenewed (trigger_of m b) (lines b) (after G K).sent (Later b) × HasFired (trigger_of m b) (Later b) × TellsLate b K
+            → AllSmall (Later b) × IsRenewed (trigger_of m b) (lines b) (turned_group G K).sent (Later b) × HasFired (trigger_of m b) (Later b) × TellsLate b K
         by b on known renewed (inr gone) = off b on renewed gone.0
         by b on known renewed (inl w) = elim w.0 [
           | inr gone ↦ off b on renewed gone.0
@@ -399,7 +399,7 @@ module _ (m : Machine) (switches : List Switch) (pins : ℕ → List (List Level
               (y.0, y.1, relay_on b on safe.begins alive.0.slot alive.0.is relay_it, y.2)
         ]
 
-    calms : G.start ≤ K → G.relay ≡ None → K + 3 ≤ G.sent → IsLive K G ⊎ IsKnown K G → relay_begins G K ≡ false
+    calms : G.start ≤ K → G.relay ≡ None → K + 3 ≤ G.sent → IsLive K G ⊎ IsFiringKnown K G → relay_begins G K ≡ false
         → ((b : ℕ) → IsMember b members → IsRenewed (trigger_of m b) (lines b) G.sent (Rigs b) × IsWatched m (lines b) b K start last G.sent G.members (Rigs b)) → Stepped
     calms begun relay ahead how calm boards =
         let more = grown.1 in
@@ -418,7 +418,7 @@ module _ (m : Machine) (switches : List Switch) (pins : ℕ → List (List Level
             let here : At start last = elim w [ inl x ↦ x.0 | inr x ↦ inr x ] in
             subst (λ (n : ℕ). At n N.last) (sym begins_next) (subst (λ (l : ℕ). At start l) (sym ends_next) here)
 
-    goes : G.start ≤ K → G.relay ≡ None → K + 3 ≤ G.sent → IsLive K G ⊎ IsKnown K G
+    goes : G.start ≤ K → G.relay ≡ None → K + 3 ≤ G.sent → IsLive K G ⊎ IsFiringKnown K G
         → ((b : ℕ) → IsMember b members → IsRenewed (trigger_of m b) (lines b) G.sent (Rigs b) × IsWatched m (lines b) b K start last G.sent G.members (Rigs b)) → Stepped
     goes begun relay ahead how boards = by (relay_begins G K) refl
       where
@@ -429,7 +429,7 @@ module _ (m : Machine) (switches : List Switch) (pins : ℕ → List (List Level
     pub step : Stepped
     step = by safe.held
       where
-        by : IsHeld m lines start last members K G Rigs → Stepped
+        by : IsGroupHeld m lines start last members K G Rigs → Stepped
         by (inl k) =
             let e = safe.ends in
             let end = k.0 in

@@ -10,7 +10,7 @@ use Rattle.trigger_group.specs.declared.order.Member.{Member}
 use Rattle.trigger_group.specs.declared.round.Phase.{Phase as GroupPhase}
 use Rattle.trigger_group.specs.declared.round.Phase.TheVariants.{Rests}
 use Rattle.trigger_group.specs.declared.seen.Seen.{Seen}
-use Rattle.trigger_group.specs.Group.{GroupState, after, after_in, all_fired, answer, ended, orders, orders_in, phase}
+use Rattle.trigger_group.specs.Group.{GroupState, turned_group, after_in, all_fired, answer, ended, orders, orders_of_group, phase}
 use Rattle.trigger_group.proofs.Answering.{first_there, none_there, there_more, either}
 use Rattle.axis_homing.specs.declared.homing.Homing.{Homing}
 use Rattle.axis_homing.specs.Homing.{answer_in, goes_on_homing, hears_all, homing_after}
@@ -18,7 +18,7 @@ use Rattle.axis_homing.specs.Rising.{members_of}
 use Rattle.host_reactor.specs.declared.ordered.Phase.TheVariants.{Connecting}
 use Rattle.host_reactor.specs.Notes.{news_of, noted}
 use Rattle.host_reactor.specs.Reactor.{Reacted}
-use Rattle.host_reactor.specs.Runs.{Came, GoesOn, known_by, last_turn}
+use Rattle.host_reactor.specs.Runs.{Came, GoesOn, known_by, last_reacted}
 use Rattle.host_reactor.proofs.Resting.{picked}
 use Rattle.laws_board.proofs.clocks.Lines.{noted_phase}
 use Rattle.laws_board.proofs.clocks.Turning.{goes}
@@ -29,7 +29,7 @@ use Rattle.laws_homing.proofs.home_runs.Knowing.{noted_none, running_now}
 
 -- the section behind a turn
 abbrev pub behind_turn : Homing → ℕ → Homing
-behind_turn h k = record h { group = after h.group k }
+behind_turn h k = record h { group = turned_group h.group k }
 
 by_answer : (k start : ℕ) (ms : List Member) (h : Homing) (o : Option End) → IsOf start ms (goes_on_homing k h o) → (goes_on_homing k h o ≡ Some (behind_turn h k)) × (o ≡ None)
 by_answer k start ms h None of = (refl, refl)
@@ -43,7 +43,7 @@ homing_next m switches from start ms c d past h homes none on early is =
     let known = known_by m switches past in
     let now = noted m d.note known in
     let k = length past in
-    let x = last_turn m switches d past in
+    let x = last_reacted m switches d past in
     let first = homes.1.0 early in
     let past_it : now.phase ≡ Connecting → ⊥ = λ e. first.0 (sym (noted_phase m d.note known) ∙ e) in
     let g = running_now m now k d.states x (goes m switches known k d.states d.note on.0) past_it in
@@ -88,9 +88,9 @@ phase_waits start last turn low far =
     ∙ picked (start - turn == 0) _ _ (grind (arith, nat_tests))
 
 pub none_waits : (g : GroupState) (turn : ℕ) → turn < g.start → g.start ≤ turn + 249 → orders g turn ≡ []
-none_waits g turn low far = ap (λ (p : GroupPhase). orders_in p g turn) (phase_waits g.start g.last turn low far)
+none_waits g turn low far = ap (λ (p : GroupPhase). orders_of_group p g turn) (phase_waits g.start g.last turn low far)
 
-pub group_waits : (g : GroupState) (turn : ℕ) → turn < g.start → g.start ≤ turn + 249 → after g turn ≡ g
+pub group_waits : (g : GroupState) (turn : ℕ) → turn < g.start → g.start ≤ turn + 249 → turned_group g turn ≡ g
 group_waits g turn low far = ap (λ (p : GroupPhase). after_in p g turn) (phase_waits g.start g.last turn low far)
 
 -- the members of a group and their boards

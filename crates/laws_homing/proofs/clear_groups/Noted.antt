@@ -37,7 +37,7 @@ use Rattle.trigger_group.specs.declared.seen.Seen.{Seen}
 use Rattle.axis_homing.specs.Homing.{homing_of, homing_with, member_where, members_from, moving_on}
 use Rattle.axis_homing.specs.Rising.{members_of}
 use Rattle.host_reactor.specs.declared.ordered.Known.{Known}
-use Rattle.host_reactor.specs.Notes.{news_of, noted, told, told_all}
+use Rattle.host_reactor.specs.Notes.{news_of, noted, known_behind, told_all}
 use Rattle.host_reactor.specs.Runs.{Came, HaveStates, known_by, state_at}
 use Rattle.laws_homing.specs.home_runs.Words.{BeginsNone}
 use Rattle.laws_homing.proofs.home_runs.Knowing.{all_none}
@@ -102,11 +102,11 @@ some_or_none (news.Line board line from ∷ ns) = some_or_none ns
 all_newly : (m : Machine) (ns : List NoteNews) (r : Known) → BeginsSome ns → IsNewly m (told_all m ns r).homing
 all_newly m [] r k = absurd k
 all_newly m (news.Start section kind turn last moving ∷ ns) r k =
-    let n = told m r (news.Start section kind turn last moving) in
+    let n = known_behind m r (news.Start section kind turn last moving) in
     elim (some_or_none ns) [ inl more ↦ all_newly m ns n more | inr calm ↦ subst (IsNewly m) (sym (all_none m ns n calm)) (begun_newly m section kind turn last moving) ]
-all_newly m (news.Done section turn ∷ ns) r k = all_newly m ns (told m r (news.Done section turn)) k
-all_newly m (news.Read x sections ∷ ns) r k = all_newly m ns (told m r (news.Read x sections)) k
-all_newly m (news.Line board line from ∷ ns) r k = all_newly m ns (told m r (news.Line board line from)) k
+all_newly m (news.Done section turn ∷ ns) r k = all_newly m ns (known_behind m r (news.Done section turn)) k
+all_newly m (news.Read x sections ∷ ns) r k = all_newly m ns (known_behind m r (news.Read x sections)) k
+all_newly m (news.Line board line from ∷ ns) r k = all_newly m ns (known_behind m r (news.Line board line from)) k
 
 pub noted_newly : (m : Machine) (note : Option Note) (r : Known) → BeginsSome (news_of note) → IsNewly m (noted m note r).homing
 noted_newly m None r k = absurd k

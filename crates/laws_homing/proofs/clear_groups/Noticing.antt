@@ -21,7 +21,7 @@ use Rattle.msg_code.specs.Text.{IsText}
 use Rattle.board_sim.specs.Fair.{commands_of}
 use Rattle.board_sim.specs.Rig.{Rig, takes_all}
 use Rattle.plan_types.specs.declared.plan.TrigState.{TrigState}
-use Rattle.board_world.specs.World.{says, text_of}
+use Rattle.board_world.specs.World.{says, wire_text}
 use Rattle.link_work.specs.Answers.{IsAmong}
 use Rattle.laws_homing.specs.clear_boards.Rests.{RestsOver}
 use Rattle.link_work.specs.Runs.{queued_in}
@@ -37,7 +37,7 @@ use Rattle.laws_homing.specs.clear_boards.Firing.{AreNumbered, AreSmall, IsNumbe
 use Rattle.laws_homing.specs.clear_boards.Hearing.{IsAble}
 use Rattle.laws_homing.proofs.clear_boards.Knowing.{behind, same_board}
 use Rattle.laws_homing.proofs.clear_boards.Saying.{said_in_turn}
-use Rattle.laws_homing.specs.clear_groups.Early.{AreEarly, HeardUntil, IsEarly}
+use Rattle.laws_homing.specs.clear_groups.Early.{AreEarly, HeardUntil, TellsBetween}
 use Rattle.laws_homing.proofs.clear_boards.Ending.{fits_among, small_among}
 
 -- what the news of a turn tell of triggers that can trigger counts in no turn behind this one
@@ -45,7 +45,7 @@ abbrev pub AllAbleBy : Clocks → ℕ → ℕ → List News → Type 0
 AllAbleBy clocks turn most [] = Unit {0}
 AllAbleBy clocks turn most (n ∷ ns) = ((when : ℕ) → IsAble clocks turn when n.answer → when ≤ most) × AllAbleBy clocks turn most ns
 
-by_answer : (clocks : Clocks) (turn when most from until : ℕ) (told a : Cmd) → row_of told ≡ row_of a → IsText own_formats told (text_of a) → IsSmall a → IsNumbered a → IsEarly from until a
+by_answer : (clocks : Clocks) (turn when most from until : ℕ) (told a : Cmd) → row_of told ≡ row_of a → IsText own_formats told (wire_text a) → IsSmall a → IsNumbered a → TellsBetween from until a
     → ((at w : ℕ) → from ≤ at → at < until → turn_in_run clocks (nearest (turn_tick clocks turn) (at % 2 ^ 32)) ≡ Some w → w ≤ most) → IsAble clocks turn when told → when ≤ most
 by_answer clocks turn when most from until (cmd.TrsyncState oid can reason clock) (cmd.TrsyncState x y r k) e text small numbered early counts able =
     let same = state_told x y r k oid can reason clock numbered.0 numbered.1 small.0 small.1 text in
@@ -55,9 +55,9 @@ by_answer clocks turn when most from until (cmd.TrsyncState oid can reason clock
 by_answer clocks turn when most from until (cmd.TrsyncState oid can reason clock) a e text small numbered early counts able = absurd (let bad : row.TrsyncState ≡ row_of a = e in cc)
 by_answer clocks turn when most from until told a e text small numbered early counts able = absurd able
 
-early_among : (from until : ℕ) (c : Cmd) (cs : List Cmd) → AreEarly from until cs → IsAmong c cs → IsEarly from until c
+early_among : (from until : ℕ) (c : Cmd) (cs : List Cmd) → AreEarly from until cs → IsAmong c cs → TellsBetween from until c
 early_among from until c [] k among = absurd among
-early_among from until c (x ∷ xs) k (inl e) = subst (IsEarly from until) e k.0
+early_among from until c (x ∷ xs) k (inl e) = subst (TellsBetween from until) e k.0
 early_among from until c (x ∷ xs) k (inr m) = early_among from until c xs k.1 m
 
 all_news : (clocks : Clocks) (turn most : ℕ) (ns : List News) → ((n : News) (when : ℕ) → IsAmong n ns → IsAble clocks turn when n.answer → when ≤ most) → AllAbleBy clocks turn most ns

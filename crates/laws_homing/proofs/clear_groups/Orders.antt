@@ -9,7 +9,7 @@ use Rattle.clock_line.specs.Early.{turn_tick}
 use Rattle.msg_code.specs.declared.cmd.Cmd.{Cmd}
 use Rattle.trigger_group.specs.declared.order.Ctl.{Ctl}
 use Rattle.trigger_group.specs.declared.seen.Seen.{Seen}
-use Rattle.trigger_group.specs.Group.{GroupState, after, all_fired, heard_of, least_heard, relay_begins}
+use Rattle.trigger_group.specs.Group.{GroupState, turned_group, all_fired, heard_of, least_heard, relay_begins}
 use Rattle.trigger_group.proofs.Answering.{either, none_there}
 use Rattle.trigger_group.proofs.Knows.{after_last, after_start}
 use Rattle.axis_homing.specs.declared.homing.Homing.{Homing}
@@ -18,7 +18,7 @@ use Rattle.board_asking.specs.Machine.{trigger_of}
 use Rattle.laws_homing.specs.clear_boards.Alive.{RelayNone}
 use Rattle.laws_homing.specs.clear_boards.Modes.{IsTimed}
 use Rattle.laws_homing.specs.clear_boards.Ordered.{IsOrdered}
-use Rattle.laws_homing.specs.clear_boards.Turned.{AreBehind, SetsNone, SetsOne}
+use Rattle.laws_homing.specs.clear_boards.Turned.{AreSentBehind, SetsNone, SetsOne}
 use Rattle.laws_homing.proofs.clear_boards.Modes.{timed_after}
 use Rattle.laws_homing.proofs.clear_boards.Renewed.{after_is}
 use Rattle.laws_homing.proofs.clear_boards.Sending.{unset_all}
@@ -28,9 +28,9 @@ use Rattle.laws_homing.proofs.clear_groups.Known.{group_waits, none_waits}
 
 -- what a board is sent, by what its group knows
 pub record IsSent (m : Machine) (clocks : Clocks) (b turn : ℕ) (g : GroupState) (commands : List Cmd) : Type 0 where
-  pub behind : AreBehind (trigger_of m b) (low (turn_tick clocks (after g turn).sent)) commands
+  pub behind : AreSentBehind (trigger_of m b) (low (turn_tick clocks (turned_group g turn).sent)) commands
   pub none : g.relay ≡ None → relay_begins g turn ≡ false → RelayNone commands
-  pub sets : (x : Seen) → Contains g.members x → x.member.board ≡ b → (g.sent ≡ (after g turn).sent) ⊎ SetsOne commands
+  pub sets : (x : Seen) → Contains g.members x → x.member.board ≡ b → (g.sent ≡ (turned_group g turn).sent) ⊎ SetsOne commands
   pub far : g.sent ≡ g.last + 1 → SetsNone commands
 
 pub sent_from : (m : Machine) (clocks : Clocks) (b : ℕ) (h : Homing) (turn : ℕ) (g : GroupState) (commands : List Cmd) → IsOrdered m clocks b h turn g commands → g.start ≤ turn + 249 → (g.start ≤ turn → all_fired g.members ≡ false) → IsSent m clocks b turn g commands
@@ -48,7 +48,7 @@ sent_from m clocks b h turn g commands o far unended = elim (leb_tells g.start t
       let same = group_waits g turn (omega (arith, low_so)) far in
       let tail : commands ≡ o.tail = o.are ∙ ap (λ (cs : List Ctl). commands_to m clocks b h.start (axis_at m h.axis) cs ++ o.tail) (none_waits g turn (omega (arith, low_so)) far) in
       record {
-        behind = subst (λ (cs : List Cmd). AreBehind (trigger_of m b) (low (turn_tick clocks (after g turn).sent)) cs) (sym tail) (o.behind (trigger_of m b) (low (turn_tick clocks (after g turn).sent)));
+        behind = subst (λ (cs : List Cmd). AreSentBehind (trigger_of m b) (low (turn_tick clocks (turned_group g turn).sent)) cs) (sym tail) (o.behind (trigger_of m b) (low (turn_tick clocks (turned_group g turn).sent)));
         none = λ relay none. subst RelayNone (sym tail) o.none;
         sets = λ x there on. inl (ap (λ (y : GroupState). y.sent) (sym same));
         far = λ e. subst SetsNone (sym tail) (unset_all (trigger_of m b) o.tail (λ clock. o.behind (trigger_of m b) clock));
@@ -56,7 +56,7 @@ sent_from m clocks b h turn g commands o far unended = elim (leb_tells g.start t
 ]
 
 -- its last timeout
-pub timed_turn : (g : GroupState) (turn : ℕ) → g.start ≤ turn + 249 → (g.start ≤ turn → all_fired g.members ≡ false) → IsTimed g → IsTimed (after g turn) × (g.sent ≤ (after g turn).sent)
+pub timed_turn : (g : GroupState) (turn : ℕ) → g.start ≤ turn + 249 → (g.start ≤ turn → all_fired g.members ≡ false) → IsTimed g → IsTimed (turned_group g turn) × (g.sent ≤ (turned_group g turn).sent)
 timed_turn g turn far unended timed = elim (leb_tells g.start turn) [
   | inl p ↦
       let s = timed_after g turn p.1 (unended p.1) timed in
@@ -68,7 +68,7 @@ timed_turn g turn far unended timed = elim (leb_tells g.start turn) [
   | inr p ↦
       let low_so = p.1 in
       let same = group_waits g turn (omega (arith, low_so)) far in
-      (subst IsTimed (sym same) timed, (let e : g.sent ≡ (after g turn).sent = ap (λ (y : GroupState). y.sent) (sym same) in omega (arith, e)))
+      (subst IsTimed (sym same) timed, (let e : g.sent ≡ (turned_group g turn).sent = ap (λ (y : GroupState). y.sent) (sym same) in omega (arith, e)))
 ]
 
 least_under : (start least : ℕ) (xs : List Seen) → least_heard start least xs ≤ least
@@ -94,7 +94,7 @@ heard_there start b most x (y ∷ ys) c on k = elim (either y x ys c) [
 
 -- it goes no further than what was heard lets it
 pub near_turn : (g : GroupState) (b turn : ℕ) (x : Seen) → Contains g.members x → x.member.board ≡ b → g.start ≤ turn + 249 → (g.start ≤ turn → all_fired g.members ≡ false)
-    → HeardUntil g.start b (turn + 249) g.members → g.sent ≤ turn + 274 → (after g turn).sent ≤ turn + 274
+    → HeardUntil g.start b (turn + 249) g.members → g.sent ≤ turn + 274 → (turned_group g turn).sent ≤ turn + 274
 near_turn g b turn x there on far unended until soon = elim (leb_tells g.start turn) [
   | inl p ↦
       let is = after_is g turn p.1 (unended p.1) in
@@ -104,6 +104,6 @@ near_turn g b turn x there on far unended until soon = elim (leb_tells g.start t
   | inr p ↦
       let low_so = p.1 in
       let same = group_waits g turn (omega (arith, low_so)) far in
-      let e : g.sent ≡ (after g turn).sent = ap (λ (y : GroupState). y.sent) (sym same) in
+      let e : g.sent ≡ (turned_group g turn).sent = ap (λ (y : GroupState). y.sent) (sym same) in
       omega (arith, e, soon)
 ]

@@ -10,7 +10,7 @@ use Rattle.axis_homing.specs.Homing.{answer_in, goes_on_homing, hears_all, homin
 use Rattle.host_reactor.specs.declared.ordered.Phase.TheVariants.{Connecting}
 use Rattle.host_reactor.specs.Notes.{noted}
 use Rattle.host_reactor.specs.Reactor.{Reacted}
-use Rattle.host_reactor.specs.Runs.{Came, GoesOn, known_by, last_turn}
+use Rattle.host_reactor.specs.Runs.{Came, GoesOn, known_by, last_reacted}
 use Rattle.laws_board.proofs.clocks.Lines.{noted_phase}
 use Rattle.laws_board.proofs.clocks.Turning.{goes}
 use Rattle.laws_homing.specs.home_runs.Words.{TellsHomed}
@@ -23,13 +23,13 @@ cut_over clocks k tick states (Some h) e =
     let g = hears_all clocks states h in
     ap (λ (a : Option End). goes_on_homing k g a) (switch_answer k tick g (answer_in k g.start g.group) e)
 
-pub told_over : (m : Machine) (switches : List Switch) (c : Came) (before : List Came) → GoesOn m switches (c ∷ before) → ((known_by m switches before).phase ≡ Connecting → ⊥) → TellsHomed (last_turn m switches c before).ordered.word.news
+pub told_over : (m : Machine) (switches : List Switch) (c : Came) (before : List Came) → GoesOn m switches (c ∷ before) → ((known_by m switches before).phase ≡ Connecting → ⊥) → TellsHomed (last_reacted m switches c before).ordered.word.news
     → (known_by m switches (c ∷ before)).homing ≡ None
 told_over m switches c before on past told =
     let known = known_by m switches before in
     let now = noted m c.note known in
     let k = length before in
-    let x = last_turn m switches c before in
+    let x = last_reacted m switches c before in
     let g = running_now m now k c.states x (goes m switches known k c.states c.note on.0) (λ e. past (sym (noted_phase m c.note known) ∙ e)) in
     let cut = cut_of m now k c.states x g told in
     ap (λ (y : Reacted). y.known.homing) g.is ∙ cut_over now.clocks k cut.0 c.states now.homing cut.1

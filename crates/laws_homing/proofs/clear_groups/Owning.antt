@@ -28,7 +28,7 @@ use Rattle.laws_board.specs.turns.Turns.{AreBoardTurns, BoardTurn, stands_after}
 use Rattle.laws_board.specs.clocks.Ordered.{commands_in}
 use Rattle.laws_board.specs.clocks.Runs.{IsInRun}
 use Rattle.laws_board.proofs.clocks.Configured.{all_configured}
-use Rattle.laws_homing.specs.home_runs.Sections.{queued_by}
+use Rattle.laws_homing.specs.home_runs.Sections.{queued_in_turns}
 use Rattle.laws_homing.specs.home_runs.Stages.{Stage, lost_stage, no_stage, stage_from, stage_of}
 use Rattle.laws_homing.proofs.home_runs.Staging.{HasSlot, staged_after}
 
@@ -63,7 +63,7 @@ grown i j s (c ∷ cs) only sole =
 
 -- the link of a clear scene leaves nothing in its queue
 pub taken_all : (b : BoardDef) (pins : List (List Level)) (board : ℕ) (entries : List Entry) (turns : List BoardTurn) → entries ≡ [] → AreBoardTurns (clock_of b) (first_state b pins board entries) turns → AllKeepLimits (orders_in turns)
-    → (stands_after (first_state b pins board entries) turns).core.taken ≡ queued_by turns
+    → (stands_after (first_state b pins board entries) turns).core.taken ≡ queued_in_turns turns
 taken_all b pins board entries turns none are limits = rests_took b pins board entries turns are (free_at b pins board entries turns none are limits).idle
 
 -- a board that runs, where its link rests
@@ -75,7 +75,7 @@ one_rested m switches pins entries b came turns v r rest n runs =
     let few : j < 256 = (let most = v.steppers_few in let here = few_on b m.steppers in omega (arith, most, here)) in
     let d = board_at m b in
     let all = all_configured m switches pins entries b came turns v r n in
-    let g = grown 0 j no_stage (commands_of (queued_by turns)) (queue_only j turns (run_only m switches pins entries b came turns v r)) refl in
+    let g = grown 0 j no_stage (commands_of (queued_in_turns turns)) (queue_only j turns (run_only m switches pins entries b came turns v r)) refl in
     let has = queue_has j turns (filter_has j (commands_in turns) (subst (λ (l : List Cmd). Has j l) (sym all) (config_has m b))) in
     let staged = staged_after d pins b entries turns 0 j (omega arith) few r.turns_are in
     let taken = rests_took d pins b entries turns r.turns_are (rests_idle d pins b entries turns r.turns_are rest) in

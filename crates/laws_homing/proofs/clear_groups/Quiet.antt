@@ -11,7 +11,7 @@ use Rattle.board_sim.specs.Rig.{Rig, Slot, passes, slot_at, takes_all}
 use Rattle.board_sim.proofs.Bound.{one_slot}
 use Rattle.laws_board.proofs.clocks.Answers.{Each}
 use Rattle.laws_homing.proofs.clear_boards.Slots.{Follows, Lasts, passes_each, takes_each}
-use Rattle.laws_homing.specs.clear_groups.Quiet.{EachBlind, IsQuiet}
+use Rattle.laws_homing.specs.clear_groups.Quiet.{EachBlind, ReadsNoSwitch}
 use Rattle.laws_homing.specs.switch_runs.Taken.{IsBlind}
 use Rattle.laws_homing.specs.clear_groups.SetUp.{HoldsOf, IsArmed}
 
@@ -50,12 +50,12 @@ blind_each : (cs : List Cmd) → EachBlind cs → Each IsBlind cs
 blind_each [] k = tt
 blind_each (c ∷ cs) k = (k.0, blind_each cs k.1)
 
-pub turn_quiet : (until : ℕ) (r : Rig) (cs : List Cmd) → EachBlind cs → IsQuiet r → IsQuiet (passes (takes_all r cs).rig until).rig
+pub turn_quiet : (until : ℕ) (r : Rig) (cs : List Cmd) → EachBlind cs → ReadsNoSwitch r → ReadsNoSwitch (passes (takes_all r cs).rig until).rig
 turn_quiet until r cs k all =
     passes_each Quiet_one until (lasts_quiet until) (takes_all r cs).rig (takes_each Quiet_one (λ now c. IsBlind c) follows_quiet r cs (blind_each cs k) all)
 
 -- a board whose one trigger can trigger
-pub armed_quiet : (oid base every : ℕ) (limit : Option ℕ) (r : Rig) → HoldsOf oid (λ pins s. IsArmed base every limit pins s) r → IsQuiet r
+pub armed_quiet : (oid base every : ℕ) (limit : Option ℕ) (r : Rig) → HoldsOf oid (λ pins s. IsArmed base every limit pins s) r → ReadsNoSwitch r
 armed_quiet oid base every limit r h i s at off =
     let here : slot_at r oid ≡ Some s = subst (λ (n : ℕ). slot_at r n ≡ Some s) (h.sole i s at) at in
     let same = one_slot (slot_at r oid) h.slot s h.is here in

@@ -26,7 +26,7 @@ use Rattle.trigger_group.specs.declared.round.Round.{Round}
 use Rattle.trigger_group.specs.declared.round.Round.TheVariants.{Homes, Relays, Resets, Starts, Timeouts}
 use Rattle.trigger_group.specs.declared.seen.Fired.{Fired}
 use Rattle.trigger_group.specs.declared.seen.Seen.{Seen}
-use Rattle.trigger_group.specs.Group.{GroupState, all_fired, first_timeout, goes, limit, orders, orders_in, orders_to, phase, relay_in, relays_in, reset, round_of, steppers, stop, to_board, unless_fired}
+use Rattle.trigger_group.specs.Group.{GroupState, all_fired, first_timeout, goes, limit, orders, orders_of_group, orders_to, phase, relay_in, relays_in, reset, round_of, steppers, stop, to_board, unless_fired}
 use Rattle.axis_homing.specs.declared.homing.Homing.{Homing}
 use Rattle.axis_homing.specs.Homing.{answer_in, by_answer, command_to, commands_to, hears_all, homing_turn, order_command}
 use Rattle.axis_homing.specs.Rising.{members_of}
@@ -35,13 +35,13 @@ use Rattle.board_asking.specs.declared.asking.Stage.{Stage}
 use Rattle.board_asking.specs.declared.asking.Stage.TheVariants.{Config, Configure, Connected, Identify, Uptime}
 use Rattle.board_asking.specs.declared.setup.Setup.{Setup}
 use Rattle.board_asking.specs.declared.setup.Setup.TheVariants.{Endstop, Finish, Oids, Stepper, Trsync}
-use Rattle.board_asking.specs.Asking.{asks, is_due, question, ready}
+use Rattle.board_asking.specs.Asking.{asks, is_question_due, question, ready}
 use Rattle.board_asking.specs.Drift.{asks_now, clock_question, drifts, waits_in}
 use Rattle.board_asking.specs.Machine.{configuration, control_bytes, fitting, setup_command}
 use Rattle.host_reactor.specs.declared.ordered.Known.{Known}
 use Rattle.host_reactor.specs.Notes.{noted}
 use Rattle.host_reactor.specs.Reactor.{Reacted, homing_commands, stop_command, stops}
-use Rattle.host_reactor.specs.Runs.{Came, known_by, last_turn}
+use Rattle.host_reactor.specs.Runs.{Came, known_by, last_reacted}
 use Rattle.laws_board.specs.turns.Turns.{BoardTurn}
 use Rattle.laws_board.specs.clocks.Runs.{IsInRun}
 use Rattle.laws_board.proofs.clocks.Controls.{states_start}
@@ -73,11 +73,11 @@ setups_blind [] = tt
 setups_blind (s ∷ ss) = (setup_blind s, setups_blind ss)
 
 asks_blind : (turn : ℕ) (setups : List Setup) (a : Asking) (stage : Stage) → EachBlind (asks setups turn a stage)
-asks_blind turn setups a (Identify offset) = each_if (is_due turn a.since) (question (Identify offset)) (tt, tt)
-asks_blind turn setups a Uptime = each_if (is_due turn a.since) (question Uptime) (tt, tt)
+asks_blind turn setups a (Identify offset) = each_if (is_question_due turn a.since) (question (Identify offset)) (tt, tt)
+asks_blind turn setups a Uptime = each_if (is_question_due turn a.since) (question Uptime) (tt, tt)
 asks_blind turn setups a (Configure n) = setups_blind (fitting control_bytes (drop n setups))
-asks_blind turn setups a Config = each_if (is_due turn a.since) (question Config) (tt, tt)
-asks_blind turn setups a Connected = each_if (is_due turn a.since) (question Connected) tt
+asks_blind turn setups a Config = each_if (is_question_due turn a.since) (question Config) (tt, tt)
+asks_blind turn setups a Connected = each_if (is_question_due turn a.since) (question Connected) tt
 
 stop_blind : (s : Bool) → EachBlind (stop_command s)
 stop_blind true = (tt, tt)
@@ -151,7 +151,7 @@ goes_blind b g turn =
     (ctls_if b (nat_lt g.sent (limit g)) (round_of (Timeouts (limit g)) g.members) (round_blind b (Timeouts (limit g)) g.members (λ i. tt)))
     (ctls_if b (relays_in (relay_in g turn) turn) (round_of Relays g.members) (round_blind b Relays g.members (λ i. tt)))
 
-in_blind : (b : ℕ) (p : Phase) (g : GroupState) (turn : ℕ) → (IsMember b (members_of g) → PhaseBlind p) → CtlsBlind b (orders_in p g turn)
+in_blind : (b : ℕ) (p : Phase) (g : GroupState) (turn : ℕ) → (IsMember b (members_of g) → PhaseBlind p) → CtlsBlind b (orders_of_group p g turn)
 in_blind b (Sends round) g turn f = round_blind b round g.members f
 in_blind b Goes g turn f = ctls_unless b (all_fired g.members) (goes g turn) (goes_blind b g turn)
 in_blind b Rests g turn f = tt
@@ -240,4 +240,4 @@ pub reads_either : (m : Machine) (switches : List Switch) (pins : List (List Lev
     → IsInRun m switches pins entries b (c ∷ before) (t ∷ turns) → EachBlind t.control.commands ⊎ IsReadIn b (length before) (noted m c.note (known_by m switches before)).homing
 reads_either m switches pins entries b c before t turns r =
     let x = turn_of m switches pins entries b c before t turns r in
-    turn_either m b c (noted m c.note (known_by m switches before)) (length before) x.a (last_turn m switches c before) t x.turned
+    turn_either m b c (noted m c.note (known_by m switches before)) (length before) x.a (last_reacted m switches c before) t x.turned

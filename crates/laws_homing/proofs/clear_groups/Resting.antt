@@ -37,7 +37,7 @@ use Rattle.laws_homing.proofs.home_runs.Guarding.{passes_next}
 use Rattle.laws_homing.proofs.home_runs.Staging.{HasSlot, commands_both, staged_after}
 use Rattle.trigger_group.specs.declared.order.End.{End}
 use Rattle.trigger_group.specs.declared.seen.Seen.{Seen}
-use Rattle.trigger_group.specs.Group.{GroupState, after}
+use Rattle.trigger_group.specs.Group.{GroupState, turned_group}
 use Rattle.trigger_group.proofs.Knows.{after_members, after_start}
 use Rattle.axis_homing.specs.declared.homing.Homing.{Homing}
 use Rattle.axis_homing.specs.Homing.{answer_in, goes_on_homing, hears_all, homing_after, low}
@@ -46,9 +46,9 @@ use Rattle.host_reactor.specs.declared.ordered.Phase.TheVariants.{Connecting, Ru
 use Rattle.host_reactor.specs.declared.ordered.Phase.{Phase}
 use Rattle.host_reactor.specs.Notes.{news_of, noted}
 use Rattle.host_reactor.specs.Reactor.{Reacted}
-use Rattle.host_reactor.specs.Runs.{Came, GoesOn, known_by, last_turn}
+use Rattle.host_reactor.specs.Runs.{Came, GoesOn, known_by, last_reacted}
 use Rattle.laws_homing.specs.clear_boards.Hearing.{FiringNone}
-use Rattle.laws_homing.specs.clear_boards.Turned.{AreBehind}
+use Rattle.laws_homing.specs.clear_boards.Turned.{AreSentBehind}
 use Rattle.laws_homing.proofs.clear_boards.Rests.{clear_over}
 use Rattle.laws_homing.proofs.clear_boards.Bridging.{none_firing}
 use Rattle.laws_homing.proofs.clear_boards.Member.{turn_off}
@@ -165,7 +165,7 @@ pub record Next (m : Machine) (switches : List Switch) (d : Came) (past : List C
 pub next_of : (m : Machine) (switches : List Switch) (d : Came) (past : List Came) → GoesOn m switches (d ∷ past) → ((noted m d.note (known_by m switches past)).phase ≡ Connecting → ⊥) → Next m switches d past
 next_of m switches d past g open_it =
     let known = known_by m switches past in
-    let x = last_turn m switches d past in
+    let x = last_reacted m switches d past in
     let r = running_now m (noted m d.note known) (length past) d.states x (goes m switches known (length past) d.states d.note g.0) open_it in
     record { phase = λ e. not_connecting r.stop (sym (ap (λ (y : Reacted). y.known.phase) r.is) ∙ e); homing = ap (λ (y : Reacted). y.known.homing) r.is }
 
@@ -206,10 +206,10 @@ module _ (m : Machine) (v : IsValidMachine m) (switches : List Switch) (pins : L
     tame_off tame off = subst AllFired (sym taken) (turn_all_off Until (Board turns) Commands (taken_tame t tame) off)
 
     -- a trigger behind the set-up, of which it was told that it can't trigger
-    fires_on : (clock : ℕ) → AreBehind Oid clock Commands → HasFired Oid (Board turns) → HasFired Oid (Board (t ∷ turns))
+    fires_on : (clock : ℕ) → AreSentBehind Oid clock Commands → HasFired Oid (Board turns) → HasFired Oid (Board (t ∷ turns))
     fires_on clock behind f = subst (HasFired Oid) (sym taken) (stays_fired Oid clock Until (Board turns) Commands behind f)
 
-    fires_now : (clock : ℕ) → AreBehind Oid clock Commands → IsSole Oid (Board turns) → HasSlot Oid (Board turns) → SayFired t.state.news → HasFired Oid (Board (t ∷ turns))
+    fires_now : (clock : ℕ) → AreSentBehind Oid clock Commands → IsSole Oid (Board turns) → HasSlot Oid (Board turns) → SayFired t.state.news → HasFired Oid (Board (t ∷ turns))
     fires_now clock behind sole has tells =
         let q = (takes_all (Board turns) Commands).rig in
         let next = next_all Oid clock (Board turns) Commands behind in
@@ -243,13 +243,13 @@ module _ (m : Machine) (v : IsValidMachine m) (switches : List Switch) (pins : L
         let heard = hears_all n.clocks d.states h in
         let to : (known_by m switches (d ∷ past)).homing ≡ Some (behind_turn heard k) = next.homing ∙ ap (λ (o : Option Homing). homing_after n.clocks k d.states o) is ∙ ap (λ (o : Option End). goes_on_homing k heard o) goes_so in
         let begins : heard.group.start ≡ h.start = heard_together n.clocks d.states h together in
-        let members : members_of (after heard.group k) ≡ members_of h.group = ap (λ (xs : List Seen). map (λ (x : Seen). x.member) xs) (after_members heard.group k) ∙ members_states n.clocks 0 h.start d.states h.group in
+        let members : members_of (turned_group heard.group k) ≡ members_of h.group = ap (λ (xs : List Seen). map (λ (x : Seen). x.member) xs) (after_members heard.group k) ∙ members_states n.clocks 0 h.start d.states h.group in
         let long = as_long m switches b past turns was.run.both in
         let open_past : (known_by m switches past).phase ≡ Connecting → ⊥ = λ e. open_it (noted_phase m d.note (known_by m switches past) ∙ e) in
         let o = turn_ordered m switches pins entries b d past t turns h now.run is open_it goes_so in
-        let behind : h.start ≤ k + 1 → AreBehind Oid (low (turn_tick (clocks_at n.clocks b) (after heard.group k).sent)) Commands =
+        let behind : h.start ≤ k + 1 → AreSentBehind Oid (low (turn_tick (clocks_at n.clocks b) (turned_group heard.group k).sent)) Commands =
         (λ late. (sent_from m (clocks_at n.clocks b) b h k heard.group Commands o (omega (arith, begins, late)) (λ l. open_group k h.start heard.group goes_so (omega (arith, l, begins)))).behind) in
-        let clock = low (turn_tick (clocks_at n.clocks b) (after heard.group k).sent) in
+        let clock = low (turn_tick (clocks_at n.clocks b) (turned_group heard.group k).sent) in
         let own = owns past turns was open_past in
         inr (
           next.phase,

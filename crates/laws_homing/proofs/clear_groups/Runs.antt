@@ -31,10 +31,10 @@ use Rattle.host_reactor.specs.Notes.{noted}
 use Rattle.host_reactor.specs.Runs.{Came, known_by}
 use Rattle.laws_homing.proofs.clear_boards.Standing.{sound_at}
 use Rattle.laws_homing.proofs.clear_boards.Taking.{takes_in_turn}
-use Rattle.laws_homing.specs.clear_groups.Quiet.{EachBlind, IsQuiet}
+use Rattle.laws_homing.specs.clear_groups.Quiet.{EachBlind, ReadsNoSwitch}
 use Rattle.laws_homing.specs.clear_groups.Runs.{AreSetUp, IsSetUp}
 use Rattle.laws_homing.specs.clear_groups.Safe.{IsSafeAt, IsSafeIn}
-use Rattle.laws_homing.specs.clear_groups.Sections.{IsClearSection, IsFollowed, IsPlain, report_ticks, rest_of, rig_at, turns_of}
+use Rattle.laws_homing.specs.clear_groups.Sections.{IsClearSection, IsFollowed, IsPlain, report_ticks, earlier_turns, rig_at, turns_of}
 use Rattle.laws_homing.specs.clear_groups.SetUp.{HoldsOf, IsPrepared}
 use Rattle.laws_homing.proofs.clear_groups.Beginning.{armed_second, begins_safe}
 use Rattle.laws_homing.proofs.clear_groups.Sections.{rests_section}
@@ -75,7 +75,7 @@ taken_blind : (t : BoardTurn) → EachBlind t.control.commands → EachBlind (co
 taken_blind t k = meant_both (map plain t.control.commands) (units_orders t.batch.units) (subst EachBlind (sym (plain_are t.control.commands)) k) (units_blind t.batch.units)
 
 -- a quiet board whose one trigger can't trigger is prepared for any start
-pub prepared_by : (oid base : ℕ) (r : Rig) → HoldsOf oid (λ ps s. s.trigger.can ≡ false) r → IsQuiet r → AllSound r → HoldsOf oid (λ ps s. IsPrepared base ps s) r
+pub prepared_by : (oid base : ℕ) (r : Rig) → HoldsOf oid (λ ps s. s.trigger.can ≡ false) r → ReadsNoSwitch r → AllSound r → HoldsOf oid (λ ps s. IsPrepared base ps s) r
 prepared_by oid base r h quiet sound =
     let so = sound oid h.slot h.is in
     let none = quiet oid h.slot h.is h.so in
@@ -90,7 +90,7 @@ module _ (m : Machine) (switches : List Switch) (pins : ℕ → List (List Level
   -- the boards whose set-up it is
   pub prepared_all : (start : ℕ) (c d e : Came) (past : List Came) (i j : ℕ → BoardTurn) (js : List (ℕ → BoardTurn)) (x : IsSetUp m switches pins entries (lines start) ready till start c d e past i j js) → start ≡ length past + 251 → (b : ℕ)
       → ((k : ℕ) → board_tick (clock_of (board_at m b)) k ≤ board_tick (clock_of (board_at m b)) (k + 1)) → IsPlain m switches (pins b) entries b past (turns_of b js) → BeginsAlone m switches (e ∷ past)
-      → IsQuiet (rig_at m pins entries js b) → HoldsOf (trigger_of m b) (λ ps s. IsPrepared (lines_tick (lines start b) (start * turn_ns)) ps s) (rig_at m pins entries js b)
+      → ReadsNoSwitch (rig_at m pins entries js b) → HoldsOf (trigger_of m b) (λ ps s. IsPrepared (lines_tick (lines start b) (start * turn_ns)) ps s) (rig_at m pins entries js b)
   prepared_all start c d e past i j js x at b rise known alone quiet =
       let since = x.section.homes.1.1.0 x.early in
       let h = x.new.0 in
@@ -101,12 +101,12 @@ module _ (m : Machine) (switches : List Switch) (pins : ℕ → List (List Level
       prepared_by (trigger_of m b) (lines_tick (lines start b) (start * turn_ns)) (rig_at m pins entries js b) holds quiet (sound_at (board_at m b) (pins b) b entries (turns_of b js) known.run.turns_are)
 
   module _ (b : ℕ) (rise : (k : ℕ) → board_tick (clock_of (board_at m b)) k ≤ board_tick (clock_of (board_at m b)) (k + 1)) where
-    empty_quiet : IsQuiet (rig_at m pins entries [] b)
+    empty_quiet : ReadsNoSwitch (rig_at m pins entries [] b)
     empty_quiet oid s at off = absurd (none_some (slot_at (rig_at m pins entries [] b) oid) s (none_at 256 oid) at)
 
     -- as a turn begins, and as the one before it did
     pub quiet_all : (c : Came) (before : List Came) (all : List (ℕ → BoardTurn)) → length all ≡ length before → IsPlain m switches (pins b) entries b before (turns_of b all) → BeginsAlone m switches before → AreSetUp m switches pins entries lines ready till (c ∷ before) all → length before + 276 ≤ till
-        → IsQuiet (rig_at m pins entries all b) × IsQuiet (rig_at m pins entries (rest_of all) b)
+        → ReadsNoSwitch (rig_at m pins entries all b) × ReadsNoSwitch (rig_at m pins entries (earlier_turns all) b)
     quiet_all c before [] size known alone set_up reach = (empty_quiet, empty_quiet)
     quiet_all c [] (i ∷ js) size known alone set_up reach = absurd (omega (arith, size))
     quiet_all c (d ∷ []) (i ∷ j ∷ js) size known alone set_up reach = absurd (omega (arith, size))
@@ -114,7 +114,7 @@ module _ (m : Machine) (switches : List Switch) (pins : ℕ → List (List Level
     quiet_all c (d ∷ []) (i ∷ []) size known alone set_up reach = (
       elim (reads_either m switches (pins b) entries b d [] (i b) [] known.run) [
         | inl blind ↦
-            subst IsQuiet (sym (takes_in_turn (board_at m b) (pins b) b entries (i b) [] none known.run.turns_are known.limits))
+            subst ReadsNoSwitch (sym (takes_in_turn (board_at m b) (pins b) b entries (i b) [] none known.run.turns_are known.limits))
             (turn_quiet (board_tick (clock_of (board_at m b)) (length (turns_of b []) + 1)) (rig_at m pins entries [] b) (commands_of (queued_in (orders (i b).control (i b).batch))) (taken_blind (i b) blind) empty_quiet)
         | inr x ↦ absurd (set_up x.homing x.known x.at)
       ],
@@ -125,7 +125,7 @@ module _ (m : Machine) (switches : List Switch) (pins : ℕ → List (List Level
         let was = quiet_all d (e ∷ past) (j ∷ js) (omega (arith, size)) first alone.1 set_up.1 (omega (arith, reach)) in (
           elim (reads_either m switches (pins b) entries b d (e ∷ past) (i b) (turns_of b (j ∷ js)) known.run) [
             | inl blind ↦
-                subst IsQuiet (sym (takes_in_turn (board_at m b) (pins b) b entries (i b) (turns_of b (j ∷ js)) none known.run.turns_are known.limits))
+                subst ReadsNoSwitch (sym (takes_in_turn (board_at m b) (pins b) b entries (i b) (turns_of b (j ∷ js)) none known.run.turns_are known.limits))
                 (turn_quiet (board_tick (clock_of (board_at m b)) (length (turns_of b (j ∷ js)) + 1)) (rig_at m pins entries (j ∷ js) b) (commands_of (queued_in (orders (i b).control (i b).batch))) (taken_blind (i b) blind) was.0)
             | inr x ↦
                 let start = x.homing.group.start in
@@ -163,7 +163,7 @@ module _ (m : Machine) (switches : List Switch) (pins : ℕ → List (List Level
 
     safe_none : (at last : ℕ) (came : List Came) (all : List (ℕ → BoardTurn)) → length came ≤ at → IsSafeAt m switches pins entries (lines start) start last members at came all
     safe_none at last [] all l = tt
-    safe_none at last (c ∷ before) all l = ((λ e. absurd (omega (arith, e, l))), safe_none at last before (rest_of all) (omega (arith, l)))
+    safe_none at last (c ∷ before) all l = ((λ e. absurd (omega (arith, e, l))), safe_none at last before (earlier_turns all) (omega (arith, l)))
 
     -- its last turn, and where it is safe
     record Found (came : List Came) (all : List (ℕ → BoardTurn)) : Type 0 where

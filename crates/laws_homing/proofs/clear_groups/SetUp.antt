@@ -22,11 +22,11 @@ use Rattle.board_step.specs.Steps.{Pending}
 use Rattle.board_trig.specs.declared.sampling.Homing.{Homing as Reading}
 use Rattle.board_trig.specs.declared.sampling.Sampling.{Sampling}
 use Rattle.board_trig.specs.declared.trigger.Trigger.{Trigger}
-use Rattle.board_trig.specs.Sampling.{IsTriggerTick, group, reading}
+use Rattle.board_trig.specs.Sampling.{IsTriggerTick, group, reading_tick}
 use Rattle.board_trig.specs.Trigger as trig
 use Rattle.board_trig.proofs.TriggerTicks.{groups_rise}
 use Rattle.board_sim.specs.Board.{stepper_at}
-use Rattle.board_sim.specs.Rig.{Rig, Slot, acts, acts_running, becomes, bind, expires_at_once, home, set_timeout, slot_at, start, takes, takes_all}
+use Rattle.board_sim.specs.Rig.{Rig, Slot, acts, acts_running, becomes, bind, expires_at_once, home, set_timeout, slot_at, start_trigger, takes, takes_all}
 use Rattle.board_sim.proofs.Bound.{same_or_not, slot_range}
 use Rattle.board_sim.proofs.Halting.{sampling_moves}
 use Rattle.board_sim.proofs.RigStates.{all_tick}
@@ -42,7 +42,7 @@ use Rattle.trigger_group.specs.declared.seen.Seen.{Seen}
 use Rattle.trigger_group.specs.Group.{orders_to, round_of, steppers, stop, to_board}
 use Rattle.axis_homing.specs.Homing.{commands_to, low, order_command}
 use Rattle.laws_homing.specs.clear_boards.Alive.{RelayNone}
-use Rattle.laws_homing.specs.clear_boards.Turned.{AreBehind, IsBehind, Relays}
+use Rattle.laws_homing.specs.clear_boards.Turned.{AreSentBehind, IsSentBehind, Relays}
 use Rattle.laws_homing.proofs.clear_boards.Alive.{less_is}
 use Rattle.laws_homing.proofs.clear_boards.Turned.{ran}
 use Rattle.laws_homing.specs.clear_groups.SetUp.{HoldsOf, IsArmed, IsPrepared}
@@ -101,8 +101,8 @@ module _ (oid base every : ℕ) where
         reason = omega arith;
         expire = omega arith;
       } in
-      let By : Option Slot → Type 0 = λ o. Armed None (start r oid o clock every 2) in
-      subst By (sym h.is) (holds_set oid (λ pins s. IsPrepared base pins s) (λ pins s. IsArmed base every None pins s) r (start r oid (Some s) clock every 2) u h refl refl so)
+      let By : Option Slot → Type 0 = λ o. Armed None (start_trigger r oid o clock every 2) in
+      subst By (sym h.is) (holds_set oid (λ pins s. IsPrepared base pins s) (λ pins s. IsArmed base every None pins s) r (start_trigger r oid (Some s) clock every 2) u h refl refl so)
 
   limited_is : (b : Bool) (now at : ℕ) (t : Trigger) → b ≡ true → (if b then record t { timeout = Some at } else record (trig.fired now t.expire t) { untold = Some now }) ≡ record t { timeout = Some at }
   limited_is true now at t e = refl
@@ -159,11 +159,11 @@ module _ (oid base every : ℕ) where
 
   -- the reading of the switch
   sampled_from : (b : Bool) (now at : ℕ) (g : Reading) (levels : List Level) (y : Sampling) → at ≡ base → base ≤ at
-      → (if b then None else Some (record { at = trig.first_from now at (trig.rest_of g); sample = g.sample_ticks; count = g.sample_count; rest = trig.rest_of g; value = g.pin_value == 1; reason = g.reason })) ≡ Some y
+      → (if b then None else Some (record { at = trig.first_from now at (trig.least_rest g); sample = g.sample_ticks; count = g.sample_count; rest = trig.least_rest g; value = g.pin_value == 1; reason = g.reason })) ≡ Some y
       → (y.reason ≡ g.reason) × ((x : ℕ) → IsTriggerTick levels y x → base ≤ x)
   sampled_from true now at g levels y is low_so e = absurd (cc)
   sampled_from false now at g levels y is low_so e =
-      let z : Sampling = record { at = trig.first_from now at (trig.rest_of g); sample = g.sample_ticks; count = g.sample_count; rest = trig.rest_of g; value = g.pin_value == 1; reason = g.reason } in
+      let z : Sampling = record { at = trig.first_from now at (trig.least_rest g); sample = g.sample_ticks; count = g.sample_count; rest = trig.least_rest g; value = g.pin_value == 1; reason = g.reason } in
       let same : z ≡ y = cc in
       let some : 0 < z.rest = rest_some (g.rest_ticks == 0) g refl in
       let begun : base ≤ z.at = omega (arith, low_so) in
@@ -173,7 +173,7 @@ module _ (oid base every : ℕ) where
         λ x hits. (
             let rise = groups_rise hits.number levels z some in
             let last = hits.last in
-            let from : (group levels z hits.number).at ≤ reading (group levels z hits.number) (z.count - 1) = omega arith in
+            let from : (group levels z hits.number).at ≤ reading_tick (group levels z hits.number) (z.count - 1) = omega arith in
             omega (arith, rise, last, from, begun)),
       )
     where
@@ -218,7 +218,7 @@ module _ (oid base every : ℕ) where
           subst By (sym h.is) (holds_set oid (λ pins s. IsArmed base every limit pins s) (λ pins s. IsArmed base every limit pins s) r (home r (Some pin) oid (Some s) g) u h refl refl so)
 
   -- what else a board is sent
-  other : (r : Rig) (c : Cmd) (limit : Option ℕ) → ((clock : ℕ) → IsBehind oid clock c) → (Relays c → ⊥) → Armed limit r → Armed limit (acts r c).rig
+  other : (r : Rig) (c : Cmd) (limit : Option ℕ) → ((clock : ℕ) → IsSentBehind oid clock c) → (Relays c → ⊥) → Armed limit r → Armed limit (acts r c).rig
   other r (cmd.TrsyncSetTimeout o at) limit k none h = absurd (let zero_is = (k 0).1 in let one = (k 1).1 in omega (arith, zero_is, one))
   other r (cmd.TrsyncTrigger o reason) limit k none h = absurd (none tt)
   other r (cmd.ConfigTrsync o) limit k none h = absurd (k 0)
@@ -228,7 +228,7 @@ module _ (oid base every : ℕ) where
   other r (cmd.EndstopHome o at sample count rest value t reason) limit k none h = absurd (k 0)
   other r c limit k none h = record { sole = h.sole; slot = h.slot; is = h.is; so = h.so }
 
-  pub others : (r : Rig) (cs : List Cmd) (limit : Option ℕ) → (takes_all r cs).rig.controller.state ≡ Running → ((clock : ℕ) → AreBehind oid clock cs) → RelayNone cs → Armed limit r → Armed limit (takes_all r cs).rig
+  pub others : (r : Rig) (cs : List Cmd) (limit : Option ℕ) → (takes_all r cs).rig.controller.state ≡ Running → ((clock : ℕ) → AreSentBehind oid clock cs) → RelayNone cs → Armed limit r → Armed limit (takes_all r cs).rig
   others r [] limit runs k none h = h
   others r (c ∷ cs) limit runs k none h =
       others (takes r c).rig cs limit runs (λ clock. (k clock).1) none.1 (running (Armed limit) r c (ran r (c ∷ cs) runs) (other r c limit (λ clock. (k clock).0) none.0 h))
@@ -270,21 +270,21 @@ module _ (m : Machine) (clocks : Clocks) (b start : ℕ) (axis : AxisDef) (base 
   Ready l r = HoldsOf (trigger_of m b) (λ pins s. IsArmed base every l pins s) r
 
   abbrev Commands : List Ctl → List Cmd
-  Commands ctls = commands_to m clocks b start axis ctls
+  Commands ctls = commands_to m clocks b start_trigger axis ctls
 
-  setting_one : (what : Order) (r : Rig) (l : Option ℕ) → IsSetting what → r.controller.tick ≡ now → Ready l r → Ready l (acts r (order_command m clocks b start axis what)).rig
+  setting_one : (what : Order) (r : Rig) (l : Option ℕ) → IsSetting what → r.controller.tick ≡ now → Ready l r → Ready l (acts r (order_command m clocks b start_trigger axis what)).rig
   setting_one (order.Stop i) r l k at h = binds (trigger_of m b) base every r (machine.stepper_at m i).oid l h
-  setting_one order.Home r l k at h = reads (trigger_of m b) base every r _ (low (turn_tick clocks start)) _ _ _ _ l h (ap (λ (n : ℕ). nearest n (low (turn_tick clocks start))) at ∙ at_base)
+  setting_one order.Home r l k at h = reads (trigger_of m b) base every r _ (low (turn_tick clocks start_trigger)) _ _ _ _ l h (ap (λ (n : ℕ). nearest n (low (turn_tick clocks start_trigger))) at ∙ at_base)
   setting_one (order.Reset i) r l k at h = absurd k
   setting_one order.Start r l k at h = absurd k
   setting_one (order.Timeout turn) r l k at h = absurd k
   setting_one order.Trigger r l k at h = absurd k
 
   -- one order, to this board or another
-  setting_to : (here : Bool) (what : Order) (rest : List Cmd) (r : Rig) (l : Option ℕ) → IsSetting what → r.controller.tick ≡ now → (takes_all r ((if here then order_command m clocks b start axis what ∷ [] else []) ++ rest)).rig.controller.state ≡ Running
-      → ((q : Rig) → q.controller.tick ≡ now → (takes_all q rest).rig.controller.state ≡ Running → Ready l q → Ready l (takes_all q rest).rig) → Ready l r → Ready l (takes_all r ((if here then order_command m clocks b start axis what ∷ [] else []) ++ rest)).rig
+  setting_to : (here : Bool) (what : Order) (rest : List Cmd) (r : Rig) (l : Option ℕ) → IsSetting what → r.controller.tick ≡ now → (takes_all r ((if here then order_command m clocks b start_trigger axis what ∷ [] else []) ++ rest)).rig.controller.state ≡ Running
+      → ((q : Rig) → q.controller.tick ≡ now → (takes_all q rest).rig.controller.state ≡ Running → Ready l q → Ready l (takes_all q rest).rig) → Ready l r → Ready l (takes_all r ((if here then order_command m clocks b start_trigger axis what ∷ [] else []) ++ rest)).rig
   setting_to true what rest r l k at runs more h =
-      let c = order_command m clocks b start axis what in
+      let c = order_command m clocks b start_trigger axis what in
       more (takes r c).rig (takes_rig_tick r c ∙ at) runs (running (Ready l) r c (ran r (c ∷ rest) runs) (setting_one what r l k at h))
   setting_to false what rest r l k at runs more h = more r at runs h
 
@@ -300,15 +300,15 @@ module _ (m : Machine) (clocks : Clocks) (b start : ℕ) (axis : AxisDef) (base 
       → Ready (Some limit) (takes_all r (Commands (orders_to (Starts timeout) x))).rig
   started_here x h is e r at runs prep =
       let rest = Commands (map (stop x) (take 8 (steppers x))) in
-      let Cs : Bool → List Cmd = λ here. (if here then order_command m clocks b start axis order.Start ∷ [] else []) ++ ((if here then order_command m clocks b start axis (order.Timeout timeout) ∷ [] else []) ++ rest) in
+      let Cs : Bool → List Cmd = λ here. (if here then order_command m clocks b start_trigger axis order.Start ∷ [] else []) ++ ((if here then order_command m clocks b start_trigger axis (order.Timeout timeout) ∷ [] else []) ++ rest) in
       let Out : Bool → Type 0 = λ here. (takes_all r (Cs here)).rig.controller.state ≡ Running → Ready (Some limit) (takes_all r (Cs here)).rig in
-      let first = order_command m clocks b start axis order.Start in
-      let second = order_command m clocks b start axis (order.Timeout timeout) in
+      let first = order_command m clocks b start_trigger axis order.Start in
+      let second = order_command m clocks b start_trigger axis (order.Timeout timeout) in
       let done : Out true =
       (λ runs_so. (
       let q = (takes r first).rig in
       let one : Ready None q = running (Ready None) r first (ran r (first ∷ second ∷ rest) runs_so)
-      (starts_every r (starts (trigger_of m b) base every r (low (turn_tick clocks start)) prep (omega (arith, at, low_base)) (ap (λ (n : ℕ). nearest n (low (turn_tick clocks start))) at ∙ at_base) some)) in
+      (starts_every r (starts (trigger_of m b) base every r (low (turn_tick clocks start_trigger)) prep (omega (arith, at, low_base)) (ap (λ (n : ℕ). nearest n (low (turn_tick clocks start_trigger))) at ∙ at_base) some)) in
       let at_q : q.controller.tick ≡ now = takes_rig_tick r first ∙ at in
       let p = (takes q second).rig in
       let two : Ready (Some limit) p = running (Ready (Some limit)) q second (ran q (second ∷ rest) runs_so)
@@ -316,8 +316,8 @@ module _ (m : Machine) (clocks : Clocks) (b start : ℕ) (axis : AxisDef) (base 
       settings (map (stop x) (take 8 (steppers x))) p (Some limit) (stops_setting x (take 8 (steppers x))) (takes_rig_tick q second ∙ at_q) runs_so two)) in
       subst Out (sym (is ∙ e)) done runs
     where
-      starts_every : (r : Rig) → Ready None (acts r (cmd.TrsyncStart (trigger_of m b) (low (turn_tick clocks start)) every 2)).rig → Ready None (acts r (order_command m clocks b start axis order.Start)).rig
-      starts_every r k = subst (λ (n : ℕ). Ready None (acts r (cmd.TrsyncStart (trigger_of m b) (low (turn_tick clocks start)) n 2)).rig) (sym every_is) k
+      starts_every : (r : Rig) → Ready None (acts r (cmd.TrsyncStart (trigger_of m b) (low (turn_tick clocks start_trigger)) every 2)).rig → Ready None (acts r (order_command m clocks b start_trigger axis order.Start)).rig
+      starts_every r k = subst (λ (n : ℕ). Ready None (acts r (cmd.TrsyncStart (trigger_of m b) (low (turn_tick clocks start_trigger)) n 2)).rig) (sym every_is) k
 
   abbrev AllElse : List Ctl → Type 0
   AllElse [] = Unit {0}
@@ -325,7 +325,7 @@ module _ (m : Machine) (clocks : Clocks) (b start : ℕ) (axis : AxisDef) (base 
 
   none_here : (ctls : List Ctl) → AllElse ctls → Commands ctls ≡ []
   none_here [] k = refl
-  none_here (c ∷ ctls) k = ap (λ (h : Bool). (if h then order_command m clocks b start axis c.what ∷ [] else []) ++ Commands ctls) k.0 ∙ none_here ctls k.1
+  none_here (c ∷ ctls) k = ap (λ (h : Bool). (if h then order_command m clocks b start_trigger axis c.what ∷ [] else []) ++ Commands ctls) k.0 ∙ none_here ctls k.1
 
   stops_else : (x : Seen) (is : List ℕ) → (x.member.board == b) ≡ false → AllElse (map (stop x) is)
   stops_else x [] e = tt
@@ -339,7 +339,7 @@ module _ (m : Machine) (clocks : Clocks) (b start : ℕ) (axis : AxisDef) (base 
       let A = Commands (orders_to (Starts timeout) x) in
       let B = Commands (round_of (Starts timeout) xs) in
       let q = (takes_all r A).rig in
-      let both : Commands (round_of (Starts timeout) (x ∷ xs)) ≡ A ++ B = commands_both m clocks b start axis (orders_to (Starts timeout) x) (round_of (Starts timeout) xs) in
+      let both : Commands (round_of (Starts timeout) (x ∷ xs)) ≡ A ++ B = commands_both m clocks b start_trigger axis (orders_to (Starts timeout) x) (round_of (Starts timeout) xs) in
       let rigs : (takes_all r (Commands (round_of (Starts timeout) (x ∷ xs)))).rig ≡ (takes_all q B).rig = ap (λ (cs : List Cmd). (takes_all r cs).rig) both ∙ takes_both r A B in
       let runs_q : (takes_all q B).rig.controller.state ≡ Running = ap (λ (z : Rig). z.controller.state) (sym rigs) ∙ runs in
       subst (Ready (Some limit)) (sym rigs) (elim (eqb_tells x.member.board b) [

@@ -18,7 +18,7 @@ use Rattle.board_sim.specs.Fair.{Meant, commands_of}
 use Rattle.board_sim.specs.Rig.{Rig, Slot, acts_running, passes, slot_at, home, takes, takes_all}
 use Rattle.board_world.specs.declared.event.Event.{Event}
 use Rattle.board_world.specs.declared.event.Event.TheVariants as event
-use Rattle.board_world.specs.World.{Core, Step, Do, Turn, does, in_turn, run, takes_in}
+use Rattle.board_world.specs.World.{Core, Step, Do, Turn, does, in_turn, run_world, takes_in}
 use Rattle.board_world.specs.World as world
 use Rattle.plan_types.specs.Clock.{board_tick}
 use Rattle.wire_scene.specs.declared.scene.Way.TheVariants.{Down, Up}
@@ -33,7 +33,7 @@ use Rattle.laws_board.specs.turns.Turns.{AreBoardTurns, BoardTurn, stands_after}
 use Rattle.laws_homing.proofs.clear_boards.Held.{switch_reason}
 use Rattle.laws_homing.proofs.clear_boards.Slots.{Follows, Lasts, Next, OfEach, levels_at, passes_beside, passes_each, running_beside, running_each, set_each, with_trigger}
 use Rattle.laws_homing.proofs.home_runs.Staying.{steps_take, taken_later}
-use Rattle.laws_homing.specs.switch_runs.Reading.{AreFit, IsComplete, IsFit}
+use Rattle.laws_homing.specs.switch_runs.Reading.{AreFit, IsComplete, IsFitReading}
 use Rattle.laws_homing.specs.switch_runs.Taken.{AreBlind, IsBlind}
 use Rattle.laws_homing.proofs.switch_runs.Firing.{AllTrue, begun_true, read_true, takes_true, time_true}
 use Rattle.laws_homing.proofs.switch_runs.Made.{AnyTick}
@@ -100,7 +100,7 @@ module _ (Z : Type 0) (G : ℕ → Type 0) (n : ℕ) (pins : List (List Level)) 
   passes_own r t all = each_mine r (passes r t).rig (passes_beside t r).0 all (passes_each Mine t (lasts_own t) r (mine_each r all))
 
   -- a command that begins no readings
-  follows_own : (E F : ℕ → (ℕ → Type 0)) → Follows Mine (λ now c. IsFit E F pins c × IsBlind c)
+  follows_own : (E F : ℕ → (ℕ → Type 0)) → Follows Mine (λ now c. IsFitReading E F pins c × IsBlind c)
   follows_own E F = record {
     made = λ ps now oid fit own. record { other = λ one. absurd (omega (arith, one)); fired = λ off one. absurd (omega (arith, one)); sampled = λ y is. absurd (cc) };
     starts = λ ps now oid s clock every reason fit k own. record { other = fit.0.1; fired = λ off. absurd (let bad : true ≡ false = off in cc); sampled = (k own).sampled };
@@ -112,12 +112,12 @@ module _ (Z : Type 0) (G : ℕ → Type 0) (n : ℕ) (pins : List (List Level)) 
     homes = λ ps now oid s i pin g fit k. absurd fit.1;
   }
 
-  running_own : (o : BoardState) (E F : ℕ → (ℕ → Type 0)) (r : Rig) (c : Cmd) → IsFit E F pins c → IsBlind c → OwnAt Z G n pins j r → OwnAt Z G n pins j (acts_running o r c).rig
+  running_own : (o : BoardState) (E F : ℕ → (ℕ → Type 0)) (r : Rig) (c : Cmd) → IsFitReading E F pins c → IsBlind c → OwnAt Z G n pins j r → OwnAt Z G n pins j (acts_running o r c).rig
   running_own o E F r c fit blind all =
-      each_mine r (acts_running o r c).rig (running_beside o r c).0 all (running_each Mine (λ now a. IsFit E F pins a × IsBlind a) (follows_own E F) o r c (fit, blind) (mine_each r all))
+      each_mine r (acts_running o r c).rig (running_beside o r c).0 all (running_each Mine (λ now a. IsFitReading E F pins a × IsBlind a) (follows_own E F) o r c (fit, blind) (mine_each r all))
 
 -- what is fit for some ticks is fit for more, and for any where it begins no readings
-one_more : (E F G : ℕ → (ℕ → Type 0)) (pins : List (List Level)) → ((now tick : ℕ) → F now tick → G now tick) → (c : Cmd) → IsFit E F pins c → IsFit E G pins c
+one_more : (E F G : ℕ → (ℕ → Type 0)) (pins : List (List Level)) → ((now tick : ℕ) → F now tick → G now tick) → (c : Cmd) → IsFitReading E F pins c → IsFitReading E G pins c
 one_more E F G pins more (cmd.EndstopHome oid clock sample count rest value other reason) fit = (fit.0, λ one pin now tick at done. more now tick (fit.1 one pin now tick at done))
 one_more E F G pins more c fit = fit
 
@@ -125,7 +125,7 @@ pub fits_more : (E F G : ℕ → (ℕ → Type 0)) (pins : List (List Level)) �
 fits_more E F G pins more [] fit = tt
 fits_more E F G pins more (m ∷ ms) fit = (one_more E F G pins more m.command fit.0, fits_more E F G pins more ms fit.1)
 
-one_blind : (E F G : ℕ → (ℕ → Type 0)) (pins : List (List Level)) (c : Cmd) → IsBlind c → IsFit E F pins c → IsFit E G pins c
+one_blind : (E F G : ℕ → (ℕ → Type 0)) (pins : List (List Level)) (c : Cmd) → IsBlind c → IsFitReading E F pins c → IsFitReading E G pins c
 one_blind E F G pins (cmd.EndstopHome oid clock sample count rest value other reason) blind fit = absurd blind
 one_blind E F G pins c blind fit = fit
 
@@ -188,10 +188,10 @@ module _ (Z : Type 0) (E F : ℕ → (ℕ → Type 0)) (G : ℕ → Type 0) (n :
       let q = home r (Some pin) other (Some s) g in
       each_mine Z G n pins j r q refl lit (set_each (Mine Z G n pins j) r q other u refl refl (mine_each Z G n pins j r lit) own_one)
 
-  acts_dim : (o : BoardState) (r : Rig) (c : Cmd) → IsBlind c → IsFit E F pins c → Dark r → Lit (acts_running o r c).rig
+  acts_dim : (o : BoardState) (r : Rig) (c : Cmd) → IsBlind c → IsFitReading E F pins c → Dark r → Lit (acts_running o r c).rig
   acts_dim o r c blind fit k = lit_all (acts_running o r c).rig (running_own ⊥ NoTick n pins j o E F r c fit blind k)
 
-  acts_lit : Z → (o : BoardState) (r : Rig) (c : Cmd) → To r.controller.tick → IsFit E F pins c → AllTrue E AnyTick AnyTick pins r → Dark r → Lit (acts_running o r c).rig
+  acts_lit : Z → (o : BoardState) (r : Rig) (c : Cmd) → To r.controller.tick → IsFitReading E F pins c → AllTrue E AnyTick AnyTick pins r → Dark r → Lit (acts_running o r c).rig
   acts_lit z Running r (cmd.EndstopHome oid clock sample count rest value other reason) to fit all k =
       home_lit z r oid other (slice_index_or r.endstops oid None) (slot_at r other) (record { clock = clock; sample_ticks = sample; sample_count = count; rest_ticks = rest; pin_value = value; reason = reason }) refl refl fit.0 to fit.1 all k
   acts_lit z (Shut why at first) r (cmd.EndstopHome oid clock sample count rest value other reason) to fit all k =
@@ -202,7 +202,7 @@ module _ (Z : Type 0) (E F : ℕ → (ℕ → Type 0)) (G : ℕ → Type 0) (n :
   abbrev pub Stage : List Meant → Rig → Type 0
   Stage ms r = (AreBlind ms × Lit r) ⊎ (Z × (ReadOnce ms × Dark r))
 
-  one_stage : (r : Rig) (m : Meant) (ms : List Meant) → IsBlind m.command ⊎ To r.controller.tick → IsFit E F pins m.command → AllTrue E AnyTick AnyTick pins r → Stage (m ∷ ms) r → Stage ms (takes r m.command).rig
+  one_stage : (r : Rig) (m : Meant) (ms : List Meant) → IsBlind m.command ⊎ To r.controller.tick → IsFitReading E F pins m.command → AllTrue E AnyTick AnyTick pins r → Stage (m ∷ ms) r → Stage ms (takes r m.command).rig
   one_stage r m ms to fit all (inl k) = inl (k.0.1, running_own Z G n pins j r.controller.state E F r m.command fit k.0.0 k.1)
   one_stage r m ms to fit all (inr (z, (inl blind, k))) =
       inl (blind, elim to [ inl none ↦ acts_dim r.controller.state r m.command none fit k | inr at ↦ acts_lit z r.controller.state r m.command at fit all k ])
@@ -246,40 +246,40 @@ module _ (Z : Type 0) (E F : ℕ → (ℕ → Type 0)) (G : ℕ → Type 0) (n :
   -- over steps: what is taken in each begins no readings, or may be taken at the board's tick
   abbrev Times : Core → List Step → Type 0
   Times h [] = Unit {0}
-  Times h (Do v ∷ steps) = (AreBlind (takes_in h v) ⊎ To h.board.controller.tick) × Times (world.happens h v) steps
+  Times h (Do v ∷ steps) = (AreBlind (takes_in h v) ⊎ To h.board.controller.tick) × Times (world.after_event h v) steps
   Times h (Turn turn ∷ steps) = Times (in_turn h turn) steps
 
-  steps_stage : (steps : List Step) (h : Core) (ms more : List Meant) → (run steps h).taken ≡ h.taken ++ ms → AreBlind ms ⊎ Times h steps → AreFit E F pins ms → Stands (ms ++ more) h.board → Stands more (run steps h).board
+  steps_stage : (steps : List Step) (h : Core) (ms more : List Meant) → (run_world steps h).taken ≡ h.taken ++ ms → AreBlind ms ⊎ Times h steps → AreFit E F pins ms → Stands (ms ++ more) h.board → Stands more (run_world steps h).board
   steps_stage [] h ms more e times fit k =
       let none : [] ≡ ms = append_cancel_left h.taken [] ms (append-nil h.taken ∙ e) in
       subst (λ (x : List Meant). Stands (x ++ more) h.board) (sym none) k
   steps_stage (Do v ∷ steps) h ms more e times fit k =
-      let rest = steps_take steps (world.happens h v) in
+      let rest = steps_take steps (world.after_event h v) in
       let same : takes_in h v ++ rest.0 ≡ ms = append_cancel_left h.taken (takes_in h v ++ rest.0) ms (sym (append_assoc h.taken (takes_in h v) rest.0) ∙ sym rest.1 ∙ e) in
       let both = fit_parts E F pins (takes_in h v) rest.0 (subst (λ (x : List Meant). AreFit E F pins x) (sym same) fit) in
       let here : Stands (takes_in h v ++ (rest.0 ++ more)) h.board =
       subst (λ (x : List Meant). Stands x h.board) (ap (λ (x : List Meant). x ++ more) (sym same) ∙ append_assoc (takes_in h v) rest.0 more) k in
       let blind = λ (all : AreBlind ms). blind_parts (takes_in h v) rest.0 (subst AreBlind (sym same) all) in
       let now : AreBlind (takes_in h v) ⊎ To h.board.controller.tick = elim times [ inl all ↦ inl (blind all).0 | inr t ↦ t.0 ] in
-      let then_so : AreBlind rest.0 ⊎ Times (world.happens h v) steps = elim times [ inl all ↦ inl (blind all).1 | inr t ↦ inr t.1 ] in
-      steps_stage steps (world.happens h v) rest.0 more rest.1 then_so both.1 (stage_by h v (rest.0 ++ more) now both.0 here)
+      let then_so : AreBlind rest.0 ⊎ Times (world.after_event h v) steps = elim times [ inl all ↦ inl (blind all).1 | inr t ↦ inr t.1 ] in
+      steps_stage steps (world.after_event h v) rest.0 more rest.1 then_so both.1 (stage_by h v (rest.0 ++ more) now both.0 here)
   steps_stage (Turn turn ∷ steps) h ms more e times fit k = steps_stage steps (in_turn h turn) ms more e times fit k
 
   -- in a turn all is taken as it begins
-  held_times : (steps rest : List Step) (h : Core) → AllHold steps → To h.board.controller.tick → Times (run steps h) rest → Times h (steps ++ rest)
+  held_times : (steps rest : List Step) (h : Core) → AllHold steps → To h.board.controller.tick → Times (run_world steps h) rest → Times h (steps ++ rest)
   held_times [] rest h k to t = t
-  held_times (Do v ∷ steps) rest h k to t = (inr to, held_times steps rest (world.happens h v) k.1 (subst To (sym (tick_held (Do v ∷ []) h (k.0, tt))) to) t)
+  held_times (Do v ∷ steps) rest h k to t = (inr to, held_times steps rest (world.after_event h v) k.1 (subst To (sym (tick_held (Do v ∷ []) h (k.0, tt))) to) t)
   held_times (Turn turn ∷ steps) rest h k to t = held_times steps rest (in_turn h turn) k.1 to t
 
   none_times : (steps : List Step) (h : Core) → AllOf TakesNone steps → Times h steps
   none_times [] h k = tt
   none_times (Do event.Arrive ∷ steps) h k = absurd k.0
   none_times (Do event.Repeat ∷ steps) h k = absurd k.0
-  none_times (Do v ∷ steps) h k = (inl tt, none_times steps (world.happens h v) k.1)
+  none_times (Do v ∷ steps) h k = (inl tt, none_times steps (world.after_event h v) k.1)
   none_times (Turn turn ∷ steps) h k = none_times steps (in_turn h turn) k.1
 
   turn_times : (clock : BoardClock) (turn : ℕ) (o : Orders) (resent : Bool) (l : LinkState)
-      → (steps : List Step) × ((after_replies turn (after_board clock turn (after_host turn o resent l))).core ≡ run steps l.core) × (To l.core.board.controller.tick → Times l.core steps)
+      → (steps : List Step) × ((after_replies turn (after_board clock turn (after_host turn o resent l))).core ≡ run_world steps l.core) × (To l.core.board.controller.tick → Times l.core steps)
   turn_times clock turn o resent l =
       let l1 = after_host turn o resent l in
       let l2 = after_board clock turn l1 in
@@ -289,9 +289,9 @@ module _ (Z : Type 0) (E F : ℕ → (ℕ → Type 0)) (G : ℕ → Type 0) (n :
       let held = all_append Holds host down (host_holds turn o resent) (come_holds Down turn l1.down.copies) in
       let parts = run_append host down l.core in (
         (host ++ down) ++ rest,
-        ap (λ (h : Core). run (come Up turn l2.up.copies) h) (run_append down (Do (event.Pass (board_tick clock (turn + 1))) ∷ []) l1.core)
-            ∙ ap (λ (h : Core). run rest h) (sym parts) ∙ sym (run_append (host ++ down) rest l.core),
-        λ to. held_times (host ++ down) rest l.core held to (none_times rest (run (host ++ down) l.core) (tt, all_come TakesNone Up up_takes_none turn l2.up.copies)),
+        ap (λ (h : Core). run_world (come Up turn l2.up.copies) h) (run_append down (Do (event.Pass (board_tick clock (turn + 1))) ∷ []) l1.core)
+            ∙ ap (λ (h : Core). run_world rest h) (sym parts) ∙ sym (run_append (host ++ down) rest l.core),
+        λ to. held_times (host ++ down) rest l.core held to (none_times rest (run_world (host ++ down) l.core) (tt, all_come TakesNone Up up_takes_none turn l2.up.copies)),
       )
 
   -- what a board takes in each of some turns behind others, of these commands, begins no readings, or may be taken at the tick at which the turn begins
@@ -315,7 +315,7 @@ module _ (Z : Type 0) (E F : ℕ → (ℕ → Type 0)) (G : ℕ → Type 0) (n :
       let l = stands_after first before in
       let turn = are.0.0 in
       let steps = turn_times clock (length before) (orders t.control t.batch) turn.resent l in
-      let core_is : t.after.core ≡ run steps.0 l.core = ap (λ (x : LinkState). x.core) turn.becomes ∙ steps.1 in
+      let core_is : t.after.core ≡ run_world steps.0 l.core = ap (λ (x : LinkState). x.core) turn.becomes ∙ steps.1 in
       let took = steps_take steps.0 l.core in
       let rest = taken_later clock first later past are.1 in
       let h = (stands_after first past).core in

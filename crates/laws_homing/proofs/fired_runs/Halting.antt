@@ -38,7 +38,7 @@ use Rattle.laws_board.proofs.clocks.Ordering.{may_order}
 use Rattle.laws_board.proofs.sections.Lists.{cons_same, cuts}
 use Rattle.laws_board.proofs.orders.Controlled.{few_on}
 use Rattle.laws_homing.specs.home_runs.Guards.{AreCalm, IsCalm}
-use Rattle.laws_homing.specs.home_runs.Sections.{HomesFrom, IsAnswered, IsMoved, IsOf, Moves, SetNoneFrom, queued_by}
+use Rattle.laws_homing.specs.home_runs.Sections.{HomesFrom, GroupAnswers, IsMoved, IsOf, Moves, SetNoneFrom, queued_in_turns}
 use Rattle.laws_homing.specs.home_runs.Stages.{Stage, no_stage, stage_from}
 use Rattle.laws_homing.specs.home_runs.Told.{IsMember}
 use Rattle.laws_homing.proofs.home_runs.Controlling.{first_turn, rest_turn, turn_calm}
@@ -51,7 +51,7 @@ use Rattle.laws_homing.proofs.home_runs.Whole.{OneOnly, Only, brings_calm, only_
 use Rattle.laws_homing.proofs.home_runs.Windows.{ordered_after}
 use Rattle.laws_homing.specs.clear_groups.Resting.{EachTame, IsTame}
 use Rattle.laws_homing.proofs.clear_groups.Known.{answered_late}
-use Rattle.laws_homing.specs.fired_runs.Since.{AreBehind, AreReadTrue, BeginsApart, IsAtRest, IsOff}
+use Rattle.laws_homing.specs.fired_runs.Since.{AreNotAhead, AreReadTrue, BeginsApart, IsAtRest, IsOff}
 use Rattle.laws_board.specs.sections.Finds.{AllSetNot, SetsNot, StepsFindHalted}
 use Rattle.laws_homing.specs.fired_runs.Waiting.{AllStepNot, MoveNone, MoveNoneIn, StepsNot, TookNone}
 use Rattle.laws_homing.proofs.fired_runs.Old.{tame_parts}
@@ -156,7 +156,7 @@ each_plain i j (c ∷ cs) k = (k.0, each_plain i j cs k.1)
 record BoundIn (i j : ℕ) (early turns : List BoardTurn) : Type 0 where
   front : List Meant
   back : List Meant
-  are : queued_by turns ≡ queued_by early ++ (front ++ plain (cmd.StepperStopOnTrigger i j) ∷ back)
+  are : queued_in_turns turns ≡ queued_in_turns early ++ (front ++ plain (cmd.StepperStopOnTrigger i j) ∷ back)
   none : AllStepNot i front
   calm : AreCalm i j back
 
@@ -167,12 +167,12 @@ bound_more i j early turns t k calm =
     record {
       front = k.front;
       back = k.back ++ new;
-      are = ap (λ (x : List Meant). x ++ new) k.are ∙ append_assoc (queued_by early) (k.front ++ stop ∷ k.back) new ∙ ap (λ (x : List Meant). queued_by early ++ x) (append_assoc k.front (stop ∷ k.back) new);
+      are = ap (λ (x : List Meant). x ++ new) k.are ∙ append_assoc (queued_in_turns early) (k.front ++ stop ∷ k.back) new ∙ ap (λ (x : List Meant). queued_in_turns early ++ x) (append_assoc k.front (stop ∷ k.back) new);
       none = k.none;
       calm = calm_both i j k.back new k.calm calm;
     }
 
-bound_now : (i j : ℕ) (early turns : List BoardTurn) (t : BoardTurn) (q : List Meant) → queued_by turns ≡ queued_by early ++ q → AllStepNot i q → AllStepNot i (map plain t.control.commands) → Binds i j t.control.commands → AreCalm i j (units_orders t.batch.units)
+bound_now : (i j : ℕ) (early turns : List BoardTurn) (t : BoardTurn) (q : List Meant) → queued_in_turns turns ≡ queued_in_turns early ++ q → AllStepNot i q → AllStepNot i (map plain t.control.commands) → Binds i j t.control.commands → AreCalm i j (units_orders t.batch.units)
     → BoundIn i j early (t ∷ turns)
 bound_now i j early turns t q e none controls binds units =
     let b = bound_at i j t.control.commands binds in
@@ -184,8 +184,8 @@ bound_now i j early turns t q e none controls binds units =
     record {
       front = q ++ front;
       back = back;
-      are = ap (λ (x : List Meant). x ++ (map plain t.control.commands ++ us)) e ∙ append_assoc (queued_by early) q (map plain t.control.commands ++ us)
-          ∙ ap (λ (x : List Meant). queued_by early ++ x)
+      are = ap (λ (x : List Meant). x ++ (map plain t.control.commands ++ us)) e ∙ append_assoc (queued_in_turns early) q (map plain t.control.commands ++ us)
+          ∙ ap (λ (x : List Meant). queued_in_turns early ++ x)
           (ap (λ (x : List Meant). q ++ (x ++ us)) cut ∙ ap (λ (x : List Meant). q ++ x) (append_assoc front (stop ∷ map plain b.back) us) ∙ sym (append_assoc q front (stop ∷ back)));
       none = step_both i q front none (step_front i front (stop ∷ map plain b.back) (subst (λ (x : List Meant). AllStepNot i x) cut controls));
       calm = calm_both i j (map plain b.back) us (each_plain i j b.back b.calm) units;
@@ -202,8 +202,8 @@ module _ (m : Machine) (v : IsValidMachine m) (switches : List Switch) (pins : L
   Run came turns = IsInRun m switches pins entries b came turns
 
   -- what is queued before the turn in which it is bound
-  queue_not : (came : List Came) (recent early : List BoardTurn) → Run came (recent ++ early) → MoveNoneIn I from (from + 4) (recent ++ early) → length early ≡ from → length recent ≤ 4 → (q : List Meant) × (queued_by (recent ++ early) ≡ queued_by early ++ q) × AllStepNot I q
-  queue_not came [] early r none long few = ([], sym (append-nil (queued_by early)), tt)
+  queue_not : (came : List Came) (recent early : List BoardTurn) → Run came (recent ++ early) → MoveNoneIn I from (from + 4) (recent ++ early) → length early ≡ from → length recent ≤ 4 → (q : List Meant) × (queued_in_turns (recent ++ early) ≡ queued_in_turns early ++ q) × AllStepNot I q
+  queue_not came [] early r none long few = ([], sym (append-nil (queued_in_turns early)), tt)
   queue_not [] (t ∷ recent) early r none long few = absurd r.both
   queue_not (c ∷ before) (t ∷ recent) early r none long few =
       let turns = recent ++ early in
@@ -214,7 +214,7 @@ module _ (m : Machine) (v : IsValidMachine m) (switches : List Switch) (pins : L
       let here = none.0 (omega (arith, size, long)) (omega (arith, size, long, few)) in
       let controls = controls_not I n.homing (length before) t.control.commands (may_order m switches pins entries b c before t turns r) in (
         rest.0 ++ new,
-        ap (λ (x : List Meant). x ++ new) rest.1 ∙ append_assoc (queued_by early) rest.0 new,
+        ap (λ (x : List Meant). x ++ new) rest.1 ∙ append_assoc (queued_in_turns early) rest.0 new,
         step_both I rest.0 new rest.2 (step_both I (map plain t.control.commands) (units_orders t.batch.units) controls (units_not I t.batch.units here)),
       )
 
@@ -264,8 +264,8 @@ moves_among n k (x ∷ xs) (inr q) = inr (moves_among n k xs q)
 
 -- as a group answers
 module _ (m : Machine) (v : IsValidMachine m) (switches : List Switch) (pins : List (List Level)) (entries : List Entry) (b : ℕ) (c : Came) (before : List Came) (turns : List BoardTurn) (h : Homing) (s : ℕ) (r : IsInRun m switches pins entries b before turns)
-    (latest : state_at b c.states ≡ latest_state turns) (a : IsAnswered m switches c before h) (x : IsMoved m b h turns s) (apart : BeginsApart m switches (c ∷ before)) (reads : AreReadTrue m switches b (c ∷ before) turns)
-    (behind : AreBehind m switches b (c ∷ before)) (none : MoveNoneIn (stepper_at m s).oid a.from (a.from + 4) turns) (runs : (stands_after (first_state (board_at m b) pins b entries) turns).core.board.controller.state ≡ Running) where
+    (latest : state_at b c.states ≡ latest_state turns) (a : GroupAnswers m switches c before h) (x : IsMoved m b h turns s) (apart : BeginsApart m switches (c ∷ before)) (reads : AreReadTrue m switches b (c ∷ before) turns)
+    (behind : AreNotAhead m switches b (c ∷ before)) (none : MoveNoneIn (stepper_at m s).oid a.from (a.from + 4) turns) (runs : (stands_after (first_state (board_at m b) pins b entries) turns).core.board.controller.state ≡ Running) where
   abbrev Oid : ℕ
   Oid = (stepper_at m s).oid
 
@@ -292,8 +292,8 @@ module _ (m : Machine) (v : IsValidMachine m) (switches : List Switch) (pins : L
 
   -- what is queued from 251 turns before the start on sets no clock of the stepper
   queue_sets : (came : List Came) (recent early : List BoardTurn) → IsInRun m switches pins entries b came (recent ++ early) → HomesFrom m switches a.from h.start Members came → SetNoneFrom Oid a.from (recent ++ early) → a.from + 3 ≤ length early
-      → (q : List Meant) × (queued_by (recent ++ early) ≡ queued_by early ++ q) × AllSetNot Oid q
-  queue_sets came [] early run homes sets far = ([], sym (append-nil (queued_by early)), tt)
+      → (q : List Meant) × (queued_in_turns (recent ++ early) ≡ queued_in_turns early ++ q) × AllSetNot Oid q
+  queue_sets came [] early run homes sets far = ([], sym (append-nil (queued_in_turns early)), tt)
   queue_sets [] (t ∷ recent) early run homes sets far = absurd run.both
   queue_sets (d ∷ past) (t ∷ recent) early run homes sets far =
       let all = recent ++ early in
@@ -307,50 +307,50 @@ module _ (m : Machine) (v : IsValidMachine m) (switches : List Switch) (pins : L
       let controls = controls_set Oid n.homing h.start (length past) Members t.control.commands of (omega (arith, same, size, far, set_up)) (may_order m switches pins entries b d past t all run) in
       let units = calm_sets Oid Trigger (units_orders t.batch.units) (units_calm Oid Trigger t.batch.units (sets.0 (omega (arith, size, far)))) in (
         rest.0 ++ new,
-        ap (λ (z : List Meant). z ++ new) rest.1 ∙ append_assoc (queued_by early) rest.0 new,
+        ap (λ (z : List Meant). z ++ new) rest.1 ∙ append_assoc (queued_in_turns early) rest.0 new,
         set_both Oid rest.0 new rest.2 (set_both Oid (map plain t.control.commands) (units_orders t.batch.units) controls units),
       )
 
   -- where the command that binds the stepper was taken
   taken_halts : (came : List Came) (early : List BoardTurn) → IsInRun m switches pins entries b came early → ((known_by m switches came).phase ≡ Connecting → ⊥) → Oid < 256 → (front k : List Meant)
-      → (stands_after First turns).core.taken ≡ queued_by early ++ (front ++ Stop ∷ k) → AreCalm Oid Trigger k → IsOff Trigger (stands_after First turns).core.board → IsHalted (board.stepper_at (stands_after First turns).core.board.controller Oid)
+      → (stands_after First turns).core.taken ≡ queued_in_turns early ++ (front ++ Stop ∷ k) → AreCalm Oid Trigger k → IsOff Trigger (stands_after First turns).core.board → IsHalted (board.stepper_at (stands_after First turns).core.board.controller Oid)
   taken_halts came early run open_it small front k took calm off =
       let tail = front ++ Stop ∷ k in
       let left = left_of m v switches pins entries b turns r.turns_are in
       let few : Trigger < 256 = let q = v.steppers_few in omega (arith, few_on b m.steppers, q) in
       let ready = run_ready m switches pins entries b came early s v run open_it x.there x.on in
-      let all : Only Trigger (commands_of (queued_by turns)) = queue_only Trigger turns (run_only m switches pins entries b before turns v r) in
+      let all : Only Trigger (commands_of (queued_in_turns turns)) = queue_only Trigger turns (run_only m switches pins entries b before turns v r) in
       let Is : List Meant → Type 0 = λ l. Only Trigger (commands_of l) in
-      let own : Only Trigger (commands_of (queued_by early ++ tail)) =
+      let own : Only Trigger (commands_of (queued_in_turns early ++ tail)) =
       subst Is took (only_parts Trigger (commands_of (stands_after First turns).core.taken) (commands_of left.0)
       (subst (λ (l : List Cmd). Only Trigger l) (commands_both (stands_after First turns).core.taken left.0) (subst Is (sym left.1) all))).0 in
-      let only = (only_parts Trigger (commands_of (queued_by early)) (commands_of tail) (subst (λ (l : List Cmd). Only Trigger l) (commands_both (queued_by early) tail) own)).1 in
-      let stage = stage_from Oid Trigger no_stage (commands_of (queued_by early)) in
+      let only = (only_parts Trigger (commands_of (queued_in_turns early)) (commands_of tail) (subst (λ (l : List Cmd). Only Trigger l) (commands_both (queued_in_turns early) tail) own)).1 in
+      let stage = stage_from Oid Trigger no_stage (commands_of (queued_in_turns early)) in
       let whole = whole_by Oid Trigger stage (commands_of tail) only ready (binds_of front k calm) in
       let same : stage_from Oid Trigger no_stage (commands_of (stands_after First turns).core.taken) ≡ stage_from Oid Trigger stage (commands_of tail) =
-      ap (λ (l : List Meant). stage_from Oid Trigger no_stage (commands_of l)) took ∙ ap (stage_from Oid Trigger no_stage) (commands_both (queued_by early) tail) ∙ stage_append Oid Trigger no_stage (commands_of (queued_by early)) (commands_of tail) in
+      ap (λ (l : List Meant). stage_from Oid Trigger no_stage (commands_of l)) took ∙ ap (stage_from Oid Trigger no_stage) (commands_both (queued_in_turns early) tail) ∙ stage_append Oid Trigger no_stage (commands_of (queued_in_turns early)) (commands_of tail) in
       let staged = (staged_after (board_at m b) pins b entries turns Oid Trigger small few r.turns_are).staged runs in
       let guarded = staged.bound (ap (λ (y : Stage). y.bound) same ∙ whole.bound) in
       guarded.halted (off guarded.slot guarded.is)
 
   -- where it is left
   left_waits : (came : List Came) (early : List BoardTurn) → IsInRun m switches pins entries b came early → ((known_by m switches came).phase ≡ Connecting → ⊥) → Oid < 256 → (tail front back : List Meant)
-      → (stands_after First turns).core.taken ≡ queued_by early ++ tail → (left_of m v switches pins entries b turns r.turns_are).0 ≡ front ++ Stop ∷ back → IsAtRest Trigger First turns → AllStepNot Oid front → AllSetNot Oid front
+      → (stands_after First turns).core.taken ≡ queued_in_turns early ++ tail → (left_of m v switches pins entries b turns r.turns_are).0 ≡ front ++ Stop ∷ back → IsAtRest Trigger First turns → AllStepNot Oid front → AllSetNot Oid front
       → Waits Oid Trigger (left_of m v switches pins entries b turns r.turns_are).0 (stands_after First turns).core.board
   left_waits came early run open_it small tail front back took are rest none sets =
       let core = (stands_after First turns).core in
       let left = left_of m v switches pins entries b turns r.turns_are in
       let few : Trigger < 256 = let q = v.steppers_few in omega (arith, few_on b m.steppers, q) in
       let ready = run_ready m switches pins entries b came early s v run open_it x.there x.on in
-      let all : Only Trigger (commands_of (queued_by turns)) = queue_only Trigger turns (run_only m switches pins entries b before turns v r) in
+      let all : Only Trigger (commands_of (queued_in_turns turns)) = queue_only Trigger turns (run_only m switches pins entries b before turns v r) in
       let Is : List Meant → Type 0 = λ l. Only Trigger (commands_of l) in
       let both = only_parts Trigger (commands_of core.taken) (commands_of left.0) (subst (λ (l : List Cmd). Only Trigger l) (commands_both core.taken left.0) (subst Is (sym left.1) all)) in
-      let own : Only Trigger (commands_of (queued_by early ++ tail)) = subst Is took both.0 in
-      let only = (only_parts Trigger (commands_of (queued_by early)) (commands_of tail) (subst (λ (l : List Cmd). Only Trigger l) (commands_both (queued_by early) tail) own)).1 in
-      let stage = stage_from Oid Trigger no_stage (commands_of (queued_by early)) in
+      let own : Only Trigger (commands_of (queued_in_turns early ++ tail)) = subst Is took both.0 in
+      let only = (only_parts Trigger (commands_of (queued_in_turns early)) (commands_of tail) (subst (λ (l : List Cmd). Only Trigger l) (commands_both (queued_in_turns early) tail) own)).1 in
+      let stage = stage_from Oid Trigger no_stage (commands_of (queued_in_turns early)) in
       let now = ready_on Oid Trigger stage (commands_of tail) only ready in
       let same : stage_from Oid Trigger no_stage (commands_of core.taken) ≡ stage_from Oid Trigger stage (commands_of tail) =
-      ap (λ (l : List Meant). stage_from Oid Trigger no_stage (commands_of l)) took ∙ ap (stage_from Oid Trigger no_stage) (commands_both (queued_by early) tail) ∙ stage_append Oid Trigger no_stage (commands_of (queued_by early)) (commands_of tail) in
+      ap (λ (l : List Meant). stage_from Oid Trigger no_stage (commands_of l)) took ∙ ap (stage_from Oid Trigger no_stage) (commands_both (queued_in_turns early) tail) ∙ stage_append Oid Trigger no_stage (commands_of (queued_in_turns early)) (commands_of tail) in
       let staged = (staged_after (board_at m b) pins b entries turns Oid Trigger small few r.turns_are).staged runs in
       let slot = staged.there (ap (λ (y : Stage). y.there) same ∙ now.there) in
       let same_left : rest.left ≡ left.0 = append_cancel_left core.taken rest.left left.0 (rest.rest ∙ all_queued (board_at m b) pins b entries turns r.turns_are ∙ sym left.1) in
@@ -397,18 +397,18 @@ module _ (m : Machine) (v : IsValidMachine m) (switches : List Switch) (pins : L
         | inr p ↦
             let q = queue_later (p.0 ∷ p.1) early in
             let tail = fired.front ++ fired.begin ∷ fired.more in
-            let took : taken ≡ queued_by early ++ (q.0 ++ tail) = fired.took ∙ ap (λ (l : List Meant). l ++ tail) (ap queued_by p.3 ∙ q.1) ∙ append_assoc (queued_by early) q.0 tail in
+            let took : taken ≡ queued_in_turns early ++ (q.0 ++ tail) = fired.took ∙ ap (λ (l : List Meant). l ++ tail) (ap queued_in_turns p.3 ∙ q.1) ∙ append_assoc (queued_in_turns early) q.0 tail in
             let cut_queue : (q.0 ++ tail) ++ left.0 ≡ bound.front ++ Stop ∷ bound.back =
-            append_cancel_left (queued_by early) ((q.0 ++ tail) ++ left.0) (bound.front ++ Stop ∷ bound.back)
-            (sym (append_assoc (queued_by early) (q.0 ++ tail) left.0) ∙ ap (λ (l : List Meant). l ++ left.0) (sym took) ∙ left.1 ∙ ap queued_by cut.2 ∙ bound.are) in
+            append_cancel_left (queued_in_turns early) ((q.0 ++ tail) ++ left.0) (bound.front ++ Stop ∷ bound.back)
+            (sym (append_assoc (queued_in_turns early) (q.0 ++ tail) left.0) ∙ ap (λ (l : List Meant). l ++ left.0) (sym took) ∙ left.1 ∙ ap queued_in_turns cut.2 ∙ bound.are) in
             elim (cuts (q.0 ++ tail) left.0 bound.front (Stop ∷ bound.back) cut_queue) [
               | inl y ↦
                   let steps = subst (λ (l : List Meant). AllStepNot Oid l) y.1 bound.none in
                   let over : IsInRun m switches pins entries b before (fired.later ++ fired.early) = subst (λ (l : List BoardTurn). IsInRun m switches pins entries b before l) fired.are r in
                   let late_sets = queue_sets before fired.later fired.early over a.since (subst (λ (l : List BoardTurn). SetNoneFrom Oid a.from l) fired.are sets) (omega (arith, at, set_up)) in
                   let queue : tail ++ left.0 ≡ late_sets.0 =
-                  append_cancel_left (queued_by fired.early) (tail ++ left.0) late_sets.0
-                  (sym (append_assoc (queued_by fired.early) tail left.0) ∙ ap (λ (l : List Meant). l ++ left.0) (sym fired.took) ∙ left.1 ∙ ap queued_by fired.are ∙ late_sets.1) in
+                  append_cancel_left (queued_in_turns fired.early) (tail ++ left.0) late_sets.0
+                  (sym (append_assoc (queued_in_turns fired.early) tail left.0) ∙ ap (λ (l : List Meant). l ++ left.0) (sym fired.took) ∙ left.1 ∙ ap queued_in_turns fired.are ∙ late_sets.1) in
                   let set_left = (set_parts Oid tail left.0 (subst (λ (l : List Meant). AllSetNot Oid l) (sym queue) late_sets.2)).1 in
                   let set_front = (set_parts Oid y.0 (Stop ∷ bound.back) (subst (λ (l : List Meant). AllSetNot Oid l) y.2 set_left)).0 in
                   inr (
@@ -418,7 +418,7 @@ module _ (m : Machine) (v : IsValidMachine m) (switches : List Switch) (pins : L
               | inr y ↦
                   let heads = cons_same Stop y.0 bound.back (y.1 ++ left.0) y.3 in
                   let calm = (calm_parts Oid Trigger y.1 left.0 (subst (λ (l : List Meant). AreCalm Oid Trigger l) heads.1 bound.calm)).0 in
-                  let whole : taken ≡ queued_by early ++ (bound.front ++ Stop ∷ y.1) = took ∙ ap (λ (l : List Meant). queued_by early ++ l) (y.2 ∙ ap (λ (z : Meant). bound.front ++ z ∷ y.1) (sym heads.0)) in
+                  let whole : taken ≡ queued_in_turns early ++ (bound.front ++ Stop ∷ y.1) = took ∙ ap (λ (l : List Meant). queued_in_turns early ++ l) (y.2 ∙ ap (λ (z : Meant). bound.front ++ z ∷ y.1) (sym heads.0)) in
                   inl (taken_halts open_at.0 early open_at.1 open_at.2 small bound.front y.1 whole calm fired.at_rest.off)
             ]
       ]

@@ -31,7 +31,7 @@ use Rattle.laws_board.specs.clocks.Runs.{IsInRun}
 use Rattle.laws_board.proofs.clocks.Lines.{run_before}
 use Rattle.laws_board.proofs.sections.Lists.{cons_same}
 use Rattle.laws_homing.specs.home_runs.Guards.{AreCalm, StandsFired}
-use Rattle.laws_homing.specs.home_runs.Sections.{HomesFrom, SetNoneFrom, TakesSetUp, queued_by}
+use Rattle.laws_homing.specs.home_runs.Sections.{HomesFrom, SetNoneFrom, TakesSetUp, queued_in_turns}
 use Rattle.laws_homing.specs.home_runs.Settled.{SetNoClockFrom}
 use Rattle.laws_homing.specs.home_runs.Windows.{BringCalm, HasAnswer, IsFired, IsWatched, SayFired}
 use Rattle.laws_homing.proofs.home_runs.Firing.{calm_both, calm_parts}
@@ -55,12 +55,12 @@ tells_fired oid reason clock (n ∷ news) (inl same) = inl (subst IsFired (sym s
 tells_fired oid reason clock (n ∷ news) (inr told) = inr (tells_fired oid reason clock news told)
 
 -- what was queued behind some turns
-late_queue : (j : ℕ) (late past : List BoardTurn) → (queue : List Meant) × (queued_by (late ++ past) ≡ queued_by past ++ queue) × (BringCalm 0 j late → AreCalm 0 j queue)
-late_queue j [] past = ([], sym (append-nil (queued_by past)), λ k. tt)
+late_queue : (j : ℕ) (late past : List BoardTurn) → (queue : List Meant) × (queued_in_turns (late ++ past) ≡ queued_in_turns past ++ queue) × (BringCalm 0 j late → AreCalm 0 j queue)
+late_queue j [] past = ([], sym (append-nil (queued_in_turns past)), λ k. tt)
 late_queue j (t ∷ late) past =
     let rest = late_queue j late past in
     let new = queued_in (orders t.control t.batch) in
-    (rest.0 ++ new, ap (λ (l : List Meant). l ++ new) rest.1 ∙ append_assoc (queued_by past) rest.0 new, λ k. calm_both 0 j rest.0 new (rest.2 k.1) k.0)
+    (rest.0 ++ new, ap (λ (l : List Meant). l ++ new) rest.1 ∙ append_assoc (queued_in_turns past) rest.0 new, λ k. calm_both 0 j rest.0 new (rest.2 k.1) k.0)
 
 -- earlier turns of a run
 record Moment (m : Machine) (switches : List Switch) (pins : List (List Level)) (entries : List Entry) (b from start : ℕ) (ms : List Member) (turns : List BoardTurn) : Type 0 where
@@ -79,7 +79,7 @@ moment m switches pins entries b from start ms (c ∷ before) (t ∷ window) pas
 -- behind a turn by which the set-up was taken the trigger stands as it is told
 module _ (m : Machine) (v : IsValidMachine m) (switches : List Switch) (pins : List (List Level)) (entries : List Entry) (b : ℕ) (before : List Came) (t : BoardTurn) (w late past : List BoardTurn) (from start : ℕ) (ms : List Member) (more : List Meant)
     (r : IsInRun m switches pins entries b before (t ∷ (w ++ (late ++ past)))) (since : HomesFrom m switches from start ms before) (begins : from + 254 ≡ start) (none : SetNoneFrom 0 from (t ∷ (w ++ (late ++ past)))) (soon : start ≤ length past + 249)
-    (took : queued_by past ++ more ≡ (stands_after (first_state (board_at m b) pins b entries) (late ++ past)).core.taken) (quiet : (stands_after (first_state (board_at m b) pins b entries) (late ++ past)).core.link.up ≡ [])
+    (took : queued_in_turns past ++ more ≡ (stands_after (first_state (board_at m b) pins b entries) (late ++ past)).core.taken) (quiet : (stands_after (first_state (board_at m b) pins b entries) (late ++ past)).core.link.up ≡ [])
     (runs : (stands_after (first_state (board_at m b) pins b entries) (t ∷ (w ++ (late ++ past)))).core.board.controller.state ≡ Running) where
   abbrev First : LinkState
   First = first_state (board_at m b) pins b entries
@@ -106,8 +106,8 @@ module _ (m : Machine) (v : IsValidMachine m) (switches : List Switch) (pins : L
       let j = trigger_of m b in
       let parts = late_queue j late past in
       let both : more ++ left_mid ≡ parts.0 =
-      append_cancel_left (queued_by past) (more ++ left_mid) parts.0
-      (sym (append_assoc (queued_by past) more left_mid) ∙ ap (λ (y : List Meant). y ++ left_mid) took ∙ rest_mid ∙ all_queued (board_at m b) pins b entries Mid x.run.turns_are ∙ parts.1) in
+      append_cancel_left (queued_in_turns past) (more ++ left_mid) parts.0
+      (sym (append_assoc (queued_in_turns past) more left_mid) ∙ ap (λ (y : List Meant). y ++ left_mid) took ∙ rest_mid ∙ all_queued (board_at m b) pins b entries Mid x.run.turns_are ∙ parts.1) in
       let calm = run_calm m switches pins entries b x.came late past 0 j from start ms x.run x.homes x.none (omega (arith, begins, soon)) (omega (arith, soon)) in
       (calm_parts 0 j more left_mid (subst (λ (l : List Meant). AreCalm 0 j l) (sym both) (parts.2 calm))).1
 

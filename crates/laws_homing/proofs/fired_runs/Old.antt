@@ -12,7 +12,7 @@ use Rattle.board_sim.specs.Fair.{Meant, commands_of}
 use Rattle.board_sim.specs.Rig.{Rig, Slot, passes, slot_at, takes_all}
 use Rattle.board_world.specs.declared.event.Event.{Event}
 use Rattle.board_world.specs.declared.event.Event.TheVariants as event
-use Rattle.board_world.specs.World.{Core, Step, Do, Turn, does, in_turn, run, takes_in}
+use Rattle.board_world.specs.World.{Core, Step, Do, Turn, does, in_turn, run_world, takes_in}
 use Rattle.board_world.specs.World as world
 use Rattle.link_work.specs.Stands.{orders}
 use Rattle.link_work.specs.Turn.{LinkState}
@@ -99,13 +99,13 @@ old_by j most h event.Garble some k all = all
 old_by j most h event.Reply some k all = all
 old_by j most h event.LoseReply some k all = all
 
-steps_old : (j most : ℕ) (steps : List Step) (h : Core) (ms : List Meant) → 0 < most → (run steps h).taken ≡ h.taken ++ ms → EachTame (commands_of ms) → OldAt j most h.board → OldAt j most (run steps h).board
+steps_old : (j most : ℕ) (steps : List Step) (h : Core) (ms : List Meant) → 0 < most → (run_world steps h).taken ≡ h.taken ++ ms → EachTame (commands_of ms) → OldAt j most h.board → OldAt j most (run_world steps h).board
 steps_old j most [] h ms some e k all = all
 steps_old j most (Do v ∷ steps) h ms some e k all =
-    let rest = steps_take steps (world.happens h v) in
+    let rest = steps_take steps (world.after_event h v) in
     let same : takes_in h v ++ rest.0 ≡ ms = append_cancel_left h.taken (takes_in h v ++ rest.0) ms (sym (append_assoc h.taken (takes_in h v) rest.0) ∙ sym rest.1 ∙ e) in
     let both = tame_parts (takes_in h v) rest.0 (subst (λ (x : List Meant). EachTame (commands_of x)) (sym same) k) in
-    steps_old j most steps (world.happens h v) rest.0 some rest.1 both.1 (old_by j most h v some both.0 all)
+    steps_old j most steps (world.after_event h v) rest.0 some rest.1 both.1 (old_by j most h v some both.0 all)
 steps_old j most (Turn turn ∷ steps) h ms some e k all = steps_old j most steps (in_turn h turn) ms some e k all
 
 -- and turns in which the board takes these commands

@@ -24,7 +24,7 @@ use Rattle.trigger_group.specs.declared.order.Order.TheVariants as order
 use Rattle.trigger_group.specs.declared.round.Phase.{Phase}
 use Rattle.trigger_group.specs.declared.round.Round.TheVariants.{Starts}
 use Rattle.trigger_group.specs.declared.seen.Seen.{Seen}
-use Rattle.trigger_group.specs.Group.{first_timeout, orders_in, orders_to, round_of, steppers, stop}
+use Rattle.trigger_group.specs.Group.{first_timeout, orders_of_group, orders_to, round_of, steppers, stop}
 use Rattle.trigger_group.specs.Kept.{BoardsRise}
 use Rattle.axis_homing.specs.declared.homing.Homing.{Homing}
 use Rattle.axis_homing.specs.Homing.{by_answer, commands_to, hears_all, homing_turn, low, order_command}
@@ -36,7 +36,7 @@ use Rattle.host_reactor.specs.declared.ordered.Known.{Known}
 use Rattle.host_reactor.specs.declared.ordered.Phase.TheVariants.{Connecting}
 use Rattle.host_reactor.specs.Notes.{noted}
 use Rattle.host_reactor.specs.Reactor.{Reacted, homing_commands, stop_command, stops}
-use Rattle.host_reactor.specs.Runs.{Came, known_by, last_turn}
+use Rattle.host_reactor.specs.Runs.{Came, known_by, last_reacted}
 use Rattle.laws_board.specs.turns.Turns.{BoardTurn}
 use Rattle.laws_board.specs.clocks.Runs.{IsInRun}
 use Rattle.laws_board.proofs.clocks.Controls.{states_start}
@@ -134,7 +134,7 @@ homing_once m all states own b k h together e rise is =
     let members = members_states all 0 h.start states h.group in
     let begins : g.group.start ≡ k + 251 = states_start all 0 h.start states h.group ∙ together ∙ e in
     let By : Option End → Type 0 = λ o. So (homing_commands m (by_answer k g o) own b) in
-    let In : Phase → Type 0 = λ p. So (commands_to m own b g.start (axis_at m g.axis) (orders_in p g.group k)) in
+    let In : Phase → Type 0 = λ p. So (commands_to m own b g.start (axis_at m g.axis) (orders_of_group p g.group k)) in
     subst By (sym (not_yet k g.start g.group (omega (arith, e))))
     (subst In (sym (phase_starts g.group.start g.group.last k begins))
     (round_once m own b g.start (axis_at m g.axis) (first_timeout g.group.start g.group.last) g.group.members (subst BoardsRise (sym members) rise) (subst (IsMember b) (sym members) is)))
@@ -191,7 +191,7 @@ turn_started m switches pins entries b c before t turns h r n is together e amon
     let now = noted m c.note known in
     let start = StartOf m b (clocks_at now.clocks b) h.start in
     let rises : HomingRises (Some h) = subst HomingRises is (noted_rises m c.note known (known_rises m switches before r.goes_on.1)) in
-    let once = control_once m b c now (length before) x.a (last_turn m switches c before) t h n is x.turned (λ own. homing_once m now.clocks c.states own b (length before) h together e rises among) in
+    let once = control_once m b c now (length before) x.a (last_reacted m switches c before) t h n is x.turned (λ own. homing_once m now.clocks c.states own b (length before) h together e rises among) in
     once_split start (trigger_of m b) (queued_in (orders t.control t.batch))
     (subst (λ (cs : List Cmd). StartsOnce start (trigger_of m b) cs) (sym (turn_commands t)) (once_front start (trigger_of m b) t.control.commands (commands_of (units_orders t.batch.units)) once (units_tame t.batch.units)))
 

@@ -30,13 +30,13 @@ use Rattle.trigger_group.specs.declared.round.Phase.{Phase}
 use Rattle.trigger_group.specs.declared.round.Phase.TheVariants.{Goes, Rests, Sends}
 use Rattle.trigger_group.specs.declared.seen.Fired.{Fired}
 use Rattle.trigger_group.specs.declared.seen.Seen.{Seen}
-use Rattle.trigger_group.specs.Group.{GroupState, after_in, all_fired, answer, came, ended, expired, first, first_expired, first_switched, has_fired, hears, hears_from, later, new_group, or_else, or_none, phase, switched, unseen}
+use Rattle.trigger_group.specs.Group.{GroupState, after_in, all_fired, answer, came, ended, expired, first_fired, first_expired, first_switched, has_fired, member_hears, hears_from, later, new_group, or_else, or_none, phase, switched, unseen}
 use Rattle.trigger_group.specs.Kept.{may_be}
 use Rattle.axis_homing.specs.declared.homing.Homing.{Homing}
 use Rattle.axis_homing.specs.Homing.{answer_in, came_at, goes_on_homing, hears_all, hears_answer, hears_news, hears_state, hears_states, homing_after, homing_of, homing_with, members_from, moving_on}
 use Rattle.axis_homing.specs.Rising.{members_of}
 use Rattle.host_reactor.specs.declared.ordered.Known.{Known}
-use Rattle.host_reactor.specs.Notes.{noted, told, told_all}
+use Rattle.host_reactor.specs.Notes.{noted, known_behind, told_all}
 use Rattle.host_reactor.specs.Reactor.{Reacted}
 use Rattle.host_reactor.specs.Runs.{Came, GoesOn, known_by, state_at}
 use Rattle.session_work.specs.Rows.{item}
@@ -87,18 +87,18 @@ each_more W V own (x ∷ xs) more h = ((λ f e. more x.member.board f (h.0.0 f e
 abbrev now_of : ℕ → ℕ → ℕ → Fired
 now_of reason at when = record { reason = reason; tick = at; turn = when }
 
-first_so : (W : ℕ → Fired → Type 0) (b : ℕ) (now : Fired) (o : Option Fired) → W b now → ((f : Fired) → o ≡ Some f → W b f) → (f : Fired) → Some (first o now) ≡ Some f → W b f
+first_so : (W : ℕ → Fired → Type 0) (b : ℕ) (now : Fired) (o : Option Fired) → W b now → ((f : Fired) → o ≡ Some f → W b f) → (f : Fired) → Some (first_fired o now) ≡ Some f → W b f
 first_so W b now None new given f e = let same : now ≡ f = cc in subst (W b) same new
 first_so W b now (Some old) new given f e = given f e
 
 can_one : (W : ℕ → Fired → Type 0) (own reason at when : ℕ) (x : Seen) (can : Bool) → (can ≡ false → W x.member.board (now_of reason at when)) → One W own x
-    → One W own (cond can (record x { heard = Some (later x.heard when) }) (record x { fired = Some (first x.fired (now_of reason at when)) }))
+    → One W own (cond can (record x { heard = Some (later x.heard when) }) (record x { fired = Some (first_fired x.fired (now_of reason at when)) }))
 can_one W own reason at when x true new given = given
 can_one W own reason at when x false new given = (first_so W x.member.board (now_of reason at when) x.fired (new refl) given.0, given.1)
 
 from_one : (W : ℕ → Fired → Type 0) (own b : ℕ) (s : TrigState) (at when : ℕ) (x : Seen) → (s.can ≡ false → W b (now_of s.reason at when)) → One W own x → One W own (hears_from b s at when x)
 from_one W own b s at when x new given =
-    let At : Bool → Type 0 = λ z. One W own (cond z (hears s at when x) x) in
+    let At : Bool → Type 0 = λ z. One W own (cond z (member_hears s at when x) x) in
     elim (eqb_tells x.member.board b) [
       | inl p ↦ subst At (sym p.0) (can_one W own s.reason at when x s.can (λ e. subst (λ (i : ℕ). W i (now_of s.reason at when)) (sym p.1) (new e)) given)
       | inr p ↦ subst At (sym p.0) given
@@ -245,7 +245,7 @@ begun_knows m switches came section (Home axis) turn last moving =
     let ms = members_from m (axis_at m axis) moving 0 m.boards in
     begun_if (may_be (map unseen ms) turn last) m switches came section axis turn last moving
 
-told_knows : (m : Machine) (switches : List Switch) (came : List Came) (r : Known) (n : NoteNews) → Knows m switches came r.homing → Knows m switches came (told m r n).homing
+told_knows : (m : Machine) (switches : List Switch) (came : List Came) (r : Known) (n : NoteNews) → Knows m switches came r.homing → Knows m switches came (known_behind m r n).homing
 told_knows m switches came r (news.Start section kind turn last moving) k = begun_knows m switches came section kind turn last moving
 told_knows m switches came r (news.Done section turn) k = k
 told_knows m switches came r (news.Read x sections) k = k
@@ -253,7 +253,7 @@ told_knows m switches came r (news.Line board line from) k = k
 
 all_knows : (m : Machine) (switches : List Switch) (came : List Came) (ns : List NoteNews) (r : Known) → Knows m switches came r.homing → Knows m switches came (told_all m ns r).homing
 all_knows m switches came [] r k = k
-all_knows m switches came (n ∷ ns) r k = all_knows m switches came ns (told m r n) (told_knows m switches came r n k)
+all_knows m switches came (n ∷ ns) r k = all_knows m switches came ns (known_behind m r n) (told_knows m switches came r n k)
 
 noted_knows : (m : Machine) (switches : List Switch) (came : List Came) (note : Option Note) (r : Known) → Knows m switches came r.homing → Knows m switches came (noted m note r).homing
 noted_knows m switches came None r k = k

@@ -23,7 +23,7 @@ use Rattle.trigger_group.specs.declared.order.End.{End}
 use Rattle.trigger_group.specs.declared.order.Member.{Member}
 use Rattle.trigger_group.specs.declared.seen.Fired.{Fired}
 use Rattle.trigger_group.specs.declared.seen.Seen.{Seen}
-use Rattle.trigger_group.specs.Group.{after}
+use Rattle.trigger_group.specs.Group.{turned_group}
 use Rattle.trigger_group.proofs.Knows.{after_members, after_start}
 use Rattle.axis_homing.specs.declared.homing.Homing.{Homing}
 use Rattle.axis_homing.specs.Homing.{answer_in, goes_on_homing, hears_all, homing_after}
@@ -38,7 +38,7 @@ use Rattle.laws_board.specs.clocks.Runs.{IsInRun}
 use Rattle.laws_board.proofs.clocks.Lines.{as_long, noted_phase, run_before}
 use Rattle.laws_board.proofs.clocks.Turning.{goes}
 use Rattle.laws_board.proofs.sections.Lists.{cons_same, cuts}
-use Rattle.laws_homing.specs.home_runs.Sections.{HomesFrom, IsOf, queued_by}
+use Rattle.laws_homing.specs.home_runs.Sections.{HomesFrom, IsOf, queued_in_turns}
 use Rattle.laws_homing.specs.home_runs.Told.{IsMember}
 use Rattle.laws_homing.proofs.home_runs.Controlling.{not_yet}
 use Rattle.laws_homing.proofs.home_runs.Grouped.{members_states}
@@ -56,19 +56,19 @@ use Rattle.laws_homing.proofs.clear_groups.Plain.{none_at, none_some}
 use Rattle.laws_homing.proofs.clear_groups.Resting.{Together, clash, known_together, newly_together, next_of, some_same, taken_tame, heard_together}
 use Rattle.laws_homing.proofs.clear_groups.Starting.{member_or_not, starts_either}
 use Rattle.laws_homing.specs.missed_groups.Ticks.{IsReader}
-use Rattle.laws_homing.specs.fired_runs.Since.{AreBehind, AreRead, AreReadTrue, BeginsApart, HasFiredSince, IsAtRest, IsFiredAt, IsOff, IsStart, ReadsSwitchTrue, ReadsTrue, WasFiredAt}
+use Rattle.laws_homing.specs.fired_runs.Since.{AreNotAhead, AreSoInTurns, AreReadTrue, BeginsApart, HasFiredSince, IsAtRest, IsFiredAt, IsOff, IsStart, ReadsSwitchTrue, ReadsTrue, WasFiredAt}
 use Rattle.laws_homing.proofs.fired_runs.Old.{OldAt, tame_both, tame_parts, turns_old}
 use Rattle.laws_homing.proofs.fired_runs.Once.{turn_split}
 use Rattle.laws_homing.proofs.fired_runs.Reported.{before_start, member_told, sole_state}
 use Rattle.laws_homing.proofs.fired_runs.Under.{under_after}
 
 -- what is queued behind some turns
-unfoldable pub queue_later : (later past : List BoardTurn) → (q : List Meant) × (queued_by (later ++ past) ≡ queued_by past ++ q)
-queue_later [] past = ([], sym (append-nil (queued_by past)))
+unfoldable pub queue_later : (later past : List BoardTurn) → (q : List Meant) × (queued_in_turns (later ++ past) ≡ queued_in_turns past ++ q)
+queue_later [] past = ([], sym (append-nil (queued_in_turns past)))
 queue_later (t ∷ later) past =
     let rest = queue_later later past in
     let new = queued_in (orders t.control t.batch) in
-    (rest.0 ++ new, ap (λ (l : List Meant). l ++ new) rest.1 ∙ append_assoc (queued_by past) rest.0 new)
+    (rest.0 ++ new, ap (λ (l : List Meant). l ++ new) rest.1 ∙ append_assoc (queued_in_turns past) rest.0 new)
 
 -- where a trigger was fired
 pub was_at : (first : LinkState) (j reason tick : ℕ) (turns : List BoardTurn) → WasFiredAt j reason tick turns → (later x : List BoardTurn) × (turns ≡ later ++ x) × IsFiredAt j reason tick (stands_after first x).core.board
@@ -95,8 +95,8 @@ module _ (m : Machine) (switches : List Switch) (pins : List (List Level)) (entr
   of_some None of = absurd of
   of_some (Some h) of = (h, refl, of.0, of.2)
 
-  pub read_now : (c : Came) (before : List Came) (turns : List BoardTurn) → IsInRun m switches pins entries b before turns → state_at b c.states ≡ latest_state turns → HomesFrom m switches from start ms (c ∷ before) → AreRead R (c ∷ before) turns
-      → AreBehind m switches b (c ∷ before) → IsReport m switches b start f c before → Read m b start f W turns
+  pub read_now : (c : Came) (before : List Came) (turns : List BoardTurn) → IsInRun m switches pins entries b before turns → state_at b c.states ≡ latest_state turns → HomesFrom m switches from start ms (c ∷ before) → AreSoInTurns R (c ∷ before) turns
+      → AreNotAhead m switches b (c ∷ before) → IsReport m switches b start f c before → Read m b start f W turns
   read_now c before [] r latest homes reads behind x = absurd (let came = x.came in cc)
   read_now c before (t ∷ earlier) r latest homes reads behind x =
       let lines = clocks_at (noted m c.note (known_by m switches before)).clocks b in
@@ -117,8 +117,8 @@ module _ (m : Machine) (switches : List Switch) (pins : List (List Level)) (entr
         ];
       }
 
-  pub was_read : (c : Came) (before : List Came) (turns : List BoardTurn) → IsInRun m switches pins entries b before turns → state_at b c.states ≡ latest_state turns → HomesFrom m switches from start ms (c ∷ before) → AreRead R (c ∷ before) turns
-      → AreBehind m switches b (c ∷ before) → WasReported m switches b start f (c ∷ before) → Read m b start f W turns
+  pub was_read : (c : Came) (before : List Came) (turns : List BoardTurn) → IsInRun m switches pins entries b before turns → state_at b c.states ≡ latest_state turns → HomesFrom m switches from start ms (c ∷ before) → AreSoInTurns R (c ∷ before) turns
+      → AreNotAhead m switches b (c ∷ before) → WasReported m switches b start f (c ∷ before) → Read m b start f W turns
   was_read c before turns r latest homes reads behind (inl now) = read_now c before turns r latest homes reads behind now
   was_read c [] turns r latest homes reads behind (inr old) = absurd old
   was_read c (d ∷ before) [] r latest homes reads behind (inr old) = absurd r.both
@@ -128,14 +128,14 @@ module _ (m : Machine) (switches : List Switch) (pins : List (List Level)) (entr
 
 -- of a member; and of the board with the endstop, that readings triggered its trigger
 fired_read : (m : Machine) (switches : List Switch) (pins : List (List Level)) (entries : List Entry) (b from start : ℕ) (ms : List Member) (f : Fired) (c : Came) (before : List Came) (turns : List BoardTurn) → IsInRun m switches pins entries b before turns
-    → state_at b c.states ≡ latest_state turns → HomesFrom m switches from start ms (c ∷ before) → from < start → IsMember b ms → AreReadTrue m switches b (c ∷ before) turns → AreBehind m switches b (c ∷ before) → WasReported m switches b start f (c ∷ before)
+    → state_at b c.states ≡ latest_state turns → HomesFrom m switches from start ms (c ∷ before) → from < start → IsMember b ms → AreReadTrue m switches b (c ∷ before) turns → AreNotAhead m switches b (c ∷ before) → WasReported m switches b start f (c ∷ before)
     → Read m b start f (λ (z : List BoardTurn). (reason : ℕ) × WasFiredAt (trigger_of m b) reason f.tick z) turns
 fired_read m switches pins entries b from start ms f c before turns r latest homes low member reads behind told =
     was_read m switches pins entries b from start ms low f (ReadsTrue m switches b) (λ (z : List BoardTurn). (reason : ℕ) × WasFiredAt (trigger_of m b) reason f.tick z) (λ t ts w. (w.0, inr w.1))
     (λ d past ts h is members read x. read h f is (subst (IsMember b) (sym members) member) x) c before turns r latest homes reads behind told
 
 pub switch_read : (m : Machine) (switches : List Switch) (pins : List (List Level)) (entries : List Entry) (b from start : ℕ) (ms : List Member) (f : Fired) (c : Came) (before : List Came) (turns : List BoardTurn) → IsInRun m switches pins entries b before turns
-    → state_at b c.states ≡ latest_state turns → HomesFrom m switches from start ms (c ∷ before) → from < start → IsReader b ms → f.reason ≡ 1 → AreRead (ReadsSwitchTrue m switches b) (c ∷ before) turns → AreBehind m switches b (c ∷ before)
+    → state_at b c.states ≡ latest_state turns → HomesFrom m switches from start ms (c ∷ before) → from < start → IsReader b ms → f.reason ≡ 1 → AreSoInTurns (ReadsSwitchTrue m switches b) (c ∷ before) turns → AreNotAhead m switches b (c ∷ before)
     → WasReported m switches b start f (c ∷ before) → Read m b start f (WasFiredAt (trigger_of m b) 1 f.tick) turns
 switch_read m switches pins entries b from start ms f c before turns r latest homes low reader one reads behind told =
     was_read m switches pins entries b from start ms low f (ReadsSwitchTrue m switches b) (WasFiredAt (trigger_of m b) 1 f.tick) (λ t ts w. inr w)
@@ -176,7 +176,7 @@ module _ (m : Machine) (v : IsValidMachine m) (switches : List Switch) (pins : L
       board_rises (clock_of (board_at m b)) k valid.freq (drift_small (board_at m b).drift valid.drift_low valid.drift_high)
 
   -- what is left of the queue
-  pub left_of : (turns : List BoardTurn) → Turns turns → (left : List Meant) × (Taken turns ++ left ≡ queued_by turns)
+  pub left_of : (turns : List BoardTurn) → Turns turns → (left : List Meant) × (Taken turns ++ left ≡ queued_in_turns turns)
   left_of turns are =
       let core = (stands_after First turns).core in
       let o = ordered_after (board_at m b) pins b entries turns are in
@@ -197,7 +197,7 @@ module _ (m : Machine) (v : IsValidMachine m) (switches : List Switch) (pins : L
   fired_off reason tick turns f s at = subst (λ (x : Slot). x.trigger.can ≡ false) (one_slot (slot_at (Board turns) Oid) f.slot s f.is at) f.fired
 
   -- at rest over turns that bring no start
-  rests_on : (came : List Came) (later past : List BoardTurn) (q : List Meant) → Run came (later ++ past) → queued_by (later ++ past) ≡ queued_by past ++ q → EachTame (commands_of q) → IsAtRest Oid First past → IsAtRest Oid First (later ++ past)
+  rests_on : (came : List Came) (later past : List BoardTurn) (q : List Meant) → Run came (later ++ past) → queued_in_turns (later ++ past) ≡ queued_in_turns past ++ q → EachTame (commands_of q) → IsAtRest Oid First past → IsAtRest Oid First (later ++ past)
   rests_on came later past q r e tame k =
       let clock = clock_of (board_at m b) in
       let are = r.turns_are in
@@ -225,7 +225,7 @@ module _ (m : Machine) (v : IsValidMachine m) (switches : List Switch) (pins : L
     front : List Meant
     begin : Meant
     more : List Meant
-    queue : queued_by (later ++ early) ≡ queued_by early ++ (front ++ begin ∷ more)
+    queue : queued_in_turns (later ++ early) ≡ queued_in_turns early ++ (front ++ begin ∷ more)
     starts : IsStart begin.command
     before : EachTame (commands_of front)
     behind : EachTame (commands_of more)
@@ -269,13 +269,13 @@ module _ (m : Machine) (v : IsValidMachine m) (switches : List Switch) (pins : L
       are_x : Turns (w ++ early)
       are_x = subst Turns x_is own_x.1.turns_are
 
-      q1 : (q : List Meant) × (queued_by (l ++ x) ≡ queued_by x ++ q)
+      q1 : (q : List Meant) × (queued_in_turns (l ++ x) ≡ queued_in_turns x ++ q)
       q1 = queue_later l x
 
-      le : (left : List Meant) × (Taken early ++ left ≡ queued_by early)
+      le : (left : List Meant) × (Taken early ++ left ≡ queued_in_turns early)
       le = (g.rested.left, g.rested.rest ∙ all_queued (board_at m b) pins b entries early (begun (clock_of (board_at m b)) First later early r.turns_are))
 
-      lx : (left : List Meant) × (Taken x ++ left ≡ queued_by x)
+      lx : (left : List Meant) × (Taken x ++ left ≡ queued_in_turns x)
       lx = left_of x own_x.1.turns_are
 
       ms : (ms : List Meant) × (Taken x ≡ Taken early ++ ms)
@@ -284,14 +284,14 @@ module _ (m : Machine) (v : IsValidMachine m) (switches : List Switch) (pins : L
       abbrev Behind : List Meant
       Behind = lx.0 ++ q1.0
 
-      queued_x : Taken x ++ Behind ≡ queued_by (l ++ x)
+      queued_x : Taken x ++ Behind ≡ queued_in_turns (l ++ x)
       queued_x = sym (append_assoc (Taken x) lx.0 q1.0) ∙ ap (λ (z : List Meant). z ++ q1.0) lx.1 ∙ sym q1.1
 
       both : ms.0 ++ Behind ≡ (le.0 ++ g.front) ++ g.begin ∷ g.more
       both =
           let tail = g.front ++ g.begin ∷ g.more in
           append_cancel_left (Taken early) (ms.0 ++ Behind) ((le.0 ++ g.front) ++ g.begin ∷ g.more)
-          (sym (append_assoc (Taken early) ms.0 Behind) ∙ ap (λ (z : List Meant). z ++ Behind) (sym ms.1) ∙ queued_x ∙ ap queued_by (sym same) ∙ g.queue ∙ ap (λ (z : List Meant). z ++ tail) (sym le.1) ∙ append_assoc (Taken early) le.0 tail
+          (sym (append_assoc (Taken early) ms.0 Behind) ∙ ap (λ (z : List Meant). z ++ Behind) (sym ms.1) ∙ queued_x ∙ ap queued_in_turns (sym same) ∙ g.queue ∙ ap (λ (z : List Meant). z ++ tail) (sym le.1) ∙ append_assoc (Taken early) le.0 tail
           ∙ ap (λ (z : List Meant). Taken early ++ z) (sym (append_assoc le.0 g.front (g.begin ∷ g.more))))
 
       not_untaken : (k : List Meant) → le.0 ++ g.front ≡ ms.0 ++ k → ⊥
@@ -318,9 +318,9 @@ module _ (m : Machine) (v : IsValidMachine m) (switches : List Switch) (pins : L
           let parts = tame_parts took.0 now.0 (subst (λ (y : List Meant). EachTame (commands_of y)) (sym rest) tame.1) in
           let most = Own (length x) + 1 in
           let off = off_of most (l ++ x) (turns_old Oid most clock First l x took.0 (omega arith) run_x.turns_are took.1 parts.0 (old_of own_x.0 x most own_x.1 (omega arith) (fired_off reason tick x f))) in
-          let whole : Taken (l ++ x) ≡ queued_by early ++ (g.front ++ g.begin ∷ (k ++ took.0)) =
+          let whole : Taken (l ++ x) ≡ queued_in_turns early ++ (g.front ++ g.begin ∷ (k ++ took.0)) =
           took.1 ∙ ap (λ (y : List Meant). y ++ took.0) (ms.1 ∙ ap (λ (y : List Meant). Taken early ++ y) (e ∙ append_assoc le.0 g.front (z ∷ k)) ∙ sym (append_assoc (Taken early) le.0 (g.front ++ z ∷ k)) ∙ ap (λ (y : List Meant). y ++ (g.front ++ z ∷ k)) le.1)
-          ∙ append_assoc (queued_by early) (g.front ++ z ∷ k) took.0 ∙ ap (λ (y : List Meant). queued_by early ++ y) (append_assoc g.front (z ∷ k) took.0) ∙ ap (λ (y : Meant). queued_by early ++ (g.front ++ y ∷ (k ++ took.0))) (sym heads.0) in
+          ∙ append_assoc (queued_in_turns early) (g.front ++ z ∷ k) took.0 ∙ ap (λ (y : List Meant). queued_in_turns early ++ y) (append_assoc g.front (z ∷ k) took.0) ∙ ap (λ (y : Meant). queued_in_turns early ++ (g.front ++ y ∷ (k ++ took.0))) (sym heads.0) in
           let done : HasFiredSince Oid start First (l ++ x) = record {
             later = later;
             early = early;
@@ -373,7 +373,7 @@ module _ (m : Machine) (v : IsValidMachine m) (switches : List Switch) (pins : L
       ⊎ (((known_by m switches before).phase ≡ Connecting → ⊥) × UnderWay before (known_by m switches before).homing turns)
 
   -- a section that is known answers
-  reports_fired : (c : Came) (before : List Came) (turns : List BoardTurn) → Run before turns → state_at b c.states ≡ latest_state turns → AreReadTrue m switches b (c ∷ before) turns → AreBehind m switches b (c ∷ before)
+  reports_fired : (c : Came) (before : List Came) (turns : List BoardTurn) → Run before turns → state_at b c.states ≡ latest_state turns → AreReadTrue m switches b (c ∷ before) turns → AreNotAhead m switches b (c ∷ before)
       → ((noted m c.note (known_by m switches before)).phase ≡ Connecting → ⊥) → (u : UnderWay before (known_by m switches before).homing turns) → (noted m c.note (known_by m switches before)).homing ≡ Some u.homing → (f : Fired)
       → WasReported m switches b u.homing.start f (c ∷ before) → HasFiredSince Oid u.homing.start First turns
   reports_fired c before turns r latest reads behind open_it u still f told =
@@ -454,7 +454,7 @@ module _ (m : Machine) (v : IsValidMachine m) (switches : List Switch) (pins : L
         let n = noted m d.note (known_by m switches past) in
         (next_of m switches d past now.goes_on open_it).homing ∙ ap (λ (o : Option Homing). homing_after n.clocks K d.states o) is ∙ ap (λ (o : Option End). goes_on_homing K (Heard h) o) none
 
-    pub same_members : (h : Homing) → members_of (after (Heard h).group K) ≡ members_of h.group
+    pub same_members : (h : Homing) → members_of (turned_group (Heard h).group K) ≡ members_of h.group
     same_members h =
         let n = noted m d.note (known_by m switches past) in
         ap (λ (xs : List Seen). map (λ (x : Seen). x.member) xs) (after_members (Heard h).group K) ∙ members_states n.clocks 0 h.start d.states h.group
@@ -538,7 +538,7 @@ module _ (m : Machine) (v : IsValidMachine m) (switches : List Switch) (pins : L
           front = split.front;
           begin = split.begin;
           more = split.more;
-          queue = ap (λ (z : List Meant). queued_by turns ++ z) split.are;
+          queue = ap (λ (z : List Meant). queued_in_turns turns ++ z) split.are;
           starts = split.starts;
           before = split.before;
           behind = split.behind;
@@ -550,7 +550,7 @@ module _ (m : Machine) (v : IsValidMachine m) (switches : List Switch) (pins : L
         homes_none [] l = tt
         homes_none (c ∷ before) l = (λ late. absurd (omega (arith, l, late)), homes_none before (omega (arith, l)))
 
-    step : AreReadTrue m switches b (d ∷ past) turns → AreBehind m switches b (d ∷ past) → Way past turns → Way (d ∷ past) (t ∷ turns)
+    step : AreReadTrue m switches b (d ∷ past) turns → AreNotAhead m switches b (d ∷ past) → Way past turns → Way (d ∷ past) (t ∷ turns)
     step reads behind (inl (rest, ahead)) =
         let known = known_by m switches past in
         let n = noted m d.note known in
@@ -592,7 +592,7 @@ module _ (m : Machine) (v : IsValidMachine m) (switches : List Switch) (pins : L
               front = g.front;
               begin = g.begin;
               more = g.more ++ New;
-              queue = ap (λ (z : List Meant). z ++ New) g.queue ∙ append_assoc (queued_by u.early) (g.front ++ g.begin ∷ g.more) New ∙ ap (λ (z : List Meant). queued_by u.early ++ z) (append_assoc g.front (g.begin ∷ g.more) New);
+              queue = ap (λ (z : List Meant). z ++ New) g.queue ∙ append_assoc (queued_in_turns u.early) (g.front ++ g.begin ∷ g.more) New ∙ ap (λ (z : List Meant). queued_in_turns u.early ++ z) (append_assoc g.front (g.begin ∷ g.more) New);
               starts = g.starts;
               before = g.before;
               behind = tame_both g.more New g.behind (taken_tame t tame);
@@ -614,12 +614,12 @@ module _ (m : Machine) (v : IsValidMachine m) (switches : List Switch) (pins : L
   rest_of [] = []
   rest_of (t ∷ turns) = turns
 
-  pub earlier_reads : (R : Came → List Came → List BoardTurn → Type 0) (c : Came) (before : List Came) (turns : List BoardTurn) → Run before turns → AreRead R (c ∷ before) turns → AreRead R before (rest_of turns)
+  pub earlier_reads : (R : Came → List Came → List BoardTurn → Type 0) (c : Came) (before : List Came) (turns : List BoardTurn) → Run before turns → AreSoInTurns R (c ∷ before) turns → AreSoInTurns R before (rest_of turns)
   earlier_reads R c [] turns r k = tt
   earlier_reads R c (d ∷ past) [] r k = absurd r.both
   earlier_reads R c (d ∷ past) (t ∷ turns) r k = k.1
 
-  all_way : (before : List Came) (turns : List BoardTurn) → Run before turns → BeginsApart m switches before → AreReadTrue m switches b before (rest_of turns) → AreBehind m switches b before → Way before turns
+  all_way : (before : List Came) (turns : List BoardTurn) → Run before turns → BeginsApart m switches before → AreReadTrue m switches b before (rest_of turns) → AreNotAhead m switches b before → Way before turns
   all_way [] [] r apart reads behind = inl (first_rest, first_ahead)
   all_way [] (t ∷ turns) r apart reads behind = absurd r.both
   all_way (d ∷ past) [] r apart reads behind = absurd r.both
@@ -629,7 +629,7 @@ module _ (m : Machine) (v : IsValidMachine m) (switches : List Switch) (pins : L
 
   -- a member of the section that is known, where it told that its trigger has triggered
   pub reported_fired : (c : Came) (before : List Came) (turns : List BoardTurn) (h : Homing) (f : Fired) → Run before turns → state_at b c.states ≡ latest_state turns → BeginsApart m switches (c ∷ before) → AreReadTrue m switches b (c ∷ before) turns
-      → AreBehind m switches b (c ∷ before) → (noted m c.note (known_by m switches before)).homing ≡ Some h → IsMember b (members_of h.group) → WasReported m switches b h.start f (c ∷ before) → HasFiredSince Oid h.start First turns
+      → AreNotAhead m switches b (c ∷ before) → (noted m c.note (known_by m switches before)).homing ≡ Some h → IsMember b (members_of h.group) → WasReported m switches b h.start f (c ∷ before) → HasFiredSince Oid h.start First turns
   reported_fired c before turns h f r latest apart reads behind is member told =
       let known = known_by m switches before in
       let n = noted m c.note known in
@@ -649,14 +649,14 @@ module _ (m : Machine) (v : IsValidMachine m) (switches : List Switch) (pins : L
       ]
 
   pub answered_fired : (c : Came) (before : List Came) (turns : List BoardTurn) (h : Homing) (e : End) → Run before turns → state_at b c.states ≡ latest_state turns → BeginsApart m switches (c ∷ before) → AreReadTrue m switches b (c ∷ before) turns
-      → AreBehind m switches b (c ∷ before) → (noted m c.note (known_by m switches before)).homing ≡ Some h
+      → AreNotAhead m switches b (c ∷ before) → (noted m c.note (known_by m switches before)).homing ≡ Some h
       → answer_in (length before) h.start (hears_all (noted m c.note (known_by m switches before)).clocks c.states h).group ≡ Some e → IsMember b (members_of h.group) → HasFiredSince Oid h.start First turns
   answered_fired c before turns h e r latest apart reads behind is ends member =
       let told = member_told m switches b c before h e r.goes_on is ends member in
       reported_fired c before turns h told.0 r latest apart reads behind is member told.1
 
   -- in a turn by which a section that is known hasn't started it
-  pub rest_before : (c : Came) (before : List Came) (turns : List BoardTurn) (h : Homing) → Run before turns → BeginsApart m switches (c ∷ before) → AreReadTrue m switches b before (rest_of turns) → AreBehind m switches b before
+  pub rest_before : (c : Came) (before : List Came) (turns : List BoardTurn) (h : Homing) → Run before turns → BeginsApart m switches (c ∷ before) → AreReadTrue m switches b before (rest_of turns) → AreNotAhead m switches b before
       → (noted m c.note (known_by m switches before)).homing ≡ Some h → length before + 251 ≤ h.start → IsAtRest Oid First turns
   rest_before c before turns h r apart reads behind is far = elim (all_way before turns r apart.1 reads behind) [
     | inl x ↦ x.0

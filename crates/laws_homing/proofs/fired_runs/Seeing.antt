@@ -31,13 +31,13 @@ use Rattle.axis_homing.specs.Rising.{members_of}
 use Rattle.host_reactor.specs.declared.ordered.Phase.{Phase}
 use Rattle.host_reactor.specs.declared.ordered.Phase.TheVariants.{Connecting}
 use Rattle.host_reactor.specs.Notes.{noted}
-use Rattle.host_reactor.specs.Runs.{Came, known_by, last_turn, state_at}
+use Rattle.host_reactor.specs.Runs.{Came, known_by, last_reacted, state_at}
 use Rattle.laws_board.specs.turns.Turns.{AreBoardTurns, BoardTurn, latest_state, stands_after}
 use Rattle.laws_board.specs.clocks.Runs.{IsInRun}
 use Rattle.laws_board.proofs.clocks.Lines.{as_long, noted_phase, run_before, turn_of}
 use Rattle.laws_board.proofs.clocks.Turning.{goes}
 use Rattle.laws_board.proofs.sections.Lists.{cons_same, cuts}
-use Rattle.laws_homing.specs.home_runs.Sections.{HomesFrom, IsOf, queued_by}
+use Rattle.laws_homing.specs.home_runs.Sections.{HomesFrom, IsOf, queued_in_turns}
 use Rattle.laws_homing.proofs.home_runs.Controlling.{not_yet}
 use Rattle.laws_homing.proofs.home_runs.Knowing.{noted_none, running_now, turn_end}
 use Rattle.laws_homing.proofs.home_runs.Staying.{taken_later}
@@ -55,7 +55,7 @@ use Rattle.laws_homing.proofs.clear_groups.Plain.{none_at, none_some}
 use Rattle.laws_homing.proofs.clear_groups.Resting.{clash, next_of, some_same}
 use Rattle.laws_homing.specs.missed_groups.Ticks.{IsReader}
 use Rattle.laws_homing.proofs.missed_groups.Axes.{of_axis}
-use Rattle.laws_homing.specs.fired_runs.Since.{AreBehind, AreRead, BeginsApart, IsFiredAt, ReadsSwitchTrue}
+use Rattle.laws_homing.specs.fired_runs.Since.{AreNotAhead, AreSoInTurns, BeginsApart, IsFiredAt, ReadsSwitchTrue}
 use Rattle.laws_homing.proofs.fired_runs.Blind.{NoTick, OwnAt, ReadOnce, Stands, Upon, blind_fits, blind_parts, fits_more, turns_stage}
 use Rattle.laws_homing.proofs.fired_runs.Reported.{answer_told}
 use Rattle.laws_homing.proofs.fired_runs.Rested.{Heard, answered_over, earlier_reads, goes_to, group_start, grows, left_of, none_stays, queue_later, rest_of, rises, run_at, same_members, same_start, switch_read, was_at}
@@ -79,9 +79,9 @@ no_reading None y e f = cc
 no_reading (Some z) y e f = cc
 
 -- all that is queued is fit
-pub queued_fit : (E F : ℕ → (ℕ → Type 0)) (pins : List (List Level)) (turns : List BoardTurn) → BringFit E F pins turns → AreFit E F pins (queued_by turns)
+pub queued_fit : (E F : ℕ → (ℕ → Type 0)) (pins : List (List Level)) (turns : List BoardTurn) → BringFit E F pins turns → AreFit E F pins (queued_in_turns turns)
 queued_fit E F pins [] fit = tt
-queued_fit E F pins (t ∷ turns) fit = fit_both E F pins (queued_by turns) (queued_in (orders t.control t.batch)) (queued_fit E F pins turns fit.1) fit.0
+queued_fit E F pins (t ∷ turns) fit = fit_both E F pins (queued_in_turns turns) (queued_in (orders t.control t.batch)) (queued_fit E F pins turns fit.1) fit.0
 
 -- a command of some that begins readings stands behind what begins none, and where one at most does, between such
 blind_or : (c : Cmd) → IsBlind c ⊎ (IsBlind c → ⊥)
@@ -136,7 +136,7 @@ turn_fit m switches pins entries b c before t turns h r is at =
     let reads : (g : Homing) (lines : Clocks) → known.homing ≡ Some g → lines ≡ clocks_at known.clocks b → own lines g = λ g lines is_so is_lines.
     subst (own lines) (some_same h g (sym is ∙ is_so)) (λ now tick complete. record { lines = lines; knew = inl (omega (arith, at), record { homing = h; known = is; start_is = refl; axis_is = refl; lines_are = is_lines }); complete = complete }) in
     fit_both E G pins (map plain t.control.commands) (units_orders t.batch.units)
-    (plain_fit E G pins t.control.commands (control_fit m pins b (length before) G known c.states x.a (last_turn m switches c before) t.control x.turned reads)) (units_fit E G pins t.batch.units)
+    (plain_fit E G pins t.control.commands (control_fit m pins b (length before) G known c.states x.a (last_reacted m switches c before) t.control x.turned reads)) (units_fit E G pins t.batch.units)
 
 module _ (m : Machine) (v : IsValidMachine m) (switches : List Switch) (pins : List (List Level)) (entries : List Entry) (b : ℕ) where
   abbrev First : LinkState
@@ -186,7 +186,7 @@ module _ (m : Machine) (v : IsValidMachine m) (switches : List Switch) (pins : L
   record Unread (turns : List BoardTurn) : Type 0 where
     none : (s : Slot) → slot_at (Board turns) Oid ≡ Some s → s.trigger.sampling ≡ None
     left : List Meant
-    rest : Taken turns ++ left ≡ queued_by turns
+    rest : Taken turns ++ left ≡ queued_in_turns turns
     blind : AreBlind left
 
   bring : (before : List Came) (turns : List BoardTurn) → Run before turns → BringFit E Any pins turns
@@ -209,7 +209,7 @@ module _ (m : Machine) (v : IsValidMachine m) (switches : List Switch) (pins : L
       all = true_at before turns r
 
   -- so over turns that bring no such command
-  unread_on : (came : List Came) (later past : List BoardTurn) (q : List Meant) → Run came (later ++ past) → queued_by (later ++ past) ≡ queued_by past ++ q → AreBlind q → Unread past → Unread (later ++ past)
+  unread_on : (came : List Came) (later past : List BoardTurn) (q : List Meant) → Run came (later ++ past) → queued_in_turns (later ++ past) ≡ queued_in_turns past ++ q → AreBlind q → Unread past → Unread (later ++ past)
   unread_on came later past q r e blind k =
       let clock = clock_of (board_at m b) in
       let are = r.turns_are in
@@ -221,7 +221,7 @@ module _ (m : Machine) (v : IsValidMachine m) (switches : List Switch) (pins : L
       (sym (append_assoc (Taken past) took.0 now.0) ∙ ap (λ (x : List Meant). x ++ now.0) (sym took.1) ∙ now.1 ∙ e ∙ ap (λ (x : List Meant). x ++ q) (sym k.rest) ∙ append_assoc (Taken past) k.left q) in
       let all = subst AreBlind (sym both) (blind_both k.left q k.blind blind) in
       let parts = blind_parts took.0 now.0 all in
-      let whole : queued_by (later ++ past) ≡ Taken past ++ (took.0 ++ now.0) = sym now.1 ∙ ap (λ (x : List Meant). x ++ now.0) took.1 ∙ append_assoc (Taken past) took.0 now.0 in
+      let whole : queued_in_turns (later ++ past) ≡ Taken past ++ (took.0 ++ now.0) = sym now.1 ∙ ap (λ (x : List Meant). x ++ now.0) took.1 ∙ append_assoc (Taken past) took.0 now.0 in
       let Fits : List Meant → Type 0 = AreFit E Any pins in
       let fit = (fit_parts E Any pins took.0 now.0 (fit_parts E Any pins (Taken past) (took.0 ++ now.0) (subst Fits whole (queued_fit E Any pins (later ++ past) (bring came (later ++ past) r)))).1).0 in
       let most = Own (length past) + 1 in
@@ -252,7 +252,7 @@ module _ (m : Machine) (v : IsValidMachine m) (switches : List Switch) (pins : L
     order : BoardTurn
     later_is : later ≡ up ++ order ∷ []
     queue : List Meant
-    queue_is : queued_by turns ≡ queued_by early ++ queue
+    queue_is : queued_in_turns turns ≡ queued_in_turns early ++ queue
     others : List Meant
     others_are : queue ≡ queued_in (orders order.control order.batch) ++ others
     blind : AreBlind others
@@ -306,10 +306,10 @@ module _ (m : Machine) (v : IsValidMachine m) (switches : List Switch) (pins : L
       are_x : Turns (w ++ u.early)
       are_x = subst Turns x_is own_x.1.turns_are
 
-      q1 : (q : List Meant) × (queued_by (l ++ x) ≡ queued_by x ++ q)
+      q1 : (q : List Meant) × (queued_in_turns (l ++ x) ≡ queued_in_turns x ++ q)
       q1 = queue_later l x
 
-      lx : (left : List Meant) × (Taken x ++ left ≡ queued_by x)
+      lx : (left : List Meant) × (Taken x ++ left ≡ queued_in_turns x)
       lx = left_of m v switches pins entries b x own_x.1.turns_are
 
       ms : (ms : List Meant) × (Taken (w ++ u.early) ≡ Taken u.early ++ ms)
@@ -322,7 +322,7 @@ module _ (m : Machine) (v : IsValidMachine m) (switches : List Switch) (pins : L
       both =
           append_cancel_left (Taken u.early) (ms.0 ++ Behind) (u.unread.left ++ u.queue)
           (sym (append_assoc (Taken u.early) ms.0 Behind) ∙ ap (λ (z : List Meant). z ++ Behind) (sym ms.1) ∙ ap (λ (z : List BoardTurn). Taken z ++ Behind) (sym x_is) ∙ sym (append_assoc (Taken x) lx.0 q1.0)
-          ∙ ap (λ (z : List Meant). z ++ q1.0) lx.1 ∙ sym q1.1 ∙ ap queued_by (sym same) ∙ u.queue_is ∙ ap (λ (z : List Meant). z ++ u.queue) (sym u.unread.rest) ∙ append_assoc (Taken u.early) u.unread.left u.queue)
+          ∙ ap (λ (z : List Meant). z ++ q1.0) lx.1 ∙ sym q1.1 ∙ ap queued_in_turns (sym same) ∙ u.queue_is ∙ ap (λ (z : List Meant). z ++ u.queue) (sym u.unread.rest) ∙ append_assoc (Taken u.early) u.unread.left u.queue)
 
       fit_left : AreFit E F pins u.unread.left
       fit_left =
@@ -350,11 +350,11 @@ module _ (m : Machine) (v : IsValidMachine m) (switches : List Switch) (pins : L
             let n_new = ap length now_taken ∙ length-append (Taken past) took in
             let n_took = ap length k.are ∙ length-append k.front (k.home ∷ k.rest) in
             let n_front = sym (length-append front k.front) ∙ ap length q.1 ∙ length-append u.unread.left q.0 in
-            let n_queue = length-append (queued_by u.early) q.0 in
+            let n_queue = length-append (queued_in_turns u.early) q.0 in
             let n_early = ap length (sym u.unread.rest) ∙ length-append (Taken u.early) u.unread.left in
             let new = queued_in (orders u.order.control u.order.batch) in
             let n_new_front = in_front new u.others q.0 k.home rest u.blind k.reads (sym u.others_are ∙ q.2) in
-            let n_ordered = length-append (queued_by u.early) new in
+            let n_ordered = length-append (queued_in_turns u.early) new in
             inr (λ y read. record {
               turn = length past;
               took = record {
@@ -366,7 +366,7 @@ module _ (m : Machine) (v : IsValidMachine m) (switches : List Switch) (pins : L
                 front = q.0;
                 home = k.home;
                 rest = rest;
-                queue = u.queue_is ∙ ap (λ (z : List Meant). queued_by u.early ++ z) q.2;
+                queue = u.queue_is ∙ ap (λ (z : List Meant). queued_in_turns u.early ++ z) q.2;
                 ordered = omega (arith, n_new_front, n_ordered, n_queue);
                 reads = k.reads;
                 sole = sole;
@@ -425,7 +425,7 @@ module _ (m : Machine) (v : IsValidMachine m) (switches : List Switch) (pins : L
       ⊎ (((known_by m switches before).phase ≡ Connecting → ⊥) × Window before (known_by m switches before).homing turns)
 
   -- a section that is known answers that its switch closed
-  answers_read : (c : Came) (before : List Came) (turns : List BoardTurn) → Run before turns → state_at b c.states ≡ latest_state turns → AreRead (ReadsSwitchTrue m switches b) (c ∷ before) turns → AreBehind m switches b (c ∷ before)
+  answers_read : (c : Came) (before : List Came) (turns : List BoardTurn) → Run before turns → state_at b c.states ≡ latest_state turns → AreSoInTurns (ReadsSwitchTrue m switches b) (c ∷ before) turns → AreNotAhead m switches b (c ∷ before)
       → ((noted m c.note (known_by m switches before)).phase ≡ Connecting → ⊥) → (u : Window before (known_by m switches before).homing turns) → (noted m c.note (known_by m switches before)).homing ≡ Some u.homing → (tick : ℕ)
       → answer_in (length before) u.homing.start (hears_all (noted m c.note (known_by m switches before)).clocks c.states u.homing).group ≡ Some (end.Endstop tick) → Unread turns × Triggers u.homing.start u.homing.axis before turns tick
   answers_read c before turns r latest reads behind open_it u still tick ends =
@@ -467,7 +467,7 @@ module _ (m : Machine) (v : IsValidMachine m) (switches : List Switch) (pins : L
     -- under way, where it is known and doesn't answer
     goes_way : (h : Homing) → (noted m d.note (known_by m switches past)).homing ≡ Some h → ((noted m d.note (known_by m switches past)).phase ≡ Connecting → ⊥) → h.group.start ≡ h.start → h.start ≤ K + 250 → IsReader b (members_of h.group)
         → (later early : List BoardTurn) → t ∷ turns ≡ later ++ early → length early + 250 ≡ h.start → Unread early → (up : List BoardTurn) (order : BoardTurn) → later ≡ up ++ order ∷ []
-        → (q : List Meant) → queued_by (t ∷ turns) ≡ queued_by early ++ q → (others : List Meant) → q ≡ queued_in (orders order.control order.batch) ++ others → AreBlind others → ReadOnce q → AreFit E (G h.start h.axis (d ∷ past)) pins q
+        → (q : List Meant) → queued_in_turns (t ∷ turns) ≡ queued_in_turns early ++ q → (others : List Meant) → q ≡ queued_in (orders order.control order.batch) ++ others → AreBlind others → ReadOnce q → AreFit E (G h.start h.axis (d ∷ past)) pins q
         → HomesFrom m switches (length early) h.start (members_of h.group) past → answer_in K h.start (Hears h).group ≡ None → Way (d ∷ past) (t ∷ turns)
     goes_way h is open_it together soon reads later early are at unread up order later_is q queue others others_are blind once fit since none =
         let n = noted m d.note (known_by m switches past) in
@@ -553,7 +553,7 @@ module _ (m : Machine) (v : IsValidMachine m) (switches : List Switch) (pins : L
         homes_none [] l = tt
         homes_none (c ∷ before) l = (λ late. absurd (omega (arith, l, late)), homes_none before (omega (arith, l)))
 
-    step : AreRead (ReadsSwitchTrue m switches b) (d ∷ past) turns → AreBehind m switches b (d ∷ past) → Way past turns → Way (d ∷ past) (t ∷ turns)
+    step : AreSoInTurns (ReadsSwitchTrue m switches b) (d ∷ past) turns → AreNotAhead m switches b (d ∷ past) → Way past turns → Way (d ∷ past) (t ∷ turns)
     step reads behind (inl (rest, ahead)) =
         let known = known_by m switches past in
         let n = noted m d.note known in
@@ -591,13 +591,13 @@ module _ (m : Machine) (v : IsValidMachine m) (switches : List Switch) (pins : L
             let h = u.homing in
             let fresh = blind_fits E Any (G h.start h.axis (d ∷ past)) pins New blind (bring (d ∷ past) (t ∷ turns) now).0 in
             goes_way h still open_it u.together (omega (arith, soon)) u.reads (t ∷ u.later) u.early (ap (λ (z : List BoardTurn). t ∷ z) u.are) u.at u.unread (t ∷ u.up) u.order (ap (λ (z : List BoardTurn). t ∷ z) u.later_is) (u.queue ++ New)
-            (ap (λ (z : List Meant). z ++ New) u.queue_is ∙ append_assoc (queued_by u.early) u.queue New) (u.others ++ New)
+            (ap (λ (z : List Meant). z ++ New) u.queue_is ∙ append_assoc (queued_in_turns u.early) u.queue New) (u.others ++ New)
             (ap (λ (z : List Meant). z ++ New) u.others_are ∙ append_assoc (queued_in (orders u.order.control u.order.batch)) u.others New) (blind_both u.others New u.blind blind) (read_front u.queue New u.once blind)
             (fit_both E (G h.start h.axis (d ∷ past)) pins u.queue New (fits_more E (G h.start h.axis past) (G h.start h.axis (d ∷ past)) pins (grown h.start h.axis) u.queue u.fit) fresh) u.since e
         by blind still open_it (Some e) ends =
             let known = known_by m switches past in
             let n = noted m d.note known in
-            let g = running_now m n K d.states (last_turn m switches d past) (goes m switches known K d.states d.note now.goes_on.0) open_it in
+            let g = running_now m n K d.states (last_reacted m switches d past) (goes m switches known K d.states d.note now.goes_on.0) open_it in
             let over = turn_end m switches known K d.states d.note g.phase now.goes_on.0 in
             let heard = hears_all n.clocks d.states u.homing in
             let close = closes K heard (answer_in K heard.start heard.group) e ends (subst (λ (o : Option Homing). (homing_turn n.clocks K d.states o).end ≡ None) still over) in
@@ -611,7 +611,7 @@ module _ (m : Machine) (v : IsValidMachine m) (switches : List Switch) (pins : L
   first_ahead : Ahead 0 (known_by m switches []).phase (known_by m switches []).homing
   first_ahead h is = absurd (clash (known_by m switches []).homing h refl is)
 
-  all_way : (before : List Came) (turns : List BoardTurn) → Run before turns → BeginsApart m switches before → AreRead (ReadsSwitchTrue m switches b) before (rest_of m v switches pins entries b turns) → AreBehind m switches b before → Way before turns
+  all_way : (before : List Came) (turns : List BoardTurn) → Run before turns → BeginsApart m switches before → AreSoInTurns (ReadsSwitchTrue m switches b) before (rest_of m v switches pins entries b turns) → AreNotAhead m switches b before → Way before turns
   all_way [] [] r apart reads behind = inl (first_unread, first_ahead)
   all_way [] (t ∷ turns) r apart reads behind = absurd r.both
   all_way (d ∷ past) [] r apart reads behind = absurd r.both
@@ -619,8 +619,8 @@ module _ (m : Machine) (v : IsValidMachine m) (switches : List Switch) (pins : L
       let was_so = run_before m switches pins entries b d past t turns r in
       step d past t turns r apart reads behind (all_way past turns was_so apart.1 (earlier_reads m v switches pins entries b (ReadsSwitchTrue m switches b) d past turns was_so reads) behind.1)
 
-  pub answered_read : (c : Came) (before : List Came) (turns : List BoardTurn) (h : Homing) (tick : ℕ) → Run before turns → state_at b c.states ≡ latest_state turns → BeginsApart m switches (c ∷ before) → AreRead (ReadsSwitchTrue m switches b) (c ∷ before) turns
-      → AreBehind m switches b (c ∷ before) → (noted m c.note (known_by m switches before)).homing ≡ Some h → (axis_at m h.axis).board ≡ b
+  pub answered_read : (c : Came) (before : List Came) (turns : List BoardTurn) (h : Homing) (tick : ℕ) → Run before turns → state_at b c.states ≡ latest_state turns → BeginsApart m switches (c ∷ before) → AreSoInTurns (ReadsSwitchTrue m switches b) (c ∷ before) turns
+      → AreNotAhead m switches b (c ∷ before) → (noted m c.note (known_by m switches before)).homing ≡ Some h → (axis_at m h.axis).board ≡ b
       → answer_in (length before) h.start (hears_all (noted m c.note (known_by m switches before)).clocks c.states h).group ≡ Some (end.Endstop tick) → IsTriggerOf m switches pins entries b h.start h.axis before turns tick
   answered_read c before turns h tick r latest apart reads behind is on ends =
       let known = known_by m switches before in
@@ -643,9 +643,9 @@ module _ (m : Machine) (v : IsValidMachine m) (switches : List Switch) (pins : L
       ]
 
   -- in a turn by which a section that is known has begun no readings its trigger reads nothing, and no command is left that has it read
-  pub unread_before : (c : Came) (before : List Came) (turns : List BoardTurn) (h : Homing) → Run before turns → BeginsApart m switches (c ∷ before) → AreRead (ReadsSwitchTrue m switches b) before (rest_of m v switches pins entries b turns)
-      → AreBehind m switches b before → (noted m c.note (known_by m switches before)).homing ≡ Some h → length before + 250 ≤ h.start
-      → ((s : Slot) → slot_at (Board turns) Oid ≡ Some s → s.trigger.sampling ≡ None) × ((left : List Meant) × (Taken turns ++ left ≡ queued_by turns) × AreBlind left)
+  pub unread_before : (c : Came) (before : List Came) (turns : List BoardTurn) (h : Homing) → Run before turns → BeginsApart m switches (c ∷ before) → AreSoInTurns (ReadsSwitchTrue m switches b) before (rest_of m v switches pins entries b turns)
+      → AreNotAhead m switches b before → (noted m c.note (known_by m switches before)).homing ≡ Some h → length before + 250 ≤ h.start
+      → ((s : Slot) → slot_at (Board turns) Oid ≡ Some s → s.trigger.sampling ≡ None) × ((left : List Meant) × (Taken turns ++ left ≡ queued_in_turns turns) × AreBlind left)
   unread_before c before turns h r apart reads behind is far = elim (all_way before turns r apart.1 reads behind) [
     | inl x ↦ (let u = x.0 in (u.none, (u.left, u.rest, u.blind)))
     | inr x ↦

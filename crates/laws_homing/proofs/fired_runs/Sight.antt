@@ -32,7 +32,7 @@ use Rattle.trigger_group.specs.declared.round.Round.{Round}
 use Rattle.trigger_group.specs.declared.round.Round.TheVariants.{Homes, Relays, Resets, Starts, Timeouts}
 use Rattle.trigger_group.specs.declared.seen.Fired.{Fired}
 use Rattle.trigger_group.specs.declared.seen.Seen.{Seen}
-use Rattle.trigger_group.specs.Group.{GroupState, all_fired, first_timeout, goes, limit, orders as group_orders, orders_in, orders_to, phase, relay_in, relays_in, reset, round_of, steppers, stop, to_board, unless_fired}
+use Rattle.trigger_group.specs.Group.{GroupState, all_fired, first_timeout, goes, limit, orders as group_orders, orders_of_group, orders_to, phase, relay_in, relays_in, reset, round_of, steppers, stop, to_board, unless_fired}
 use Rattle.trigger_group.specs.Kept.{BoardsRise}
 use Rattle.axis_homing.specs.declared.homing.Homing.{Homing}
 use Rattle.axis_homing.specs.Homing.{answer_in, by_answer, command_to, commands_to, hears_all, homing_turn, order_command}
@@ -42,14 +42,14 @@ use Rattle.board_asking.specs.declared.asking.Stage.{Stage}
 use Rattle.board_asking.specs.declared.asking.Stage.TheVariants.{Config, Configure, Connected, Identify, Uptime}
 use Rattle.board_asking.specs.declared.setup.Setup.{Setup}
 use Rattle.board_asking.specs.declared.setup.Setup.TheVariants.{Endstop, Finish, Oids, Stepper, Trsync}
-use Rattle.board_asking.specs.Asking.{asks, is_due, question, ready}
+use Rattle.board_asking.specs.Asking.{asks, is_question_due, question, ready}
 use Rattle.board_asking.specs.Drift.{asks_now, clock_question, drifts, waits_in}
 use Rattle.board_asking.specs.Machine.{configuration, control_bytes, fitting, setup_command}
 use Rattle.host_reactor.specs.declared.ordered.Known.{Known}
 use Rattle.host_reactor.specs.declared.ordered.Phase.TheVariants.{Running}
 use Rattle.host_reactor.specs.Notes.{noted}
 use Rattle.host_reactor.specs.Reactor.{Reacted, homing_commands, stop_command, stops}
-use Rattle.host_reactor.specs.Runs.{Came, known_by, last_turn}
+use Rattle.host_reactor.specs.Runs.{Came, known_by, last_reacted}
 use Rattle.laws_board.specs.turns.Turns.{BoardTurn}
 use Rattle.laws_board.specs.clocks.Runs.{IsInRun}
 use Rattle.laws_board.proofs.clocks.Answers.{Each, each_both}
@@ -109,11 +109,11 @@ setups_blind [] = tt
 setups_blind (s ∷ ss) = (setup_blind s, setups_blind ss)
 
 asks_blind : (turn : ℕ) (setups : List Setup) (a : Asking) (stage : Stage) → Each IsBlind (asks setups turn a stage)
-asks_blind turn setups a (Identify offset) = each_if (is_due turn a.since) (question (Identify offset)) (tt, tt)
-asks_blind turn setups a Uptime = each_if (is_due turn a.since) (question Uptime) (tt, tt)
+asks_blind turn setups a (Identify offset) = each_if (is_question_due turn a.since) (question (Identify offset)) (tt, tt)
+asks_blind turn setups a Uptime = each_if (is_question_due turn a.since) (question Uptime) (tt, tt)
 asks_blind turn setups a (Configure n) = setups_blind (fitting control_bytes (drop n setups))
-asks_blind turn setups a Config = each_if (is_due turn a.since) (question Config) (tt, tt)
-asks_blind turn setups a Connected = each_if (is_due turn a.since) (question Connected) tt
+asks_blind turn setups a Config = each_if (is_question_due turn a.since) (question Config) (tt, tt)
+asks_blind turn setups a Connected = each_if (is_question_due turn a.since) (question Connected) tt
 
 stop_blind : (s : Bool) → Each IsBlind (stop_command s)
 stop_blind true = (tt, tt)
@@ -183,7 +183,7 @@ goes_blind b g turn =
     (ctls_if b (nat_lt g.sent (limit g)) (round_of (Timeouts (limit g)) g.members) (λ e. round_blind b (Timeouts (limit g)) g.members (λ i. tt)))
     (ctls_if b (relays_in (relay_in g turn) turn) (round_of Relays g.members) (λ e. round_blind b Relays g.members (λ i. tt)))
 
-in_blind : (b : ℕ) (p : Phase) (g : GroupState) (turn : ℕ) → (IsReader b (members_of g) → PhaseBlind p) → CtlsBlind b (orders_in p g turn)
+in_blind : (b : ℕ) (p : Phase) (g : GroupState) (turn : ℕ) → (IsReader b (members_of g) → PhaseBlind p) → CtlsBlind b (orders_of_group p g turn)
 in_blind b (Sends round) g turn f = round_blind b round g.members f
 in_blind b Goes g turn f = ctls_unless b (all_fired g.members) (goes g turn) (goes_blind b g turn)
 in_blind b Rests g turn f = tt
@@ -297,7 +297,7 @@ homing_either m all k states (Some h) own b rises =
     elim (group_either b k g) [
       | inl f ↦ inl (ctls_blind m own b turn.start (axis_at m turn.axis) turn.ctls.items (answer_blind b k g (answer_in k g.start g.group) (in_blind b (phase g.group.start g.group.last k) g.group k f)))
       | inr x ↦
-          let In : Phase → Type 0 = λ p. Once (commands_to m own b g.start (axis_at m g.axis) (orders_in p g.group k)) in
+          let In : Phase → Type 0 = λ p. Once (commands_to m own b g.start (axis_at m g.axis) (orders_of_group p g.group k)) in
           inr (
             answer_once m own b k g (answer_in k g.start g.group)
                 (subst In (sym (phase_homes g.group.start g.group.last k x.0)) (round_once m own b g.start (axis_at m g.axis) g.group.members (subst BoardsRise (sym members) rises))),
@@ -370,7 +370,7 @@ reads_either m switches pins entries b c before t turns r =
     let now = noted m c.note known in
     let plains = map plain t.control.commands in
     let units = units_orders t.batch.units in
-    elim (turn_either m b c now (length before) x.a (last_turn m switches c before) t (noted_rises m c.note known (known_rises m switches before r.goes_on.1)) x.turned) [
+    elim (turn_either m b c now (length before) x.a (last_reacted m switches c before) t (noted_rises m c.note known (known_rises m switches before r.goes_on.1)) x.turned) [
       | inl k ↦ inl (blind_both plains units (plain_blind t.control.commands k) (units_blind t.batch.units))
       | inr k ↦ inr (read_front plains units (plain_once t.control.commands k.0) (units_blind t.batch.units), k.1)
     ]

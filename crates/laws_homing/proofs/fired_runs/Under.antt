@@ -17,7 +17,7 @@ use Rattle.board_sim.specs.Rig.{Rig, Slot, slot_at, takes_all}
 use Rattle.board_sim.proofs.RigStates.{all_tick, passes_under}
 use Rattle.board_world.specs.declared.event.Event.{Event}
 use Rattle.board_world.specs.declared.event.Event.TheVariants as event
-use Rattle.board_world.specs.World.{Core, Step, Do, Turn, after, does, takes_in}
+use Rattle.board_world.specs.World.{Core, Step, Do, Turn, world_after, does, takes_in}
 use Rattle.link_work.specs.Stands.{first_state}
 use Rattle.host_reactor.specs.Runs.{Came}
 use Rattle.laws_board.specs.turns.Turns.{BoardTurn, stands_after}
@@ -89,7 +89,7 @@ under_by most h event.Garble soon k = k
 under_by most h event.Reply soon k = k
 under_by most h event.LoseReply soon k = k
 
-under_step : (E : ℕ → (ℕ → Type 0)) (pins : List (List Level)) (most : ℕ) (h : Core) (s : Step) → Brings E (λ x. x < most) (λ x. Unit {0}) pins s → IsUnder most h → IsUnder most (after h s)
+under_step : (E : ℕ → (ℕ → Type 0)) (pins : List (List Level)) (most : ℕ) (h : Core) (s : Step) → Brings E (λ x. x < most) (λ x. Unit {0}) pins s → IsUnder most h → IsUnder most (world_after h s)
 under_step E pins most h (Do e) b k = under_by most h e b.1 k
 under_step E pins most h (Turn turn) b k = k
 

@@ -13,7 +13,7 @@ use Rattle.board_sim.proofs.RigStates.{passes_state}
 use Rattle.board_world.specs.declared.event.Event.{Event}
 use Rattle.board_world.specs.declared.event.Event.TheVariants as event
 use Rattle.board_world.specs.Stands.{IsOrdered}
-use Rattle.board_world.specs.World.{Core, Step, Do, Turn, does, happens, in_turn, orders_of, takes_in}
+use Rattle.board_world.specs.World.{Core, Step, Do, Turn, does, after_event, in_turn, orders_of, takes_in}
 use Rattle.board_world.proofs.Runs.{ordered_by, ordered_turn}
 use Rattle.laws_board.proofs.sections.Lists.{cons_same}
 use Rattle.laws_homing.specs.home_runs.Guards.{AreCalm, HasFired}
@@ -156,5 +156,5 @@ steps_settle i j (Do e ∷ steps) h left o rest s =
     let l = left_by h e left next rest in
     let more = subst (λ (x : List Meant). Settles i j x h.board) (sym l.1) (waits_more i j left (orders_of e) h.board s) in
     let done = event_settles i j h e l.0 more in
-    (done.0, λ sets. steps_settle i j steps (happens h e) l.0 next l.2 (done.1 sets))
+    (done.0, λ sets. steps_settle i j steps (after_event h e) l.0 next l.2 (done.1 sets))
 steps_settle i j (Turn turn ∷ steps) h left o rest s = steps_settle i j steps (in_turn h turn) left (ordered_turn h turn o) rest s

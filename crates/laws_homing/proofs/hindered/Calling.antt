@@ -2,7 +2,7 @@
 use Rattle.std.proofs.Common.{◌≡◌, ℕ, suc, ◌+◌, ◌-◌, ◌%◌, ◌≤◌, inl, inr, Bool, true, false, Option, Some, None, refl, ap, sym, ◌∙◌, arith}
 use Rattle.std.specs.Prelude.{◌==◌}
 use Rattle.std.proofs.lemmas.Bool.Decides.{leb_tells}
-use Rattle.trigger_group.specs.Group.{GroupState, after, all_fired, any_fired_by, relay_begins, relay_from, relay_in, relays_in}
+use Rattle.trigger_group.specs.Group.{GroupState, turned_group, all_fired, any_fired_by, relay_begins, relay_from, relay_in, relays_in}
 use Rattle.laws_homing.proofs.clear_boards.Modes.{begins_so, relay_is}
 
 -- so many turns behind this one it does
@@ -41,7 +41,7 @@ due_now g turn d =
     let zero_is : (turn - d.first) % 4 ≡ 0 = ap (λ (n : ℕ). n % 4) (sym e) ∙ d.round in
     ap (λ (o : Option ℕ). relays_in o turn) d.is ∙ ap (λ (n : ℕ). n == 0) zero_is
 
-pub due_on : (n : ℕ) (g next : GroupState) (turn : ℕ) → g.start ≤ turn → all_fired g.members ≡ false → next.relay ≡ (after g turn).relay → IsDue (suc n) g turn → IsDue n next (turn + 1)
+pub due_on : (n : ℕ) (g next : GroupState) (turn : ℕ) → g.start ≤ turn → all_fired g.members ≡ false → next.relay ≡ (turned_group g turn).relay → IsDue (suc n) g turn → IsDue n next (turn + 1)
 due_on n g next turn low_so fired same d =
     let relay : next.relay ≡ Some d.first = same ∙ relay_is g turn low_so fired ∙ d.is in
     let e : turn + suc n - d.first ≡ turn + 1 + n - d.first = omega arith in

@@ -9,7 +9,7 @@ use Rattle.board_sim.specs.Rig.{Rig, passes, takes_all}
 use Rattle.link_work.specs.Turn.{LinkState}
 use Rattle.laws_board.specs.turns.Turns.{AreBoardTurns, BoardTurn, stands_after}
 use Rattle.laws_board.proofs.sections.Lists.{cons_same, cuts}
-use Rattle.laws_homing.specs.home_runs.Sections.{queued_by}
+use Rattle.laws_homing.specs.home_runs.Sections.{queued_in_turns}
 use Rattle.laws_homing.specs.clear_groups.Resting.{EachTame, IsTame}
 use Rattle.laws_homing.proofs.fired_runs.Rested.{queue_later}
 use Rattle.laws_homing.proofs.missed_runs.Boarded.{turned}
@@ -30,7 +30,7 @@ module _ (clock : BoardClock) (first : LinkState) (C : Cmd → Type 0) (Past : L
     → t.after.core.board ≡ (passes (takes_all (stands_after first z).core.board (commands_of (fr ++ begin ∷ mo))).rig (board_tick clock (length z + 1))).rig → P (length (t ∷ z)) t.after.core.board)
     (keeps : (t : BoardTurn) (z : List BoardTurn) → AreBoardTurns clock first (t ∷ z) → (took : List Meant) → AllSo C took
     → t.after.core.board ≡ (passes (takes_all (stands_after first z).core.board (commands_of took)).rig (board_tick clock (length z + 1))).rig → P (length z) (stands_after first z).core.board → P (length (t ∷ z)) t.after.core.board)
-    (lefts : (z : List BoardTurn) → AreBoardTurns clock first z → (left : List Meant) × ((stands_after first z).core.taken ++ left ≡ queued_by z)) where
+    (lefts : (z : List BoardTurn) → AreBoardTurns clock first z → (left : List Meant) × ((stands_after first z).core.taken ++ left ≡ queued_in_turns z)) where
   abbrev Taken : List BoardTurn → List Meant
   Taken z = (stands_after first z).core.taken
 
@@ -83,7 +83,7 @@ module _ (clock : BoardClock) (first : LinkState) (C : Cmd → Type 0) (Past : L
   ]
 
   -- over the turns behind some in which the command was queued, with others
-  module _ (y : List BoardTurn) (rest : List Meant) (queue : queued_by y ≡ front ++ begin ∷ rest) (rest_so : AllSo C rest) (long : least ≤ length y) where
+  module _ (y : List BoardTurn) (rest : List Meant) (queue : queued_in_turns y ≡ front ++ begin ∷ rest) (rest_so : AllSo C rest) (long : least ≤ length y) where
     coming : (w : List BoardTurn) → Are (w ++ y) → (left : List Meant) × (Taken (w ++ y) ++ left ≡ front ++ begin ∷ (rest ++ (queue_later w y).0))
     coming w are =
         let left = lefts (w ++ y) are in
@@ -106,8 +106,8 @@ module _ (clock : BoardClock) (first : LinkState) (C : Cmd → Type 0) (Past : L
         step_on t ((k ++ w) ++ y) are c.0 (rest ++ (queue_later later y).0) c.1 (so_both C rest (queue_later later y).0 rest_so (so_queue C later y so)) (along_on k w are.1 so.1 s)
 
   -- it is queued in a turn
-  pub entered : (t : BoardTurn) (early : List BoardTurn) (rest : List Meant) → Are (t ∷ early) → Past (t ∷ early) → least ≤ length early → length early < most → queued_by (t ∷ early) ≡ front ++ begin ∷ rest → AllSo C rest
-      → length (queued_by early) ≤ length front → State (t ∷ early)
+  pub entered : (t : BoardTurn) (early : List BoardTurn) (rest : List Meant) → Are (t ∷ early) → Past (t ∷ early) → least ≤ length early → length early < most → queued_in_turns (t ∷ early) ≡ front ++ begin ∷ rest → AllSo C rest
+      → length (queued_in_turns early) ≤ length front → State (t ∷ early)
   entered t early rest are past from low queue so few =
       let left = lefts (t ∷ early) are in
       let old = lefts early are.1 in

@@ -31,7 +31,7 @@ use Rattle.laws_homing.specs.home_runs.Told.{IsMember}
 use Rattle.laws_homing.specs.clear_boards.Hearing.{KnownOn, NoneOn}
 use Rattle.laws_homing.specs.clear_boards.Limited.{IsLimited}
 use Rattle.laws_homing.specs.clear_boards.Rests.{RestsBehind, RestsFrom}
-use Rattle.laws_homing.specs.clear_groups.Safe.{IsHeld}
+use Rattle.laws_homing.specs.clear_groups.Safe.{IsGroupHeld}
 use Rattle.laws_homing.specs.clear_groups.Sections.{BeginsNoneFrom, IsFollowed, IsOnward, IsRestingSection, IsHomingSection, report_ticks, rig_at, turns_of}
 use Rattle.laws_homing.specs.clear_groups.SetUp.{AllOfTurn, ArePrepared, ArePreparedAt, IsNewAt}
 use Rattle.laws_homing.specs.fired_runs.Since.{AllRead, AreReadTrue, BeginsApart, IsFiredAt, ReadsSwitchTrue, ReadsTrue}
@@ -152,7 +152,7 @@ module _ (m : Machine) (v : IsValidMachine m) (switches : List Switch) (pins : �
     never : (limit : ℕ) (r : Rig) → ((n : ℕ) → IsLimited (trigger_of m b) n limit r) → Stands r → ⊥
     never limit r k x = let same = ((k (tick + 1)).held (trigger_of m b) x.slot x.is).expiry x.fired x.why in let at = x.at in omega (arith, same, at)
 
-    none_safe : (turn : ℕ) (g : GroupState) (rigs : ℕ → Rig) → IsHeld m lines start last members turn g rigs → Stands (rigs b) → ⊥
+    none_safe : (turn : ℕ) (g : GroupState) (rigs : ℕ → Rig) → IsGroupHeld m lines start last members turn g rigs → Stands (rigs b) → ⊥
     none_safe turn g rigs (inl k) x = elim (k.1 b on) [
       | inl renewed ↦ never (lines_tick (lines b) ((last + 1) * turn_ns)) (rigs b) renewed x
       | inr once ↦ let same = (once.0.held (trigger_of m b) x.slot x.is).expiry x.fired x.why in other (sym x.at ∙ same)

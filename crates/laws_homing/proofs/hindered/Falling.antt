@@ -31,7 +31,7 @@ use Rattle.laws_board.specs.sections.Parts.{AreTracked}
 use Rattle.trigger_group.specs.declared.order.Member.{Member}
 use Rattle.trigger_group.specs.declared.seen.Fired.{Fired}
 use Rattle.trigger_group.specs.declared.seen.Seen.{Seen}
-use Rattle.trigger_group.specs.Group.{GroupState, after, relay_in, relays_in}
+use Rattle.trigger_group.specs.Group.{GroupState, turned_group, relay_in, relays_in}
 use Rattle.axis_homing.specs.declared.homing.Homing.{Homing}
 use Rattle.axis_homing.specs.Homing.{hears_all, low}
 use Rattle.host_reactor.specs.declared.ordered.Phase.TheVariants.{Connecting}
@@ -155,7 +155,7 @@ module _ (m : Machine) (v : IsValidMachine m) (switches : List Switch) (pins : �
   Later = rig_at m pins entries (j ∷ js) b
 
   abbrev Clock : ℕ
-  Clock = low (turn_tick (clocks_at (noted m d.note (known_by m switches past)).clocks b) (after G K).sent)
+  Clock = low (turn_tick (clocks_at (noted m d.note (known_by m switches past)).clocks b) (turned_group G K).sent)
 
   plain : IsOnward m switches (pins b) entries b at (d ∷ past) (turns_of b (j ∷ js))
   plain = groups.plain m switches pins entries lines ready at start last till members followed c d past j js s early low_here far_here reach h is b on
@@ -178,7 +178,7 @@ module _ (m : Machine) (v : IsValidMachine m) (switches : List Switch) (pins : �
   run_js : IsInRun m switches (pins b) entries b past Turns
   run_js = run_before m switches (pins b) entries b d past (j b) Turns plain.run
 
-  same_members : (after G K).members ≡ G.members
+  same_members : (turned_group G K).members ≡ G.members
   same_members = groups.same_members m switches pins entries lines ready at start last till members followed c d past j js s early low_here far_here reach h is
 
   next_of : (Next.start ≡ start) × (Next.group.start ≡ start)

@@ -12,7 +12,7 @@ use Rattle.board_trig.specs.declared.trigger.Happening.TheVariants as happening
 use Rattle.board_trig.specs.Trigger as trig
 use Rattle.msg_code.specs.declared.cmd.Cmd.{Cmd}
 use Rattle.msg_code.specs.declared.cmd.Cmd.TheVariants as cmd
-use Rattle.board_sim.specs.Rig.{Rig, Slot, acts_running, becomes, expires_at_once, make_trigger, passes, set_timeout, slot_at, start, takes, takes_all}
+use Rattle.board_sim.specs.Rig.{Rig, Slot, acts_running, becomes, expires_at_once, make_trigger, passes, set_timeout, slot_at, start_trigger, takes, takes_all}
 use Rattle.board_sim.specs.RigRuns.{AllSound}
 use Rattle.board_sim.proofs.Bound.{one_slot, slot_range}
 use Rattle.board_sim.proofs.RigTicks.{takes_rig_tick}
@@ -179,7 +179,7 @@ module _ (j : ℕ) where
       → Holds j (Due every base) (takes r (cmd.TrsyncStart j clock every reason)).rig
   start_holds base clock every reason r runs h near order some =
       subst (λ (o : BoardState). Holds j (Due every base) (acts_running o r (cmd.TrsyncStart j clock every reason)).rig) (sym runs)
-      (subst (λ (o : Option Slot). Holds j (Due every base) (start r j o clock every reason)) (sym h.is)
+      (subst (λ (o : Option Slot). Holds j (Due every base) (start_trigger r j o clock every reason)) (sym h.is)
       (let t = trig.started r.controller.tick clock every reason h.slot.trigger in
       put_holds j (Due every base) r (becomes r j h.slot t) (record h.slot { trigger = t }) h.slot refl h.is (refl, report_at (every == 0) r.controller.tick (nearest r.controller.tick clock) base every refl near order some)))
 

@@ -12,9 +12,9 @@ use Rattle.board_sim.specs.Rig.{Rig, Slot, passes, slot_at, takes_all}
 use Rattle.board_sim.specs.RigRuns.{AllSound}
 use Rattle.board_sim.proofs.Bound.{one_slot}
 use Rattle.laws_homing.specs.home_runs.Guards.{IsSole}
-use Rattle.laws_homing.specs.clear_boards.Held.{IsHeld}
+use Rattle.laws_homing.specs.clear_boards.Held.{IsTriggerHeld}
 use Rattle.laws_homing.specs.clear_boards.Limited.{IsLimited, limit_of}
-use Rattle.laws_homing.specs.clear_boards.Turned.{AreBehind, IsBehind}
+use Rattle.laws_homing.specs.clear_boards.Turned.{AreSentBehind, IsSentBehind}
 use Rattle.laws_homing.proofs.switch_runs.Firing.{read_true}
 use Rattle.laws_board.proofs.clocks.Answers.{Each}
 use Rattle.laws_homing.proofs.clear_boards.Slots.{Follows, levels_at, passes_each, takes_each}
@@ -42,7 +42,7 @@ AllTimed j r = (oid : ℕ) (s : Slot) → oid ≡ j → slot_at r oid ≡ Some s
 abbrev Own : ℕ → (List (List Level) → ℕ → Slot → Type 0)
 Own j pins oid s = oid ≡ j → Timed s.trigger
 
-follows_it : (j clock : ℕ) → Follows (Own j) (λ now c. IsBehind j clock c)
+follows_it : (j clock : ℕ) → Follows (Own j) (λ now c. IsSentBehind j clock c)
 follows_it j clock = record {
   made = λ pins now oid fit. absurd fit;
   starts = λ pins now oid s at every reason fit k. absurd fit;
@@ -54,13 +54,13 @@ follows_it j clock = record {
   homes = λ pins now oid s i pin g fit k. absurd fit;
 }
 
-behind_each : (j clock : ℕ) (cs : List Cmd) → AreBehind j clock cs → Each (λ (c : Cmd). IsBehind j clock c) cs
+behind_each : (j clock : ℕ) (cs : List Cmd) → AreSentBehind j clock cs → Each (λ (c : Cmd). IsSentBehind j clock c) cs
 behind_each j clock [] k = tt
 behind_each j clock (c ∷ cs) k = (k.0, behind_each j clock cs k.1)
 
-pub turn_timed : (j clock until : ℕ) (r : Rig) (cs : List Cmd) → AreBehind j clock cs → AllTimed j r → AllTimed j (passes (takes_all r cs).rig until).rig
+pub turn_timed : (j clock until : ℕ) (r : Rig) (cs : List Cmd) → AreSentBehind j clock cs → AllTimed j r → AllTimed j (passes (takes_all r cs).rig until).rig
 turn_timed j clock until r cs behind k =
-    let took = takes_each (Own j) (λ now c. IsBehind j clock c) (follows_it j clock) r cs (behind_each j clock cs behind) (λ oid s at own. k oid s own at) in
+    let took = takes_each (Own j) (λ now c. IsSentBehind j clock c) (follows_it j clock) r cs (behind_each j clock cs behind) (λ oid s at own. k oid s own at) in
     let passed = passes_each (Own j) until (record {
       comes = λ pins oid s e next k own. comes_it (levels_at pins s) until s.trigger e (k own);
       says = λ pins oid s n e k own. ((k own).0, (k own).1);
@@ -77,12 +77,12 @@ limited_now j tick r s sole sound timed is can =
     let x = own.0 can in
     let so = sound j s is in
     let same : (oid : ℕ) (u : Slot) → slot_at r oid ≡ Some u → s ≡ u = (λ oid u at. one_slot (slot_at r j) s u is (subst (λ (n : ℕ). slot_at r n ≡ Some u) (sole oid u at) at)) in
-    let held : IsHeld tick s = record { told = so.told; moves = so.moves; other = own.1; expiry = λ off why. absurd (clash s.trigger.can can off) } in
+    let held : IsTriggerHeld tick s = record { told = so.told; moves = so.moves; other = own.1; expiry = λ off why. absurd (clash s.trigger.can can off) } in
     let limited : s.trigger.timeout ≡ limit_of s.trigger.can x.0 = subst (λ (b : Bool). s.trigger.timeout ≡ limit_of b x.0) (sym can) x.1 in (
       x.0,
       record {
         sole = sole;
-        held = λ oid u at. subst (IsHeld tick) (same oid u at) held;
+        held = λ oid u at. subst (IsTriggerHeld tick) (same oid u at) held;
         limited = λ oid u at. subst (λ (z : Slot). z.trigger.timeout ≡ limit_of z.trigger.can x.0) (same oid u at) limited;
       },
     )

@@ -5,7 +5,7 @@ use Rattle.plan_types.specs.declared.machine.Machine.{Machine}
 use Rattle.wire_scene.specs.declared.scene.Switch.{Switch}
 use Rattle.trigger_group.specs.declared.order.Member.{Member}
 use Rattle.trigger_group.specs.declared.round.Phase.{Phase as GroupPhase}
-use Rattle.trigger_group.specs.Group.{GroupState, after, after_in, all_fired, first_timeout, limit, relay_begins, relay_from}
+use Rattle.trigger_group.specs.Group.{GroupState, turned_group, after_in, all_fired, first_timeout, limit, relay_begins, relay_from}
 use Rattle.trigger_group.proofs.Knows.{after_last, after_start}
 use Rattle.axis_homing.specs.declared.homing.Homing.{Homing}
 use Rattle.axis_homing.specs.Homing.{hears_all}
@@ -56,8 +56,8 @@ module _ (m : Machine) (switches : List Switch) (b from start last : ℕ) (membe
     Heard h = hears_all (noted m d.note (known_by m switches past)).clocks d.states h
 
     -- what the group sent by the end of a turn is what it sent as the next one begins
-    next_near : (h : Homing) → (noted m d.note (known_by m switches past)).homing ≡ Some h → (Heard h).group.start ≡ start → (Heard h).group.last ≡ last → first_timeout start last ≤ (after (Heard h).group K).sent → (after (Heard h).group K).sent ≤ last + 1
-        → (after (Heard h).group K).sent ≤ max start (K + 1) + 25 → (K + 1 ≤ start + 4 → (after (Heard h).group K).relay ≡ None) → IsNear c (d ∷ past)
+    next_near : (h : Homing) → (noted m d.note (known_by m switches past)).homing ≡ Some h → (Heard h).group.start ≡ start → (Heard h).group.last ≡ last → first_timeout start last ≤ (turned_group (Heard h).group K).sent → (turned_group (Heard h).group K).sent ≤ last + 1
+        → (turned_group (Heard h).group K).sent ≤ max start (K + 1) + 25 → (K + 1 ≤ start + 4 → (turned_group (Heard h).group K).relay ≡ None) → IsNear c (d ∷ past)
     next_near h is group_start group_last first most near calm =
         let known = (homing_next m switches from start members c d past h homes begins.0 goes low is).0 in
         let next = behind_turn (Heard h) K in
@@ -73,8 +73,8 @@ module _ (m : Machine) (switches : List Switch) (b from start last : ℕ) (membe
         let g = (Heard new.0).group in
         let begin = new.2.begins in
         let end = new.2.ends in
-        let sent : (after g K).sent ≡ first_timeout g.start g.last = ap (λ (p : GroupPhase). (after_in p g K).sent) (phase_starts g.start g.last K (omega (arith, begin, same, at))) in
-        let calm : (after g K).relay ≡ None = ap (λ (p : GroupPhase). (after_in p g K).relay) (phase_starts g.start g.last K (omega (arith, begin, same, at))) ∙ new.2.calm in
+        let sent : (turned_group g K).sent ≡ first_timeout g.start g.last = ap (λ (p : GroupPhase). (after_in p g K).sent) (phase_starts g.start g.last K (omega (arith, begin, same, at))) in
+        let calm : (turned_group g K).relay ≡ None = ap (λ (p : GroupPhase). (after_in p g K).relay) (phase_starts g.start g.last K (omega (arith, begin, same, at))) ∙ new.2.calm in
         next_near new.0 new.1 begin end (omega (arith, sent, begin, end)) (omega (arith, sent, begin, end)) (omega (arith, sent, begin, end)) (λ few. calm)
 
     -- and behind it
@@ -97,7 +97,7 @@ module _ (m : Machine) (switches : List Switch) (b from start last : ℕ) (membe
               let most = t.0.most in
               let same_start = after_start g K in
               let same_last = after_last g K in
-              let near : (after g K).sent ≤ max start (K + 1) + 25 = elim (leb_tells start K) [
+              let near : (turned_group g K).sent ≤ max start (K + 1) + 25 = elim (leb_tells start K) [
                 | inl q ↦
                     let late = q.1 in
                     let is = after_is g K (omega (arith, begin, late)) (open_it (omega (arith, begin, late))) in
@@ -105,10 +105,10 @@ module _ (m : Machine) (switches : List Switch) (b from start last : ℕ) (membe
                     omega (arith, is, near, was, late)
                 | inr q ↦
                     let early = q.1 in
-                    let same : g.sent ≡ (after g K).sent = ap (λ (y : GroupState). y.sent) (sym (group_waits g K (omega (arith, begin, early)) (omega (arith, begin, far)))) in
+                    let same : g.sent ≡ (turned_group g K).sent = ap (λ (y : GroupState). y.sent) (sym (group_waits g K (omega (arith, begin, early)) (omega (arith, begin, far)))) in
                     omega (arith, same, was, early)
               ] in
-              let calm : K + 1 ≤ start + 4 → (after g K).relay ≡ None = λ few. (
+              let calm : K + 1 ≤ start + 4 → (turned_group g K).relay ≡ None = λ few. (
               let was_calm = x.calm (omega (arith, few)) in
               elim (leb_tells start K) [
                 | inl q ↦
@@ -123,8 +123,8 @@ module _ (m : Machine) (switches : List Switch) (b from start last : ℕ) (membe
               let far = p.1 in
               let first = x.timed.first in
               let most = x.timed.most in
-              let sent : (after g K).sent ≡ g.sent = ap (λ (q : GroupPhase). (after_in q g K).sent) (phase_homes g.start g.last K (omega (arith, begin, far, soon))) in
-              let calm : (after g K).relay ≡ g.relay = ap (λ (q : GroupPhase). (after_in q g K).relay) (phase_homes g.start g.last K (omega (arith, begin, far, soon))) in
+              let sent : (turned_group g K).sent ≡ g.sent = ap (λ (q : GroupPhase). (after_in q g K).sent) (phase_homes g.start g.last K (omega (arith, begin, far, soon))) in
+              let calm : (turned_group g K).relay ≡ g.relay = ap (λ (q : GroupPhase). (after_in q g K).relay) (phase_homes g.start g.last K (omega (arith, begin, far, soon))) in
               next_near h x.known begin end (omega (arith, sent, first, begin, end)) (omega (arith, sent, most, end)) (omega (arith, sent, was)) (λ few. calm ∙ x.calm (omega (arith, few)))
         ]
 

@@ -17,7 +17,7 @@ use Rattle.host_reactor.specs.Runs.{Came, known_by}
 use Rattle.laws_board.specs.turns.Turns.{BoardTurn, stands_after}
 use Rattle.laws_board.proofs.sections.Boarding.{runs_on}
 use Rattle.laws_homing.specs.clear_boards.Rests.{RestsBehind}
-use Rattle.laws_homing.specs.clear_groups.Quiet.{IsQuiet}
+use Rattle.laws_homing.specs.clear_groups.Quiet.{ReadsNoSwitch}
 use Rattle.laws_homing.specs.clear_groups.SetUp.{HoldsOf, IsPrepared}
 use Rattle.laws_homing.specs.fired_runs.Since.{BeginsApart}
 use Rattle.laws_homing.specs.hindered.Hindered.{IsGoingOn}
@@ -44,5 +44,5 @@ module _ (m : Machine) (v : IsValidMachine m) (switches : List Switch) (pins : L
       let off = (rest_before m v switches pins entries b c before (t ∷ turns) h p.run apart p.reads p.behind is far).off in
       let none = (unread_before m v switches pins entries b c before (t ∷ turns) h p.run apart p.reads_switch p.behind is (omega (arith, far))).0 in
       let holds : HoldsOf (trigger_of m b) (λ ps s. s.trigger.can ≡ false) r = record { sole = own.0; slot = own.1.slot; is = own.1.is; so = off own.1.slot own.1.is } in
-      let quiet : IsQuiet r = (λ oid s at fell. none s (subst (λ (n : ℕ). slot_at r n ≡ Some s) (own.0 oid s at) at)) in
+      let quiet : ReadsNoSwitch r = (λ oid s at fell. none s (subst (λ (n : ℕ). slot_at r n ≡ Some s) (own.0 oid s at) at)) in
       prepared_by (trigger_of m b) base r holds quiet (sound_at (board_at m b) pins b entries (t ∷ turns) p.run.turns_are)

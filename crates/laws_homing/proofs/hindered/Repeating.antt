@@ -11,7 +11,7 @@ use Rattle.board_trig.specs.Trigger as trig
 use Rattle.board_trig.proofs.Nexts.{is_next}
 use Rattle.msg_code.specs.declared.cmd.Cmd.{Cmd}
 use Rattle.msg_code.specs.Units.{bit}
-use Rattle.board_sim.specs.Rig.{Passed, Rig, Slot, all_left, at_of, earliest, goes_on, happens, happens_to, levels_of, moment_in, pass, passes, passes_by, rested, rests_to, runs_to, slot_at, told}
+use Rattle.board_sim.specs.Rig.{Passed, Rig, Slot, all_left, at_of, earliest_moment, goes_on, happens_at, happens_to, levels_of, moment_in, pass, passes, passes_by, rested, rests_to, runs_to, slot_at, trigger_answers}
 use Rattle.board_sim.specs.RigRuns.{AreRegular, IsRegular}
 use Rattle.board_sim.proofs.Bound.{map_at, one_slot, same_or_not, slot_range}
 use Rattle.board_sim.proofs.Chosen.{chosen_is}
@@ -42,7 +42,7 @@ pub record IsRepeated (oid until report every tick : ℕ) (r : Rig) (answers : L
 record Stepped (oid until report every tick : ℕ) (s : Slot) (a : trig.Advanced) : Type 0 where
   next : ℕ
   silenced : IsSilenced next every tick (record s { trigger = a.trigger })
-  tells : (next ≡ report) ⊎ ((at : ℕ) × (report ≤ at) × (at < until) × (at + every ≡ next) × TellOff oid (tick % 2 ^ 32) (told oid a.event))
+  tells : (next ≡ report) ⊎ ((at : ℕ) × (report ≤ at) × (at < until) × (at + every ≡ next) × TellOff oid (tick % 2 ^ 32) (trigger_answers oid a.event))
 
 no_time : (o : Option ℕ) (at : ℕ) → o ≡ None → o ≡ Some at → ⊥
 no_time None at e f = cc
@@ -66,7 +66,7 @@ happened_step oid until report every tick levels (Reports at) s next k =
     }
 
 tells_step : (o : Option ℕ) (oid until report every tick : ℕ) (levels : List Level) (s : Slot) → s.trigger.untold ≡ o → IsRegular (Some s) → IsSilenced report every tick s → Stepped oid until report every tick s (trig.tells o levels until s.trigger)
-tells_step None oid until report every tick levels s e h k = happened_step oid until report every tick levels (trig.next levels until s.trigger) s (is_next levels until s.trigger h.1) k
+tells_step None oid until report every tick levels s e h k = happened_step oid until report every tick levels (trig.next_happening levels until s.trigger) s (is_next levels until s.trigger h.1) k
 tells_step (Some n) oid until report every tick levels s e h k = absurd (no_time s.trigger.untold n h.0 e)
 
 -- what happens on the board
@@ -98,10 +98,10 @@ happens_so oid i until report every tick r s (Some u) there here h k = happens_h
 abbrev Late : (oid until report every tick : ℕ) → Passed → Type 0
 Late oid until report every tick p = (x : IsRepeated oid until report every tick p.rig p.answers) × (until ≤ x.next)
 
-rests_late : (oid until report every tick : ℕ) (r : Rig) (s : Slot) → earliest r until 0 r.triggers ≡ None → slot_at r oid ≡ Some s → IsRegular (Some s) → IsSilenced report every tick s → Late oid until report every tick (rests_to r until)
+rests_late : (oid until report every tick : ℕ) (r : Rig) (s : Slot) → earliest_moment r until 0 r.triggers ≡ None → slot_at r oid ≡ Some s → IsRegular (Some s) → IsSilenced report every tick s → Late oid until report every tick (rests_to r until)
 rests_late oid until report every tick r s e here h k =
     let levels = levels_of r s.pin in
-    let late = none_left levels until report s.trigger (trig.next levels until s.trigger) (none_in r until 0 oid r.triggers s e here) (is_next levels until s.trigger h.1) k.report_is in (
+    let late = none_left levels until report s.trigger (trig.next_happening levels until s.trigger) (none_in r until 0 oid r.triggers s e here) (is_next levels until s.trigger h.1) k.report_is in (
       record {
         slot = record s { trigger = (trig.happened levels until Nothing s.trigger).trigger };
         is = map_at (rested r.pins until) r.triggers oid refl ∙ ap (rested r.pins until) here;
@@ -128,26 +128,26 @@ then_late oid until report every tick front rest x l =
     ] in
     (record { slot = y.slot; is = y.is; next = y.next; silenced = y.silenced; told = told_so }, l.1)
 
-goes_late : (o : Option (ℕ × ℕ)) (oid until report every tick : ℕ) (r : Rig) (s : Slot) (rest : Passed) → earliest r until 0 r.triggers ≡ o → slot_at r oid ≡ Some s → AreRegular r.triggers → r.controller.tick ≤ until → IsSilenced report every tick s
-    → ((x : IsRepeated oid until report every tick (happens r until (at_of o)).rig (happens r until (at_of o)).answers) → Left until r (happens r until (at_of o)).rig → Late oid until x.next every tick rest)
-    → Late oid until report every tick (goes_on o (rests_to r until) (passes_by (happens r until (at_of o)) rest))
+goes_late : (o : Option (ℕ × ℕ)) (oid until report every tick : ℕ) (r : Rig) (s : Slot) (rest : Passed) → earliest_moment r until 0 r.triggers ≡ o → slot_at r oid ≡ Some s → AreRegular r.triggers → r.controller.tick ≤ until → IsSilenced report every tick s
+    → ((x : IsRepeated oid until report every tick (happens_at r until (at_of o)).rig (happens_at r until (at_of o)).answers) → Left until r (happens_at r until (at_of o)).rig → Late oid until x.next every tick rest)
+    → Late oid until report every tick (goes_on o (rests_to r until) (passes_by (happens_at r until (at_of o)) rest))
 goes_late None oid until report every tick r s rest e here regular low_so k more =
     rests_late oid until report every tick r s e here (subst (λ (x : Option Slot). IsRegular x) here (regular_at oid r.triggers regular)) k
 goes_late (Some at) oid until report every tick r s rest e here regular low_so k more =
     let ran = (runs_to r ((at_of (Some at)).0 / 3)).rig in
-    let far : at.0 / 3 ≤ until = in_time (earliest r until 0 r.triggers) at until e (all_in r until 0 r.triggers) in
+    let far : at.0 / 3 ≤ until = in_time (earliest_moment r until 0 r.triggers) at until e (all_in r until 0 r.triggers) in
     let early : ran.controller.tick ≤ until = (timed 0 (at.0 / 3) r.controller).stays until low_so far in
     let moment : moment_in r until (slot_at r at.1) ≡ Some at.0 = chosen_is r until at e in
     let left = happens_left ran until at.0 at.1 (slot_at ran at.1) refl moment regular early in
     let x = happens_so oid at.1 until report every tick ran s (slot_at ran at.1) refl here (subst (λ (y : Option Slot). IsRegular y) here (regular_at oid r.triggers regular)) k in
-    then_late oid until report every tick (happens r until at) rest x (more x (record { regular = left.regular; less = left.less; tick = left.tick }))
+    then_late oid until report every tick (happens_at r until at) rest x (more x (record { regular = left.regular; less = left.less; tick = left.tick }))
 
 pass_late : (n oid until report every tick : ℕ) (r : Rig) (s : Slot) → slot_at r oid ≡ Some s → AreRegular r.triggers → r.controller.tick ≤ until → all_left until r.triggers < n → IsSilenced report every tick s
     → Late oid until report every tick (pass n r until)
 pass_late zero oid until report every tick r s here regular low_so less k = absurd (omega (arith, less))
 pass_late (suc n) oid until report every tick r s here regular low_so less k =
-    let front = happens r until (at_of (earliest r until 0 r.triggers)) in
-    goes_late (earliest r until 0 r.triggers) oid until report every tick r s (pass n front.rig until) refl here regular low_so k
+    let front = happens_at r until (at_of (earliest_moment r until 0 r.triggers)) in
+    goes_late (earliest_moment r until 0 r.triggers) oid until report every tick r s (pass n front.rig until) refl here regular low_so k
     (λ x left. pass_late n oid until x.next every tick front.rig x.slot x.is left.regular left.tick (let l = left.less in omega (arith, l, less)) x.silenced)
 
 -- over a stretch of time

@@ -34,7 +34,7 @@ use Rattle.laws_homing.specs.clear_boards.Firing.{AllSmall, AreSmall}
 use Rattle.laws_homing.specs.clear_boards.Hearing.{HeardBy, TellAble}
 use Rattle.laws_homing.specs.clear_boards.Reports.{IsReported, TellCan}
 use Rattle.laws_homing.specs.clear_boards.Rests.{RestsOver}
-use Rattle.laws_homing.specs.clear_boards.Turned.{AreBehind, IsBehind}
+use Rattle.laws_homing.specs.clear_boards.Turned.{AreSentBehind, IsSentBehind}
 use Rattle.laws_homing.specs.clear_groups.Resting.{EachTame, IsTame}
 use Rattle.laws_homing.specs.clear_groups.Sections.{IsAlike, IsFollowed, report_ticks}
 use Rattle.laws_homing.proofs.home_runs.Spelled.{own_state}
@@ -53,16 +53,16 @@ use Rattle.laws_homing.proofs.hindered.Holding as holding
 use Rattle.laws_homing.proofs.hindered.Holding.{Due}
 
 -- commands behind the set-up start none
-tame_one : (j clock : ℕ) (c : Cmd) → IsBehind j clock c → IsTame c
+tame_one : (j clock : ℕ) (c : Cmd) → IsSentBehind j clock c → IsTame c
 tame_one j clock (cmd.TrsyncStart oid at every reason) k = k
 tame_one j clock c k = tt
 
-behind_tame : (j clock : ℕ) (cs : List Cmd) → AreBehind j clock cs → EachTame cs
+behind_tame : (j clock : ℕ) (cs : List Cmd) → AreSentBehind j clock cs → EachTame cs
 behind_tame j clock [] k = tt
 behind_tame j clock (c ∷ cs) k = (tame_one j clock c k.0, behind_tame j clock cs k.1)
 
 -- its next report, and that it comes every so many ticks, is what no such command changes
-pub takes_due : (j every next clock : ℕ) (r : Rig) (cs : List Cmd) (s u : Slot) → AreBehind j clock cs → slot_at r j ≡ Some s → slot_at (takes_all r cs).rig j ≡ Some u → Due every next s.trigger → Due every next u.trigger
+pub takes_due : (j every next clock : ℕ) (r : Rig) (cs : List Cmd) (s u : Slot) → AreSentBehind j clock cs → slot_at r j ≡ Some s → slot_at (takes_all r cs).rig j ≡ Some u → Due every next s.trigger → Due every next u.trigger
 takes_due j every next clock r cs s u behind is there k =
     let h = holding.takes_due j every next r cs (behind_tame j clock cs behind) (record { slot = s; is = is; so = k }) in
     subst (λ (z : Slot). Due every next z.trigger) (one_slot (slot_at (takes_all r cs).rig j) h.slot u h.is there) h.so
@@ -116,7 +116,7 @@ module _ (m : Machine) (b : ℕ) (pins : List (List Level)) (entries : List Entr
 
   -- over the turn
   pub up_step : (all : List Clocks) (states : List State) (h : Homing) (lines : Clocks) (clock ready start last till limit : ℕ) (f : IsFollowed m b lines ready start last till) → IsAlike (length before + 277) (clocks_at all b) lines → b < length all
-      → state_at b states ≡ t.state ∷ [] → h.start ≡ start → h.group.start ≡ start → ready + 4 ≤ length before → length before + 276 ≤ till → start + 4 ≤ length before → length before ≤ last → own (length before) < 2 ^ 63 → AreBehind Oid clock Commands → AllSmall Start
+      → state_at b states ≡ t.state ∷ [] → h.start ≡ start → h.group.start ≡ start → ready + 4 ≤ length before → length before + 276 ≤ till → start + 4 ≤ length before → length before ≤ last → own (length before) < 2 ^ 63 → AreSentBehind Oid clock Commands → AllSmall Start
       → IsUp m b limit (own (length before)) h.group.start h.group.members Start → HasFired Oid After ⊎ IsUp m b limit Until h.group.start (hears_all all states h).group.members After
   up_step all states h lines clock ready start last till limit f alike here is begins group_begins low_so reach late soon range behind small up =
       let u = (next_all Oid clock Start Commands behind).slots up.slot up.is in

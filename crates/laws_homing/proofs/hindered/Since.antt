@@ -10,11 +10,11 @@ use Rattle.board_trig.specs.declared.sampling.Sampling.{Sampling}
 use Rattle.board_trig.specs.declared.trigger.Trigger.{Trigger}
 use Rattle.board_trig.specs.declared.trigger.Happening.{Happening}
 use Rattle.board_trig.specs.declared.trigger.Happening.TheVariants.{Nothing, Expires, Switches, Reports}
-use Rattle.board_trig.specs.Sampling.{IsTriggerTick, completes, group, group_behind, has_failed, pressed, reading, sampled, sampled_to}
+use Rattle.board_trig.specs.Sampling.{IsTriggerTick, completes, group, group_behind, has_failed, pressed, reading_tick, sampled, sampled_to}
 use Rattle.board_trig.specs.Trigger as trig
 use Rattle.msg_code.specs.declared.cmd.Cmd.{Cmd}
 use Rattle.msg_code.specs.declared.cmd.Cmd.TheVariants as cmd
-use Rattle.board_sim.specs.Rig.{Rig, Slot, acts_running, becomes, passes, slot_at, start, takes, takes_all}
+use Rattle.board_sim.specs.Rig.{Rig, Slot, acts_running, becomes, passes, slot_at, start_trigger, takes, takes_all}
 use Rattle.laws_homing.specs.clear_groups.Resting.{EachTame}
 use Rattle.laws_homing.proofs.clear_boards.Slots.{Follows, Next, levels_at}
 use Rattle.laws_homing.proofs.home_runs.Moments.{report_from}
@@ -59,7 +59,7 @@ trigger_at : (levels : List Level) (s : Sampling) (tick : ℕ) → IsTriggerTick
 trigger_at levels s tick is =
     let at = group_at is.number levels s in
     let last = is.last in
-    let on : (group levels s is.number).at ≤ reading (group levels s is.number) (s.count - 1) = omega arith in
+    let on : (group levels s is.number).at ≤ reading_tick (group levels s is.number) (s.count - 1) = omega arith in
     omega (arith, at, last, on)
 
 -- they begin no sooner than now, and than the tick that is asked for
@@ -121,14 +121,14 @@ module _ (base : ℕ) where
       record { fired = λ off. late; timed = λ x is. absurd (cc); reads = λ y is. absurd (cc) }
 
   begun_at : (b : Bool) (now : ℕ) (g : Reading) (y : Sampling) → (base ≤ now) ⊎ (base ≤ nearest now g.clock)
-      → (if b then None else Some (record { at = trig.first_from now (nearest now g.clock) (trig.rest_of g); sample = g.sample_ticks; count = g.sample_count; rest = trig.rest_of g; value = g.pin_value == 1; reason = g.reason })) ≡ Some y → base ≤ y.at
+      → (if b then None else Some (record { at = trig.first_from now (nearest now g.clock) (trig.least_rest g); sample = g.sample_ticks; count = g.sample_count; rest = trig.least_rest g; value = g.pin_value == 1; reason = g.reason })) ≡ Some y → base ≤ y.at
   begun_at true now g y fit e = absurd (cc)
   begun_at false now g y fit e =
-      let at = trig.first_from now (nearest now g.clock) (trig.rest_of g) in
-      let z : Sampling = record { at = at; sample = g.sample_ticks; count = g.sample_count; rest = trig.rest_of g; value = g.pin_value == 1; reason = g.reason } in
+      let at = trig.first_from now (nearest now g.clock) (trig.least_rest g) in
+      let z : Sampling = record { at = at; sample = g.sample_ticks; count = g.sample_count; rest = trig.least_rest g; value = g.pin_value == 1; reason = g.reason } in
       let same : z ≡ y = cc in
-      let late : now ≤ at = report_from false now g.clock (trig.rest_of g) at (some_rest (g.rest_ticks == 0) g refl) refl in
-      let far : nearest now g.clock ≤ at = first_on now (nearest now g.clock) (trig.rest_of g) in
+      let late : now ≤ at = report_from false now g.clock (trig.least_rest g) at (some_rest (g.rest_ticks == 0) g refl) refl in
+      let far : nearest now g.clock ≤ at = first_on now (nearest now g.clock) (trig.least_rest g) in
       let low : base ≤ at = elim fit [ inl l ↦ omega (arith, l, late) | inr l ↦ omega (arith, l, far) ] in
       subst (λ (s : Sampling). base ≤ s.at) same low
     where
@@ -154,6 +154,6 @@ module _ (base : ℕ) where
   pub start_since : (j clock every reason : ℕ) (r : Rig) → r.controller.state ≡ Running → HasSlot j r → ((s : Slot) → slot_at r j ≡ Some s → (y : Sampling) → s.trigger.sampling ≡ Some y → ⊥) → Holds j M (takes r (cmd.TrsyncStart j clock every reason)).rig
   start_since j clock every reason r runs h none =
       subst (λ (o : BoardState). Holds j M (acts_running o r (cmd.TrsyncStart j clock every reason)).rig) (sym runs)
-      (subst (λ (o : Option Slot). Holds j M (start r j o clock every reason)) (sym h.is)
+      (subst (λ (o : Option Slot). Holds j M (start_trigger r j o clock every reason)) (sym h.is)
       (let t = trig.started r.controller.tick clock every reason h.slot.trigger in
       put_holds j M r (becomes r j h.slot t) (record h.slot { trigger = t }) h.slot refl h.is (record { fired = λ off. absurd (cc); timed = λ x is. absurd (cc); reads = λ y is. absurd (none h.slot h.is y is) })))

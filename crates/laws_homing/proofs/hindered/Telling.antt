@@ -34,12 +34,12 @@ use Rattle.laws_board.proofs.clocks.Lines.{as_long, noted_phase, run_before}
 use Rattle.laws_board.proofs.orders.Controlled.{few_on}
 use Rattle.laws_board.proofs.sections.Clocks.{ticks_rise}
 use Rattle.laws_board.specs.clocks.Ordered.{commands_in}
-use Rattle.laws_homing.specs.home_runs.Sections.{HomesFrom, TakesSetUp, queued_by}
+use Rattle.laws_homing.specs.home_runs.Sections.{HomesFrom, TakesSetUp, queued_in_turns}
 use Rattle.laws_homing.specs.home_runs.Told.{IsMember}
 use Rattle.laws_homing.specs.clear_groups.Resting.{EachTame, IsTame}
 use Rattle.laws_homing.specs.clear_groups.Sections.{BeginsNoneFrom, IsAlike, IsFollowed, KnowsLines, ShutNone, report_ticks}
 use Rattle.laws_homing.specs.clear_groups.SetUp.{IsNewAt}
-use Rattle.laws_homing.specs.fired_runs.Since.{AllRead, AreBehind, AreRead, BeginsApart, IsAtRest, ReadsSwitchTrue, ReadsTrue}
+use Rattle.laws_homing.specs.fired_runs.Since.{AllRead, AreNotAhead, AreSoInTurns, BeginsApart, IsAtRest, ReadsSwitchTrue, ReadsTrue}
 use Rattle.laws_homing.specs.hindered.Hindered.{HeardByNow, IsGoingOn, StoodAt, TellsOn}
 use Rattle.laws_homing.specs.switch_runs.Taken.{AreBlind, IsBlind}
 use Rattle.laws_homing.proofs.home_runs.Joining.{all_queued}
@@ -150,9 +150,9 @@ module _ (m : Machine) (v : IsValidMachine m) (switches : List Switch) (pins : L
     homes : HomesFrom m switches from start members (c ∷ before)
     knows : KnowsLines m switches start all_lines (c ∷ before)
     apart : BeginsApart m switches (c ∷ before)
-    behind : AreBehind m switches b (c ∷ before)
-    reads : AreRead (ReadsTrue m switches b) (c ∷ before) early
-    sees : AreRead (ReadsSwitchTrue m switches b) (c ∷ before) early
+    behind : AreNotAhead m switches b (c ∷ before)
+    reads : AreSoInTurns (ReadsTrue m switches b) (c ∷ before) early
+    sees : AreSoInTurns (ReadsSwitchTrue m switches b) (c ∷ before) early
     tame : AreSo IsTame w
     mild : AreSo (IsMild (Unit {0})) (w ++ order ∷ [])
 
@@ -176,7 +176,7 @@ module _ (m : Machine) (v : IsValidMachine m) (switches : List Switch) (pins : L
   ]
 
   found : (came : List Came) (w : List BoardTurn) (order : BoardTurn) (early : List BoardTurn) → Run came (w ++ order ∷ early) → length early ≡ from → HomesFrom m switches from start members came → KnowsLines m switches start all_lines came → BeginsApart m switches came
-      → AreBehind m switches b came → AreRead (ReadsTrue m switches b) came (rest_of m v switches pins entries b (w ++ order ∷ early)) → AreRead (ReadsSwitchTrue m switches b) came (rest_of m v switches pins entries b (w ++ order ∷ early)) → Found w order early
+      → AreNotAhead m switches b came → AreSoInTurns (ReadsTrue m switches b) came (rest_of m v switches pins entries b (w ++ order ∷ early)) → AreSoInTurns (ReadsSwitchTrue m switches b) came (rest_of m v switches pins entries b (w ++ order ∷ early)) → Found w order early
   found [] [] order early r long homes knows apart behind reads sees = absurd r.both
   found [] (t ∷ w) order early r long homes knows apart behind reads sees = absurd r.both
   found (c ∷ before) [] order early r long homes knows apart behind reads sees =
@@ -266,15 +266,15 @@ module _ (m : Machine) (v : IsValidMachine m) (switches : List Switch) (pins : L
 
     -- what was queued before each of the two
     abbrev One_front : List Meant
-    One_front = queued_by early ++ Sfront
+    One_front = queued_in_turns early ++ Sfront
 
     abbrev Two_front : List Meant
     Two_front = One_front ++ Begin ∷ []
 
-    one_queue : queued_by Order ≡ One_front ++ Begin ∷ More
-    one_queue = ap (λ (l : List Meant). queued_by early ++ l) started.split.are ∙ sym (append_assoc (queued_by early) Sfront (Begin ∷ More))
+    one_queue : queued_in_turns Order ≡ One_front ++ Begin ∷ More
+    one_queue = ap (λ (l : List Meant). queued_in_turns early ++ l) started.split.are ∙ sym (append_assoc (queued_in_turns early) Sfront (Begin ∷ More))
 
-    two_queue : queued_by Order ≡ Two_front ++ then.limit ∷ then.rest
+    two_queue : queued_in_turns Order ≡ Two_front ++ then.limit ∷ then.rest
     two_queue = one_queue ∙ ap (λ (l : List Meant). One_front ++ Begin ∷ l) then.are ∙ sym (append_assoc One_front (Begin ∷ []) (then.limit ∷ then.rest))
 
     all_tame : EachTame (commands_of (then.limit ∷ then.rest))
@@ -283,26 +283,26 @@ module _ (m : Machine) (v : IsValidMachine m) (switches : List Switch) (pins : L
     few : Oid < 256
     few = let most = v.steppers_few in let here = few_on b m.steppers in omega (arith, most, here)
 
-    only_all : Only Oid (commands_of (queued_by Order))
+    only_all : Only Oid (commands_of (queued_in_turns Order))
     only_all = queue_only Oid Order (run_only m switches pins entries b (x.c ∷ x.before) Order v x.run)
 
-    has_early : Has Oid (commands_of (queued_by early))
+    has_early : Has Oid (commands_of (queued_in_turns early))
     has_early =
         let all = all_configured m switches pins entries b x.before early v run_early home.0 in
         queue_has Oid early (filter_has Oid (commands_in early) (subst (λ (l : List Cmd). Has Oid l) (sym all) (config_has m b)))
 
-    only_front : (front rest : List Meant) → queued_by Order ≡ front ++ rest → Only Oid (commands_of front)
+    only_front : (front rest : List Meant) → queued_in_turns Order ≡ front ++ rest → Only Oid (commands_of front)
     only_front front rest e =
         (only_parts Oid (commands_of front) (commands_of rest) (subst (λ (l : List Cmd). Only Oid l) (ap commands_of e ∙ commands_both front rest) only_all)).0
 
-    has_more : (xs : List Meant) → Has Oid (commands_of (queued_by early ++ xs))
-    has_more xs = subst (λ (l : List Cmd). Has Oid l) (sym (commands_both (queued_by early) xs)) (has_front Oid (commands_of (queued_by early)) (commands_of xs) has_early)
+    has_more : (xs : List Meant) → Has Oid (commands_of (queued_in_turns early ++ xs))
+    has_more xs = subst (λ (l : List Cmd). Has Oid l) (sym (commands_both (queued_in_turns early) xs)) (has_front Oid (commands_of (queued_in_turns early)) (commands_of xs) has_early)
 
     one_has : Has Oid (commands_of One_front)
     one_has = has_more Sfront
 
     two_has : Has Oid (commands_of Two_front)
-    two_has = subst (λ (l : List Meant). Has Oid (commands_of l)) (sym (append_assoc (queued_by early) Sfront (Begin ∷ []))) (has_more (Sfront ++ Begin ∷ []))
+    two_has = subst (λ (l : List Meant). Has Oid (commands_of l)) (sym (append_assoc (queued_in_turns early) Sfront (Begin ∷ []))) (has_more (Sfront ++ Begin ∷ []))
 
     until : start ≤ f.tracked.until
     until = let ends = f.ends in let goes = f.goes in omega (arith, ends, goes, till_so)
@@ -310,7 +310,7 @@ module _ (m : Machine) (v : IsValidMachine m) (switches : List Switch) (pins : L
     small_at : (k : ℕ) → k < start → Own k < 2 ^ 63
     small_at k l = let up = grows m v switches pins entries b k (length z) (omega (arith, l, late)) in omega (arith, up, small)
 
-    lefts : (y : List BoardTurn) → Are y → (left : List Meant) × (Taken y ++ left ≡ queued_by y)
+    lefts : (y : List BoardTurn) → Are y → (left : List Meant) × (Taken y ++ left ≡ queued_in_turns y)
     lefts y are = left_of m v switches pins entries b y are
 
     low_enough : ready + 251 ≤ start
@@ -323,7 +323,7 @@ module _ (m : Machine) (v : IsValidMachine m) (switches : List Switch) (pins : L
     rested : IsAtRest Oid First early
     rested = rest_before m v switches pins entries b x.c x.before early H run_early x.apart (earlier_reads m v switches pins entries b (ReadsTrue m switches b) x.c x.before early run_early x.reads) x.behind.1 home.1.1 far
 
-    unread : ((s : Slot) → slot_at (Board early) Oid ≡ Some s → s.trigger.sampling ≡ None) × ((left : List Meant) × (Taken early ++ left ≡ queued_by early) × AreBlind left)
+    unread : ((s : Slot) → slot_at (Board early) Oid ≡ Some s → s.trigger.sampling ≡ None) × ((left : List Meant) × (Taken early ++ left ≡ queued_in_turns early) × AreBlind left)
     unread =
         let l = far in
         unread_before m v switches pins entries b x.c x.before early H run_early x.apart (earlier_reads m v switches pins entries b (ReadsSwitchTrue m switches b) x.c x.before early run_early x.sees) x.behind.1 home.1.1 (omega (arith, l))
@@ -335,7 +335,7 @@ module _ (m : Machine) (v : IsValidMachine m) (switches : List Switch) (pins : L
     abbrev Limited : ℕ → Rig → Type 0
     Limited k r = setting.Limited m pins entries b Lines ready start last till f few k r
 
-    module _ (k u : List BoardTurn) (z_is : z ≡ (k ++ u) ++ Order) (are : Are ((k ++ u) ++ Order)) (shut : ShutNone ((k ++ u) ++ Order)) (tame : AreSo IsTame (k ++ u)) (u_low : length (u ++ Order) + 1 ≤ start) (took : length (queued_by Order) ≤ length (Taken (u ++ Order))) where
+    module _ (k u : List BoardTurn) (z_is : z ≡ (k ++ u) ++ Order) (are : Are ((k ++ u) ++ Order)) (shut : ShutNone ((k ++ u) ++ Order)) (tame : AreSo IsTame (k ++ u)) (u_low : length (u ++ Order) + 1 ≤ start) (took : length (queued_in_turns Order) ≤ length (Taken (u ++ Order))) where
       are_u : Are (u ++ Order)
       are_u = begun (clock_of (board_at m b)) First k (u ++ Order) (subst Are (append_assoc k u Order) are)
 
@@ -357,7 +357,7 @@ module _ (m : Machine) (v : IsValidMachine m) (switches : List Switch) (pins : L
       Turns_to ms t y = t.after.core.board ≡ (passes (takes_all (Board y) (commands_of ms)).rig (Own (length y + 1))).rig
 
       -- of what holds from the turn on in which a command is taken
-      module _ (C : Cmd → Type 0) (P : ℕ → Rig → Type 0) (front : List Meant) (begin : Meant) (rest : List Meant) (queue : queued_by Order ≡ front ++ begin ∷ rest) (rest_so : AllSo C rest) (low_front : length (queued_by early) ≤ length front)
+      module _ (C : Cmd → Type 0) (P : ℕ → Rig → Type 0) (front : List Meant) (begin : Meant) (rest : List Meant) (queue : queued_in_turns Order ≡ front ++ begin ∷ rest) (rest_so : AllSo C rest) (low_front : length (queued_in_turns early) ≤ length front)
           (enters : (t : BoardTurn) (y : List BoardTurn) → Are (t ∷ y) → Past (t ∷ y) → from ≤ length y → length y < start - 1 → (fr mo : List Meant) → Taken y ++ fr ≡ front → AllSo C mo → Turns_to (fr ++ begin ∷ mo) t y → P (length (t ∷ y)) t.after.core.board)
           (keeps : (t : BoardTurn) (y : List BoardTurn) → Are (t ∷ y) → (ms : List Meant) → AllSo C ms → Turns_to ms t y → P (length y) (Board y) → P (length (t ∷ y)) t.after.core.board) where
         held_at : (l : List BoardTurn) → Are ((l ++ u) ++ Order) → AreSo C (l ++ u) → (length front < length (Taken ((l ++ u) ++ Order))) × P (length ((l ++ u) ++ Order)) (Board ((l ++ u) ++ Order))
@@ -372,7 +372,7 @@ module _ (m : Machine) (v : IsValidMachine m) (switches : List Switch) (pins : L
 
       tells_at : Telling (length z) (Board z)
       tells_at =
-          let size = length-append (queued_by early) Sfront in
+          let size = length-append (queued_in_turns early) Sfront in
           let at = held_at IsTame Telling One_front Begin More one_queue (tame_so More started.split.behind) (omega (arith, size))
           (λ t y a s low high fr mo e g board. setting.enters_telling m pins entries b Lines ready start last till f few One_front (only_front One_front (Begin ∷ More) one_queue) one_has Begin command until small_at t y a s.0 (omega (arith, low, begins)) high low_enough fr mo e (so_tame mo g) board)
           (λ t y a ms g board s. setting.keeps_telling m pins entries b Lines ready start last till f few t y a ms (so_tame ms g) board s) k are tame in
@@ -380,7 +380,7 @@ module _ (m : Machine) (v : IsValidMachine m) (switches : List Switch) (pins : L
 
       limited_at : Limited (length z) (Board z)
       limited_at =
-          let size = length-append (queued_by early) Sfront in
+          let size = length-append (queued_in_turns early) Sfront in
           let more = length-append One_front (Begin ∷ []) in
           let at = held_at IsTame Limited Two_front then.limit then.rest two_queue (tame_so then.rest all_tame.1) (omega (arith, size, more))
           (λ t y a s low high fr mo e g board. setting.enters_limited m pins entries b Lines ready start last till f few Two_front (only_front Two_front (then.limit ∷ then.rest) two_queue) two_has then.limit then.sets t y a s.0 fr mo e (so_tame mo g) board)
@@ -403,7 +403,7 @@ module _ (m : Machine) (v : IsValidMachine m) (switches : List Switch) (pins : L
           none_read None y e g = cc
           none_read (Some q) y e g = cc
 
-      queued_early : queued_by early ≡ Taken early ++ rested.left
+      queued_early : queued_in_turns early ≡ Taken early ++ rested.left
       queued_early = sym (rested.rest ∙ all_queued (board_at m b) pins b entries early run_early.turns_are)
 
       blind_left : AreBlind rested.left
@@ -497,7 +497,7 @@ module _ (m : Machine) (v : IsValidMachine m) (switches : List Switch) (pins : L
               let so_w = are_pair IsTame Aims w (are_part IsTame up w tame_all) (in_are Aims from (start + 4) w Order (omega (arith, long)) (omega (arith, long_w)) aims_w) in
               let First_on : ℕ → Rig → Type 0 = λ n r. (from ≤ n) × (n ≤ start + 4 → Later r) in
               let Then_on : ℕ → Rig → Type 0 = λ n r. (start + 4 ≤ n) × Later r in
-              let one_size = length-append (queued_by early) Sfront in
+              let one_size = length-append (queued_in_turns early) Sfront in
               let first = held_at Window First_on One_front Begin More one_queue (so_pair IsTame Aims More (tame_so More started.split.behind) aims_more) (omega (arith, one_size))
               (λ t y a past least high fr mo e g board. (
                 omega (arith, least),
@@ -573,8 +573,8 @@ module _ (m : Machine) (v : IsValidMachine m) (switches : List Switch) (pins : L
               let u_size = ap length old_is in
               let past_more = front_part u y s.late s.past (sym old_is) (omega (arith, part_long, queued, begins)) in
               let more = queue_later past_more.0 y in
-              let n_past = ap (λ (l : List BoardTurn). length (queued_by l)) past_more.1 ∙ ap length more.1 ∙ length-append (queued_by y) more.0 in
-              let n_took = sym (length-append (queued_by s.past) s.more) ∙ ap length s.took in
+              let n_past = ap (λ (l : List BoardTurn). length (queued_in_turns l)) past_more.1 ∙ ap length more.1 ∙ length-append (queued_in_turns y) more.0 in
+              let n_took = sym (length-append (queued_in_turns s.past) s.more) ∙ ap length s.took in
               let n_old = ap (λ (l : List BoardTurn). length (Taken l)) old_is in
               let same_long = as_long m switches b before turns p.run.both in
               let mild = subst (AreSo (IsMild (Unit {0}))) (append_assoc later (k ++ u) (order ∷ [])) x.mild in
@@ -587,13 +587,13 @@ module _ (m : Machine) (v : IsValidMachine m) (switches : List Switch) (pins : L
               got : (later k u : List BoardTurn) (order : BoardTurn) (early : List BoardTurn) → turns ≡ (later ++ (k ++ u)) ++ order ∷ early → length early ≡ from → Found (later ++ (k ++ u)) order early
               got later k u order early all long =
                   let W = later ++ (k ++ u) in
-                  let Reads : (Came → List Came → List BoardTurn → Type 0) → List BoardTurn → Type 0 = λ R l. AreRead R before (rest_of m v switches pins entries b l) in
+                  let Reads : (Came → List Came → List BoardTurn → Type 0) → List BoardTurn → Type 0 = λ R l. AreSoInTurns R before (rest_of m v switches pins entries b l) in
                   found before W order early (subst (λ (l : List BoardTurn). Run before l) all p.run) long homes.1 knows.1 apart.1 p.behind (subst (Reads (ReadsTrue m switches b)) all (rest_read (ReadsTrue m switches b) turns p.reads)) (subst (Reads (ReadsSwitchTrue m switches b)) all (rest_read (ReadsSwitchTrue m switches b) turns p.reads_switch))
                 where
-                  rest_read : (R : Came → List Came → List BoardTurn → Type 0) (l : List BoardTurn) → AllRead R before l → AreRead R before (rest_of m v switches pins entries b l)
+                  rest_read : (R : Came → List Came → List BoardTurn → Type 0) (l : List BoardTurn) → AllRead R before l → AreSoInTurns R before (rest_of m v switches pins entries b l)
                   rest_read R [] k = none before
                     where
-                      none : (came : List Came) → AreRead R came []
+                      none : (came : List Came) → AreSoInTurns R came []
                       none [] = tt
                       none (d ∷ came) = tt
                   rest_read R (t ∷ l) k = k

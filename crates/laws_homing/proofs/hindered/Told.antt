@@ -26,7 +26,7 @@ use Rattle.laws_homing.specs.home_runs.Sections.{HomesFrom}
 use Rattle.laws_homing.specs.home_runs.Told.{IsMember}
 use Rattle.laws_homing.specs.switch_runs.Reports.{IsReport, WasReported}
 use Rattle.laws_homing.specs.clear_groups.Sections.{IsAlike, IsFollowed, IsHomingSection, KnowsLines, turns_of}
-use Rattle.laws_homing.specs.fired_runs.Since.{AreBehind, AreRead, IsFiredAt, ReadsAsTold, ReadsSwitchTrue, ReadsTrue, WasFiredAt}
+use Rattle.laws_homing.specs.fired_runs.Since.{AreNotAhead, AreSoInTurns, IsFiredAt, ReadsAsTold, ReadsSwitchTrue, ReadsTrue, WasFiredAt}
 use Rattle.laws_homing.proofs.clear_boards.Clocking.{line_ahead}
 use Rattle.laws_homing.proofs.clear_boards.Ending.{when_is}
 use Rattle.laws_homing.proofs.clear_groups.Known.{of_known, some_known}
@@ -43,7 +43,7 @@ pub told_switch : (m : Machine) (switches : List Switch) (b : ℕ) (c : Came) (b
 told_switch m switches b c before turns k = λ h f is reader one x.
     subst (λ (n : ℕ). WasFiredAt (trigger_of m b) n f.tick turns) one (k h f is (is_member b (members_of h.group) reader) x)
 
-pub read_more : (R S : Came → List Came → List BoardTurn → Type 0) (came : List Came) (turns : List BoardTurn) → ((c : Came) (before : List Came) (past : List BoardTurn) → R c before past → S c before past) → AreRead R came turns → AreRead S came turns
+pub read_more : (R S : Came → List Came → List BoardTurn → Type 0) (came : List Came) (turns : List BoardTurn) → ((c : Came) (before : List Came) (past : List BoardTurn) → R c before past → S c before past) → AreSoInTurns R came turns → AreSoInTurns S came turns
 read_more R S [] turns f k = tt
 read_more R S (c ∷ before) [] f k = tt
 read_more R S (c ∷ before) (t ∷ earlier) f k = (f c before (t ∷ earlier) k.0, read_more R S before earlier f k.1)
@@ -114,7 +114,7 @@ module _ (m : Machine) (v : IsValidMachine m) (switches : List Switch) (pins : L
   ]
 
   told_now : (c : Came) (before : List Came) (turns : List BoardTurn) → IsInRun m switches pins entries b before turns → state_at b c.states ≡ latest_state turns → HomesFrom m switches from start ms (c ∷ before) → KnowsLines m switches start lines (c ∷ before)
-      → AreRead (ReadsAsTold m switches b) (c ∷ before) turns → AreBehind m switches b (c ∷ before) → length before + 276 ≤ till → IsReport m switches b start f c before → Told turns
+      → AreSoInTurns (ReadsAsTold m switches b) (c ∷ before) turns → AreNotAhead m switches b (c ∷ before) → length before + 276 ≤ till → IsReport m switches b start f c before → Told turns
   told_now c before [] r latest homes knows reads behind reach x = absurd (let came = x.came in let bad : [] ≡ x.state ∷ [] = sym latest ∙ came in cc)
   told_now c before (t ∷ earlier) r latest homes knows reads behind reach x =
       let W : List BoardTurn → Type 0 = λ z. WasFiredAt Oid f.reason f.tick z in
@@ -132,7 +132,7 @@ module _ (m : Machine) (v : IsValidMachine m) (switches : List Switch) (pins : L
       record { was = read.was; late = read.late; early = told_early (length before) (clocks_at (noted m c.note (known_by m switches before)).clocks b) alike x.turn_is (omega (arith, came, at)) (omega (arith, counts, turn, long)) reach }
 
   pub was_told : (c : Came) (before : List Came) (turns : List BoardTurn) → IsInRun m switches pins entries b before turns → state_at b c.states ≡ latest_state turns → HomesFrom m switches from start ms (c ∷ before) → KnowsLines m switches start lines (c ∷ before)
-      → AreRead (ReadsAsTold m switches b) (c ∷ before) turns → AreBehind m switches b (c ∷ before) → length before + 276 ≤ till → WasReported m switches b start f (c ∷ before) → Told turns
+      → AreSoInTurns (ReadsAsTold m switches b) (c ∷ before) turns → AreNotAhead m switches b (c ∷ before) → length before + 276 ≤ till → WasReported m switches b start f (c ∷ before) → Told turns
   was_told c before turns r latest homes knows reads behind reach (inl now) = told_now c before turns r latest homes knows reads behind reach now
   was_told c [] turns r latest homes knows reads behind reach (inr old) = absurd old
   was_told c (d ∷ before) [] r latest homes knows reads behind reach (inr old) = absurd r.both

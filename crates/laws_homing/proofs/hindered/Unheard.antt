@@ -22,7 +22,7 @@ use Rattle.laws_board.specs.turns.Turns.{BoardTurn, latest_state, stands_after}
 use Rattle.laws_board.specs.clocks.Runs.{IsInRun}
 use Rattle.laws_homing.specs.home_runs.Told.{IsMember}
 use Rattle.laws_homing.specs.clear_boards.Hearing.{KnownOn, NoneOn}
-use Rattle.laws_homing.specs.fired_runs.Since.{AreBehind, AreReadTrue, BeginsApart}
+use Rattle.laws_homing.specs.fired_runs.Since.{AreNotAhead, AreReadTrue, BeginsApart}
 use Rattle.laws_homing.specs.switch_runs.Reports.{WasReported}
 use Rattle.laws_homing.proofs.fired_runs.Reported.{Each, all_told}
 use Rattle.laws_homing.proofs.fired_runs.Rested.{reported_fired}
@@ -49,7 +49,7 @@ known_of W own b last (x ∷ xs) given early = ((λ on. by on x.fired refl), kno
 
 module _ (m : Machine) (v : IsValidMachine m) (switches : List Switch) (pins : List (List Level)) (entries : List Entry) (b : ℕ) where
   pub unheard_at : (c : Came) (before : List Came) (turns : List BoardTurn) (h : Homing) → IsInRun m switches pins entries b before turns → state_at b c.states ≡ latest_state turns → BeginsApart m switches (c ∷ before) → AreReadTrue m switches b (c ∷ before) turns
-      → AreBehind m switches b (c ∷ before) → (noted m c.note (known_by m switches before)).homing ≡ Some h → IsMember b (members_of h.group) → (u : Slot) → slot_at (stands_after (first_state (board_at m b) pins b entries) turns).core.board (trigger_of m b) ≡ Some u
+      → AreNotAhead m switches b (c ∷ before) → (noted m c.note (known_by m switches before)).homing ≡ Some h → IsMember b (members_of h.group) → (u : Slot) → slot_at (stands_after (first_state (board_at m b) pins b entries) turns).core.board (trigger_of m b) ≡ Some u
       → u.trigger.can ≡ true → NoneOn b (hears_all (noted m c.note (known_by m switches before)).clocks c.states h).group.members
   unheard_at c before turns h r latest apart reads behind is member u there can =
       none_of (λ n f. WasReported m switches n h.start f (c ∷ before)) (axis_at m h.axis).board b (hears_all (noted m c.note (known_by m switches before)).clocks c.states h).group.members (all_told m switches c before h r.goes_on is)

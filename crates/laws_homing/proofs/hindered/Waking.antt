@@ -25,7 +25,7 @@ use Rattle.laws_board.proofs.clocks.Lines.{run_before}
 use Rattle.laws_board.proofs.sections.Clocks.{ticks_rise}
 use Rattle.trigger_group.specs.declared.order.Member.{Member}
 use Rattle.trigger_group.specs.declared.seen.Seen.{Seen}
-use Rattle.trigger_group.specs.Group.{GroupState, after, all_fired, any_fired_by}
+use Rattle.trigger_group.specs.Group.{GroupState, turned_group, all_fired, any_fired_by}
 use Rattle.trigger_group.proofs.Answering.{first_there, there_more}
 use Rattle.trigger_group.proofs.Knows.{after_last}
 use Rattle.axis_homing.specs.declared.homing.Homing.{Homing}
@@ -171,7 +171,7 @@ module _ (m : Machine) (v : IsValidMachine m) (switches : List Switch) (pins : �
     next_of : (Next.start ≡ start) × (Next.group.start ≡ start)
     next_of = (let of = groups.next_of m switches pins entries lines ready at start last till members followed c d past j js s early low_here far_here reach h is in (of.0, of.1))
 
-    sent_next : N.sent ≡ (after G K).sent
+    sent_next : N.sent ≡ (turned_group G K).sent
     sent_next = (groups.hears m switches pins entries lines ready at start last till members followed c d past j js s early low_here far_here reach h is).sent
 
     begins_next : N.start ≡ start
@@ -246,10 +246,10 @@ module _ (m : Machine) (v : IsValidMachine m) (switches : List Switch) (pins : �
       runs = runs_rested (board_at m b) (pins b) b entries (j b) Turns rests are (groups.plain m switches pins entries lines ready at start last till members followed c d past j js s early low_here far_here reach h is b on).none_shut.0
 
       -- one that is sent a timeout in time
-      pub ahead_on : (tick limit : ℕ) → IsLimited (trigger_of m b) tick limit Before → (limit ≡ lines_tick (lines b) ((after G K).sent * turn_ns)) ⊎ SetsOne Commands → K + 2 ≤ (after G K).sent → (after G K).sent ≤ last + 1 → (after G K).sent ≤ K + 274 → IsLimited (trigger_of m b) tick (lines_tick (lines b) (N.sent * turn_ns)) Later
+      pub ahead_on : (tick limit : ℕ) → IsLimited (trigger_of m b) tick limit Before → (limit ≡ lines_tick (lines b) ((turned_group G K).sent * turn_ns)) ⊎ SetsOne Commands → K + 2 ≤ (turned_group G K).sent → (turned_group G K).sent ≤ last + 1 → (turned_group G K).sent ≤ K + 274 → IsLimited (trigger_of m b) tick (lines_tick (lines b) (N.sent * turn_ns)) Later
       ahead_on tick limit limited sets far most near =
           let f = followed b on in
-          let next = (after G K).sent in
+          let next = (turned_group G K).sent in
           let l = long in
           let to = f.ends in
           let low = low_here in
@@ -299,7 +299,7 @@ module _ (m : Machine) (v : IsValidMachine m) (switches : List Switch) (pins : �
     open_it : all_fired G.members ≡ false
     open_it = groups.unended m switches pins entries lines ready at start last till members followed c d past j js s early low_here far_here reach h is begins late_start
 
-    grows : G.sent ≤ (after G K).sent
+    grows : G.sent ≤ (turned_group G K).sent
     grows = (let e = after_is G K late_start open_it in omega (arith, e))
 
     -- the group renews its timeout
@@ -315,18 +315,18 @@ module _ (m : Machine) (v : IsValidMachine m) (switches : List Switch) (pins : �
           | inr z ↦ near_so (Own b) (lines_tick (lines b) (start * turn_ns)) (report_ticks m b) start b K u.next G.members f.ticks f.reports ahead due (inr z)
         ]
 
-    renews : at + 7 ≤ K → ((b : ℕ) → IsMember b members → IsUp m b (Limit b) (Own b K) start G.members (rig_at m pins entries js b)) → (K + 15 ≤ (after G K).sent) ⊎ (last + 1 ≤ (after G K).sent)
+    renews : at + 7 ≤ K → ((b : ℕ) → IsMember b members → IsUp m b (Limit b) (Own b K) start G.members (rig_at m pins entries js b)) → (K + 15 ≤ (turned_group G K).sent) ⊎ (last + 1 ≤ (turned_group G K).sent)
     renews late up =
         let near : (x : Seen) → Contains G.members x → NearOn G.start x.member.board K G.members = (λ x k. (
         let on = subst (IsMember x.member.board) (groups.are_members m switches pins entries lines ready at start last till members followed c d past j js s early low_here far_here reach h is) (seen_member x G.members k) in
         subst (λ (n : ℕ). NearOn n x.member.board K G.members) (sym begins) (near_at late x.member.board on (up x.member.board on)))) in
         elim (renewed G K (K - 10) late_start (heard_all G.start K G.members near) open_it) [ inl far ↦ inl (omega (arith, far, late)) | inr far ↦ inr (omega (arith, far, lasts)) ]
 
-    sets_on : (G.sent ≡ (after G K).sent) ⊎ SetsOne (Commands y on_y)
+    sets_on : (G.sent ≡ (turned_group G K).sent) ⊎ SetsOne (Commands y on_y)
     sets_on = (let seen = groups.seen m switches pins entries lines ready at start last till members followed c d past j js s early low_here far_here reach h is y on_y in (sent y on_y).sets seen.0 seen.1 seen.2)
 
     -- a timeout that the board has is renewed
-    ahead_next : IsLimited (trigger_of m y) End (Timeout G.sent) (rig_at m pins entries js y) → K + 2 ≤ (after G K).sent → N.sent ≤ K + 26 → N.sent ≤ last + 1 → IsLimited (trigger_of m y) End (Timeout N.sent) (rig_at m pins entries (j ∷ js) y)
+    ahead_next : IsLimited (trigger_of m y) End (Timeout G.sent) (rig_at m pins entries js y) → K + 2 ≤ (turned_group G K).sent → N.sent ≤ K + 26 → N.sent ≤ last + 1 → IsLimited (trigger_of m y) End (Timeout N.sent) (rig_at m pins entries (j ∷ js) y)
     ahead_next limited far near_next most_next =
         let same_sent = sent_next in
         ahead_on y on_y End (Timeout G.sent) limited (elim sets_on [ inl still ↦ inl (ap Timeout still) | inr one ↦ inr one ]) far (omega (arith, most_next, same_sent)) (omega (arith, near_next, same_sent))
@@ -362,9 +362,9 @@ module _ (m : Machine) (v : IsValidMachine m) (switches : List Switch) (pins : �
             exact_next late =
                 let same_sent = sent_next in
                 let lower = renews late up in
-                let far : K + 2 ≤ (after G K).sent = elim lower [ inl l ↦ omega (arith, l) | inr l ↦ omega (arith, l, ends, low_so_far) ] in
-                let most : (after G K).sent ≤ last + 1 = omega (arith, most_next, same_sent) in
-                let near : (after G K).sent ≤ K + 274 = omega (arith, near_next, same_sent) in
+                let far : K + 2 ≤ (turned_group G K).sent = elim lower [ inl l ↦ omega (arith, l) | inr l ↦ omega (arith, l, ends, low_so_far) ] in
+                let most : (turned_group G K).sent ≤ last + 1 = omega (arith, most_next, same_sent) in
+                let near : (turned_group G K).sent ≤ K + 274 = omega (arith, near_next, same_sent) in
                 elim exact [
                   | inr limited ↦ inr (ahead_next limited far near_next most_next)
                   | inl few ↦ elim sets_on [
@@ -403,7 +403,7 @@ module _ (m : Machine) (v : IsValidMachine m) (switches : List Switch) (pins : �
                           | inr l ↦ l
                           | inl low_sent ↦ absurd (elim lower [ inl l ↦ omega (arith, l, low_sent, late, few) | inr l ↦ omega (arith, l, low_sent, ends) ])
                         ] in
-                        let far : K + 8 ≤ (after G K).sent = elim lower [ inl l ↦ omega (arith, l, more) | inr l ↦ omega (arith, l, more, ends, low_so_far) ] in
+                        let far : K + 8 ≤ (turned_group G K).sent = elim lower [ inl l ↦ omega (arith, l, more) | inr l ↦ omega (arith, l, more, ends, low_so_far) ] in
                         inr (ahead_next limited (omega (arith, far)) near_next most_next, omega (arith, far, few, same_sent))
                   ];
                 }
@@ -480,7 +480,7 @@ module _ (m : Machine) (v : IsValidMachine m) (switches : List Switch) (pins : �
             inl (record {
               homing = Next;
               known = next_known;
-              some = hears.fired (subst (λ (l : ℕ). any_fired_by l (after G K).members ≡ true) (sym same_last) (subst (λ (xs : List Seen). any_fired_by G.last xs ≡ true) (sym members_same) some));
+              some = hears.fired (subst (λ (l : ℕ). any_fired_by l (turned_group G K).members ≡ true) (sym same_last) (subst (λ (xs : List Seen). any_fired_by G.last xs ≡ true) (sym members_same) some));
               left = n;
               due = subst (λ (k : ℕ). IsDue n N k) e (due_on n G N K late_start open_it hears.relay due);
               own = plainly_on y on_y (omega (arith, soon, ends)) own;

@@ -16,7 +16,7 @@ use Rattle.axis_homing.specs.Homing.{answer_in, goes_on_homing, hears_all, homin
 use Rattle.host_reactor.specs.declared.ordered.Phase.TheVariants.{Connecting}
 use Rattle.host_reactor.specs.Notes.{news_of, noted}
 use Rattle.host_reactor.specs.Reactor.{Reacted}
-use Rattle.host_reactor.specs.Runs.{Came, GoesOn, known_by, last_turn}
+use Rattle.host_reactor.specs.Runs.{Came, GoesOn, known_by, last_reacted}
 use Rattle.laws_board.proofs.clocks.Turning.{goes}
 use Rattle.motion_work.specs.Seen.{Started}
 use Rattle.session_work.specs.declared.table.MotionTurn.{MotionTurn}
@@ -34,7 +34,7 @@ use Rattle.laws_homing.proofs.home_parts.Held.{tick_known}
 use Rattle.laws_homing.proofs.home_parts.Told.{past_tail, tells_now, tells_tail}
 use Rattle.laws_board.proofs.plans.Rows.{row_from}
 use Rattle.laws_homing.proofs.clear_groups.Over.{told_over}
-use Rattle.laws_homing.specs.fired_runs.Since.{AreBehind, BeginsApart}
+use Rattle.laws_homing.specs.fired_runs.Since.{AreNotAhead, BeginsApart}
 
 -- what is known is of a homing section that starts by one turn, and doesn't end before another
 abbrev pub IsOpen : List Started → ℕ → ℕ → Option Homing → Type 0
@@ -108,7 +108,7 @@ module _ (m : Machine) (switches : List Switch) (ts : List MotionTurn) (p : Plan
       let told = tells_tail m switches s.end ahead (c ∷ before) (omega (arith, end)) (subst Tells are (ends_told m switches (length m.boards) ts p came past s later axis by cut home (omega (arith, size, end)))) in
       told_over m switches c before on ((past_tail m switches ready ahead (c ∷ before) (subst Past are connected)).0 (omega (arith, end, start, late, early))) (tells_now m switches s.end c before (sym end) told)
 
-  one_open : (c : Came) (before : List Came) → (last_turn m switches c before).ordered.end ≡ None → IsNoteOf p.seen.begun (length before) c.note → IsOpen p.seen.begun (length before + 258) (length before) (known_by m switches before).homing
+  one_open : (c : Came) (before : List Came) → (last_reacted m switches c before).ordered.end ≡ None → IsNoteOf p.seen.begun (length before) c.note → IsOpen p.seen.begun (length before + 258) (length before) (known_by m switches before).homing
       → IsOpen p.seen.begun (length before + 259) (length before) (known_by m switches (c ∷ before)).homing
   one_open c before on is i =
       let k = length before in
@@ -197,7 +197,7 @@ module _ (m : Machine) (switches : List Switch) (b ready first : ℕ) (begun : L
       let At : ℕ → Type 0 = λ k. board_tick (clock_of (board_at m b)) (k - 1) ≤ lines_tick (clocks_at n.clocks b) (k * turn_ns) in
       subst At (sym begin) (omega (arith, order, same))
 
-  pub all_behind : (came : List Came) → GoesOn m switches (behind_one came) → CameNotes begun came → KnowsLately m switches clocks came → ArePastConnecting m switches ready came → Starts (length came) → AreBehind m switches b came
+  pub all_behind : (came : List Came) → GoesOn m switches (behind_one came) → CameNotes begun came → KnowsLately m switches clocks came → ArePastConnecting m switches ready came → Starts (length came) → AreNotAhead m switches b came
   all_behind [] on notes knows past starts = tt
   all_behind (c ∷ before) on notes knows past starts =
       let low : Starts (length before) = λ xs s ys axis cut kind l. starts xs s ys axis cut kind (omega (arith, l)) in
@@ -207,7 +207,7 @@ module _ (m : Machine) (switches : List Switch) (b ready first : ℕ) (begun : L
 pub so_begun : (m : Machine) (switches : List Switch) (b : ℕ) (ts : List MotionTurn) (p : Plans m (length m.boards) ts) (ready first : ℕ) (clocks : List Clocks) (came : List Came) → ready + 260 ≤ first → AreInARow first p.seen.begun
     → IsPlannedBy m switches (length m.boards) ts p came → ArePastConnecting m switches ready came → AreKept (clocks_at clocks b) → KnowsLately m switches clocks came
     → ((past : List Started) (s : Started) (later : List Started) (axis : ℕ) → p.seen.begun ≡ past ++ s ∷ later → s.section.kind ≡ Home axis → s.start ≤ length came
-    → board_tick (clock_of (board_at m b)) (s.start - 1) ≤ lines_tick (clocks_at clocks b) (s.start * turn_ns)) → BeginsApart m switches came × AreBehind m switches b came
+    → board_tick (clock_of (board_at m b)) (s.start - 1) ≤ lines_tick (clocks_at clocks b) (s.start * turn_ns)) → BeginsApart m switches came × AreNotAhead m switches b came
 so_begun m switches b ts p ready first clocks came early row by connected kept knows starts = (
   all_apart m switches ts p ready first early row came by connected [] came refl by.goes_on by.notes connected,
   all_behind m switches b ready first p.seen.begun clocks (omega (arith, early)) row kept came (goes_front m switches came by.goes_on) by.notes knows connected starts,

@@ -16,16 +16,16 @@ use Rattle.msg_code.specs.declared.talk.WordNews.TheVariants as word
 use Rattle.wire_scene.specs.declared.scene.Switch.{Switch}
 use Rattle.trigger_group.specs.declared.order.End.{End}
 use Rattle.trigger_group.specs.declared.order.End.TheVariants.{Endstop}
-use Rattle.trigger_group.specs.Group.{GroupState, after}
+use Rattle.trigger_group.specs.Group.{GroupState, turned_group}
 use Rattle.trigger_group.specs.Kept.{group_where}
 use Rattle.axis_homing.specs.declared.homing.Homing.{Homing}
 use Rattle.axis_homing.specs.Homing.{answer_in, by_answer, goes_on_homing, hears_all, homing_after, homing_of, homing_turn, homing_with, members_from}
 use Rattle.motion_work.specs.Seen.{Started}
 use Rattle.motion_work.specs.Told.{tells_homed}
 use Rattle.host_reactor.specs.declared.ordered.Known.{Known}
-use Rattle.host_reactor.specs.Notes.{news_of, noted, told, told_all}
+use Rattle.host_reactor.specs.Notes.{news_of, noted, known_behind, told_all}
 use Rattle.host_reactor.specs.Reactor.{Reacted}
-use Rattle.host_reactor.specs.Runs.{Came, GoesOn, known_by, last_turn}
+use Rattle.host_reactor.specs.Runs.{Came, GoesOn, known_by, last_reacted}
 use Rattle.laws_board.proofs.clocks.Turning.{goes}
 use Rattle.session_work.specs.Rows.{item}
 use Rattle.laws_homing.specs.home_runs.Words.{TellsHomed}
@@ -59,13 +59,13 @@ homing_start m section turn last moving (Home axis) h e = by (group_where (membe
 
 told_start : (m : Machine) (at : ℕ) (ns : List NoteNews) (r : Known) (h : Homing) → StartAt at ns → (told_all m ns r).homing ≡ Some h → (h.start ≡ at) ⊎ (r.homing ≡ Some h)
 told_start m at [] r h a e = inr e
-told_start m at (news.Start section kind turn last moving ∷ ns) r h a e = elim (told_start m at ns (told m r (news.Start section kind turn last moving)) h a.1 e) [
+told_start m at (news.Start section kind turn last moving ∷ ns) r h a e = elim (told_start m at ns (known_behind m r (news.Start section kind turn last moving)) h a.1 e) [
   | inl same ↦ inl same
   | inr now ↦ inl (homing_start m section turn last moving kind h now ∙ a.0)
 ]
-told_start m at (news.Done section turn ∷ ns) r h a e = told_start m at ns (told m r (news.Done section turn)) h a e
-told_start m at (news.Read end sections ∷ ns) r h a e = told_start m at ns (told m r (news.Read end sections)) h a e
-told_start m at (news.Line board line from ∷ ns) r h a e = told_start m at ns (told m r (news.Line board line from)) h a e
+told_start m at (news.Done section turn ∷ ns) r h a e = told_start m at ns (known_behind m r (news.Done section turn)) h a e
+told_start m at (news.Read end sections ∷ ns) r h a e = told_start m at ns (known_behind m r (news.Read end sections)) h a e
+told_start m at (news.Line board line from ∷ ns) r h a e = told_start m at ns (known_behind m r (news.Line board line from)) h a e
 
 noted_start : (m : Machine) (begun : List Started) (k : ℕ) (given : Option Note) (r : Known) (h : Homing) → IsNoteOf begun k given → (noted m given r).homing ≡ Some h → (h.start ≡ k + 259) ⊎ (r.homing ≡ Some h)
 noted_start m begun zero given r h is e = inr (subst (λ (o : Option Note). (noted m o r).homing ≡ Some h) is e)
@@ -75,7 +75,7 @@ noted_start m begun (suc k) given r h is e =
 
 -- the section behind a turn
 after_by : (k : ℕ) (g h : Homing) (o : Option End) → goes_on_homing k g o ≡ Some h → (g.start ≡ h.start) × ((by_answer k g o).cut ≡ None)
-after_by k g h None e = let same : record g { group = after g.group k } ≡ h = cc in (ap (λ (x : Homing). x.start) same, refl)
+after_by k g h None e = let same : record g { group = turned_group g.group k } ≡ h = cc in (ap (λ (x : Homing). x.start) same, refl)
 after_by k g h (Some end) e = absurd (let f : None ≡ Some h = e in cc)
 
 after_start : (clocks : List Clocks) (k : ℕ) (states : List State) (o : Option Homing) (h : Homing) → homing_after clocks k states o ≡ Some h → (g : Homing) × (o ≡ Some g) × (g.start ≡ h.start) × ((homing_turn clocks k states o).cut ≡ None)
@@ -98,14 +98,14 @@ record WasKnown (m : Machine) (switches : List Switch) (c : Came) (before : List
   old : Homing
   is : (noted m c.note (known_by m switches before)).homing ≡ Some old
   start : old.start ≡ h.start
-  none : TellsHomed (last_turn m switches c before).ordered.word.news → ⊥
+  none : TellsHomed (last_reacted m switches c before).ordered.word.news → ⊥
 
-was_known : (m : Machine) (switches : List Switch) (c : Came) (before : List Came) (h : Homing) → (last_turn m switches c before).ordered.end ≡ None → (known_by m switches (c ∷ before)).homing ≡ Some h → WasKnown m switches c before h
+was_known : (m : Machine) (switches : List Switch) (c : Came) (before : List Came) (h : Homing) → (last_reacted m switches c before).ordered.end ≡ None → (known_by m switches (c ∷ before)).homing ≡ Some h → WasKnown m switches c before h
 was_known m switches c before h g e =
     let r = known_by m switches before in
     let n = noted m c.note r in
     let k = length before in
-    let x = last_turn m switches c before in
+    let x = last_reacted m switches c before in
     let Of : Reacted → Type 0 = λ y. y.known.homing ≡ Some h in
     let No : Reacted → Type 0 = λ y. TellsHomed y.ordered.word.news → ⊥ in
     elim (goes m switches r k c.states c.note g) [
@@ -138,13 +138,13 @@ known_silent m switches begun c (d ∷ before) h from to g notes e late = elim (
 answer_late : (k start : ℕ) (g : GroupState) (end : End) → answer_in k start g ≡ Some end → start ≤ k
 answer_late k start g end e = elim (leb_tells start k) [ inl p ↦ p.1 | inr p ↦ absurd (none_some end (rw p.0 at e)) ]
 
-pub tells_known : (m : Machine) (switches : List Switch) (c : Came) (before : List Came) → (last_turn m switches c before).ordered.end ≡ None → TellsHomed (last_turn m switches c before).ordered.word.news
+pub tells_known : (m : Machine) (switches : List Switch) (c : Came) (before : List Came) → (last_reacted m switches c before).ordered.end ≡ None → TellsHomed (last_reacted m switches c before).ordered.word.news
     → (h : Homing) × ((noted m c.note (known_by m switches before)).homing ≡ Some h) × (h.start ≤ length before)
 tells_known m switches c before g t =
     let r = known_by m switches before in
     let n = noted m c.note r in
     let k = length before in
-    let x = last_turn m switches c before in
+    let x = last_reacted m switches c before in
     let So : Reacted → Type 0 = λ y. TellsHomed y.ordered.word.news in
     elim (goes m switches r k c.states c.note g) [
       | inl a ↦ absurd (subst So a.is t)

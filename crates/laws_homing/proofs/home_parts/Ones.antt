@@ -8,7 +8,7 @@ use Rattle.gcode_state.specs.declared.state.Action.{Action}
 use Rattle.gcode_state.specs.declared.state.Action.TheVariants as actions
 use Rattle.gcode_state.specs.declared.state.State.{State}
 use Rattle.gcode_state.specs.States.{coordinates_of}
-use Rattle.gcode_program.specs.Cuts.{closed, home_of, homes, is_named, left, left_by, left_by_homes, sections_by, sections_of}
+use Rattle.gcode_program.specs.Cuts.{closed, home_of, homes, is_named, dwell_left, dwell_behind_home, left_by_homes, sections_by, sections_of}
 use Rattle.gcode_program.specs.Homes.{homing_move, stood}
 use Rattle.gcode_program.specs.Programs.{outcome_of, program_sections}
 use Rattle.gcode_program.specs.Readings.{Deed}
@@ -46,20 +46,20 @@ homes_one m at acceleration dwell axes =
     let y = is_named axes 1 in
     let z = is_named axes 2 in
     let first = home_of m at acceleration dwell 0 x in
-    let second = home_of m (stood m at 0 x) acceleration (left_by dwell x) 1 y in
-    let third = home_of m (stood m (stood m at 0 x) 1 y) acceleration (left_by (left_by dwell x) y) 2 z in
-    ones_both (first ++ second) third (ones_both first second (home_one m at acceleration dwell 0 x) (home_one m (stood m at 0 x) acceleration (left_by dwell x) 1 y)) (home_one m (stood m (stood m at 0 x) 1 y) acceleration (left_by (left_by dwell x) y) 2 z)
+    let second = home_of m (stood m at 0 x) acceleration (dwell_behind_home dwell x) 1 y in
+    let third = home_of m (stood m (stood m at 0 x) 1 y) acceleration (dwell_behind_home (dwell_behind_home dwell x) y) 2 z in
+    ones_both (first ++ second) third (ones_both first second (home_one m at acceleration dwell 0 x) (home_one m (stood m at 0 x) acceleration (dwell_behind_home dwell x) 1 y)) (home_one m (stood m (stood m at 0 x) 1 y) acceleration (dwell_behind_home (dwell_behind_home dwell x) y) 2 z)
 
 by_one : (m : Machine) (dwell : ℕ) (moves : List Move) (s : State) (a : Action) (rest : ℕ → List Move → List Section) → ((d : ℕ) (ms : List Move) → AllOne (rest d ms)) → AllOne (sections_by m dwell moves s a rest)
 by_one m dwell moves s actions.None rest r = r dwell moves
 by_one m dwell moves s (actions.Move one) rest r = r dwell (moves ++ one ∷ [])
-by_one m dwell moves s (actions.Dwell ms) rest r = ones_both (closed dwell moves) (rest (left dwell moves + ms) []) (closed_one dwell moves) (r (left dwell moves + ms) [])
-by_one m dwell moves s actions.Wait rest r = ones_both (closed dwell moves) (rest (left dwell moves) []) (closed_one dwell moves) (r (left dwell moves) [])
-by_one m dwell moves s actions.Stop rest r = ones_both (closed dwell moves) (rest (left dwell moves) []) (closed_one dwell moves) (r (left dwell moves) [])
+by_one m dwell moves s (actions.Dwell ms) rest r = ones_both (closed dwell moves) (rest (dwell_left dwell moves + ms) []) (closed_one dwell moves) (r (dwell_left dwell moves + ms) [])
+by_one m dwell moves s actions.Wait rest r = ones_both (closed dwell moves) (rest (dwell_left dwell moves) []) (closed_one dwell moves) (r (dwell_left dwell moves) [])
+by_one m dwell moves s actions.Stop rest r = ones_both (closed dwell moves) (rest (dwell_left dwell moves) []) (closed_one dwell moves) (r (dwell_left dwell moves) [])
 by_one m dwell moves s (actions.Home axes) rest r =
-    let own = homes m (coordinates_of s) s.acceleration (left dwell moves) axes in
-    let more = rest (left_by_homes (left dwell moves) axes) [] in
-    ones_both (closed dwell moves) (own ++ more) (closed_one dwell moves) (ones_both own more (homes_one m (coordinates_of s) s.acceleration (left dwell moves) axes) (r (left_by_homes (left dwell moves) axes) []))
+    let own = homes m (coordinates_of s) s.acceleration (dwell_left dwell moves) axes in
+    let more = rest (left_by_homes (dwell_left dwell moves) axes) [] in
+    ones_both (closed dwell moves) (own ++ more) (closed_one dwell moves) (ones_both own more (homes_one m (coordinates_of s) s.acceleration (dwell_left dwell moves) axes) (r (left_by_homes (dwell_left dwell moves) axes) []))
 
 sections_one : (m : Machine) (dwell : ℕ) (moves : List Move) (deeds : List Deed) → AllOne (sections_of m dwell moves deeds)
 sections_one m dwell moves [] = closed_one dwell moves

@@ -15,7 +15,7 @@ use Rattle.link_work.specs.Stands.{first_state}
 use Rattle.trigger_group.specs.Group.{unseen}
 use Rattle.trigger_group.specs.Kept.{may_be}
 use Rattle.axis_homing.specs.Homing.{members_from}
-use Rattle.host_reactor.specs.Runs.{Came, last_turn}
+use Rattle.host_reactor.specs.Runs.{Came, last_reacted}
 use Rattle.laws_board.specs.turns.Turns.{BoardTurn}
 use Rattle.laws_board.specs.clocks.Runs.{IsInRun}
 use Rattle.laws_board.proofs.clocks.Lines.{as_long, run_before}
@@ -29,7 +29,7 @@ use Rattle.laws_board.proofs.plans.Running.{started_in}
 use Rattle.laws_homing.specs.home_runs.Sections.{TakesSetUp}
 use Rattle.laws_homing.specs.home_runs.Words.{IsBegunIn, TellsHomed}
 use Rattle.laws_homing.specs.home_runs.Ended.{AreToldIn, IsToldIn}
-use Rattle.laws_homing.specs.fired_runs.Since.{AllRead, AreBehind, AreRead, AreReadSo, BeginsApart, IsReadSo, ReadsTrue}
+use Rattle.laws_homing.specs.fired_runs.Since.{AllRead, AreNotAhead, AreSoInTurns, AreReadSo, BeginsApart, IsReadSo, ReadsTrue}
 use Rattle.laws_homing.specs.home_plans.Notes.{CameNotes, IsSilentFrom}
 use Rattle.laws_board.specs.plans.Rows.{AreInARow}
 use Rattle.laws_board.proofs.plans.Rows.{row_from}
@@ -141,7 +141,7 @@ tells_tail m switches j [] ys low t = t
 tells_tail m switches j (x ∷ xs) ys low (inl t) = absurd (let at = t.0 in omega (arith, at, low, length-append xs ys))
 tells_tail m switches j (x ∷ xs) ys low (inr t) = tells_tail m switches j xs ys low t
 
-pub tells_now : (m : Machine) (switches : List Switch) (j : ℕ) (c : Came) (before : List Came) → length before ≡ j → TellsIn m switches j (c ∷ before) → TellsHomed (last_turn m switches c before).ordered.word.news
+pub tells_now : (m : Machine) (switches : List Switch) (j : ℕ) (c : Came) (before : List Came) → length before ≡ j → TellsIn m switches j (c ∷ before) → TellsHomed (last_reacted m switches c before).ordered.word.news
 tells_now m switches j c before at (inl t) = t.1
 tells_now m switches j c before at (inr t) = absurd (let low = tells_low m switches j before t in omega (arith, low, at))
 
@@ -167,11 +167,11 @@ apart_tail : (m : Machine) (switches : List Switch) (xs ys : List Came) → Begi
 apart_tail m switches [] ys a = a
 apart_tail m switches (x ∷ xs) ys a = apart_tail m switches xs ys a.1
 
-behind_tail : (m : Machine) (switches : List Switch) (b : ℕ) (xs ys : List Came) → AreBehind m switches b (xs ++ ys) → AreBehind m switches b ys
+behind_tail : (m : Machine) (switches : List Switch) (b : ℕ) (xs ys : List Came) → AreNotAhead m switches b (xs ++ ys) → AreNotAhead m switches b ys
 behind_tail m switches b [] ys a = a
 behind_tail m switches b (x ∷ xs) ys a = behind_tail m switches b xs ys a.1
 
-reads_tail : (R : Came → List Came → List BoardTurn → Type 0) (xs : List Came) (c : Came) (before : List Came) (zs : List BoardTurn) (t : BoardTurn) (past : List BoardTurn) → length xs ≡ length zs → AllRead R (xs ++ c ∷ before) (zs ++ t ∷ past) → AreRead R (c ∷ before) past
+reads_tail : (R : Came → List Came → List BoardTurn → Type 0) (xs : List Came) (c : Came) (before : List Came) (zs : List BoardTurn) (t : BoardTurn) (past : List BoardTurn) → length xs ≡ length zs → AllRead R (xs ++ c ∷ before) (zs ++ t ∷ past) → AreSoInTurns R (c ∷ before) past
 reads_tail R [] c before [] t past e r = r
 reads_tail R [] c before (z ∷ zs) t past e r = absurd (omega (arith, e))
 reads_tail R (x ∷ xs) c before [] t past e r = absurd (omega (arith, e))
@@ -181,7 +181,7 @@ reads_tail R (x ∷ xs) c before (z ∷ w ∷ zs) t past e r = reads_tail R xs c
 
 pub so_at : (m : Machine) (switches : List Switch) (pins : List (List Level)) (entries : List Entry) (b : ℕ) (R : Came → List Came → List BoardTurn → Type 0) (came : List Came) (turns : List BoardTurn) (xs : List Came) (c : Came) (before : List Came) (zs : List BoardTurn)
     (t : BoardTurn) (past : List BoardTurn) → IsInRun m switches pins entries b came turns → IsInRun m switches pins entries b (c ∷ before) (t ∷ past) → came ≡ xs ++ c ∷ before → turns ≡ zs ++ t ∷ past
-    → BeginsApart m switches came × AllRead R came turns × AreBehind m switches b came → BeginsApart m switches (c ∷ before) × AreRead R (c ∷ before) past × AreBehind m switches b (c ∷ before)
+    → BeginsApart m switches came × AllRead R came turns × AreNotAhead m switches b came → BeginsApart m switches (c ∷ before) × AreSoInTurns R (c ∷ before) past × AreNotAhead m switches b (c ∷ before)
 so_at m switches pins entries b R came turns xs c before zs t past run here are cut so =
     let all = as_long m switches b came turns run.both in
     let some = as_long m switches b (c ∷ before) (t ∷ past) here.both in
@@ -189,7 +189,7 @@ so_at m switches pins entries b R came turns xs c before zs t past run here are 
     let z = ap length cut ∙ length-append zs (t ∷ past) in (
       apart_tail m switches xs (c ∷ before) (subst (λ (l : List Came). BeginsApart m switches l) are so.0),
       reads_tail R xs c before zs t past (omega (arith, all, some, x, z)) (subst (λ (l : List Came). AllRead R l (zs ++ t ∷ past)) are (subst (λ (k : List BoardTurn). AllRead R came k) cut so.1)),
-      behind_tail m switches b xs (c ∷ before) (subst (λ (l : List Came). AreBehind m switches b l) are so.2),
+      behind_tail m switches b xs (c ∷ before) (subst (λ (l : List Came). AreNotAhead m switches b l) are so.2),
     )
 
 read_at : (m : Machine) (switches : List Switch) (pins : List (List Level)) (entries : List Entry) (b : ℕ) (came : List Came) (turns : List BoardTurn) (xs : List Came) (c : Came) (before : List Came) (zs : List BoardTurn) (t : BoardTurn) (past : List BoardTurn)

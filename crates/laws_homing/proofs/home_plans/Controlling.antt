@@ -24,7 +24,7 @@ use Rattle.host_reactor.specs.declared.ordered.Phase.{Phase}
 use Rattle.host_reactor.specs.declared.ordered.Phase.TheVariants.{Connecting, Running, Stopping}
 use Rattle.host_reactor.specs.Notes.{noted}
 use Rattle.host_reactor.specs.Reactor.{Reacted}
-use Rattle.host_reactor.specs.Runs.{Came, known_by, last_turn}
+use Rattle.host_reactor.specs.Runs.{Came, known_by, last_reacted}
 use Rattle.laws_board.specs.turns.Turns.{BoardTurn}
 use Rattle.laws_board.specs.clocks.Ordered.{MayOrder, commands_in, times_made}
 use Rattle.laws_board.specs.clocks.Runs.{IsInRun}
@@ -72,7 +72,7 @@ asks_in m switches pins entries b c before t turns clocks ss v r e =
     let n = noted m c.note (known_by m switches before) in
     let steppers = v.steppers_few in
     let few : trigger_of m b ≤ 16 = omega (arith, few_on b m.steppers) in
-    all_ask clocks ss (length before) t.control.commands (turn_asks m b c n (length before) s.a (last_turn m switches c before) t (noted_phase m c.note (known_by m switches before) ∙ e) s.turned)
+    all_ask clocks ss (length before) t.control.commands (turn_asks m b c n (length before) s.a (last_reacted m switches c before) t (noted_phase m c.note (known_by m switches before) ∙ e) s.turned)
     (λ oid l. let none = made_none m switches pins entries b (c ∷ before) (t ∷ turns) v r oid (omega arith) in let both = times_both oid (commands_in turns) t.control.commands in omega arith)
 
 connects : (p : Phase) → (p ≡ Connecting) ⊎ (p ≡ Connecting → ⊥)

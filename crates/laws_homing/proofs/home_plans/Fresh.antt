@@ -17,7 +17,7 @@ use Rattle.motion_work.specs.Puts.{begun_notes}
 use Rattle.motion_work.specs.Seen.{Started}
 use Rattle.motion_work.specs.Turns.{done_notes}
 use Rattle.host_reactor.specs.declared.ordered.Known.{Known}
-use Rattle.host_reactor.specs.Notes.{news_of, noted, told, told_all}
+use Rattle.host_reactor.specs.Notes.{news_of, noted, known_behind, told_all}
 use Rattle.laws_homing.specs.home_runs.Words.{BeginsNone}
 use Rattle.laws_homing.proofs.home_runs.Knowing.{all_none}
 use Rattle.laws_homing.specs.home_plans.Notes.{IsNoteOf}
@@ -48,7 +48,7 @@ fresh_notes m begun k i past (s ∷ ss) r cut f =
     elim (eqb_tells s.start (k + 260)) [
       | inl p ↦
           rw p.0
-          (fresh_notes m begun k (i + 1) (past ++ s ∷ []) ss (told m r (news.Start i s.section.kind s.start s.last s.moving)) more (fresh_kind m begun (k + 260) i past s ss s.section.kind refl cut p.1))
+          (fresh_notes m begun k (i + 1) (past ++ s ∷ []) ss (known_behind m r (news.Start i s.section.kind s.start s.last s.moving)) more (fresh_kind m begun (k + 260) i past s ss s.section.kind refl cut p.1))
       | inr p ↦ rw p.0 (fresh_notes m begun k (i + 1) (past ++ s ∷ []) ss r more f)
     ]
 
@@ -74,7 +74,7 @@ begun_or m begun k i past (s ∷ ss) r cut =
             later = ss;
             are = cut;
             start = p.1;
-            fresh = fresh_notes m begun k (i + 1) (past ++ s ∷ []) ss (told m r (news.Start i s.section.kind s.start s.last s.moving)) more (fresh_kind m begun (k + 260) i past s ss s.section.kind refl cut p.1);
+            fresh = fresh_notes m begun k (i + 1) (past ++ s ∷ []) ss (known_behind m r (news.Start i s.section.kind s.start s.last s.moving)) more (fresh_kind m begun (k + 260) i past s ss s.section.kind refl cut p.1);
           }))
       | inr p ↦ rw p.0 (begun_or m begun k (i + 1) (past ++ s ∷ []) ss r more)
     ]

@@ -20,7 +20,7 @@ use Rattle.motion_work.specs.Puts.{begun_notes}
 use Rattle.motion_work.specs.Seen.{Started}
 use Rattle.motion_work.specs.Turns.{done_notes}
 use Rattle.host_reactor.specs.declared.ordered.Known.{Known}
-use Rattle.host_reactor.specs.Notes.{noted, told, told_all}
+use Rattle.host_reactor.specs.Notes.{noted, known_behind, told_all}
 use Rattle.host_reactor.specs.Reactor.{Reacted}
 use Rattle.host_reactor.specs.Runs.{Came, GoesOn, known_by}
 use Rattle.laws_board.proofs.clocks.Controls.{states_start}
@@ -65,10 +65,10 @@ of_kind m begun section turn last moving (Home axis) is =
 
 told_was : (m : Machine) (begun : List Started) (ns : List NoteNews) (r : Known) → AreOf begun ns → WasBegun begun r.homing → WasBegun begun (told_all m ns r).homing
 told_was m begun [] r a w = w
-told_was m begun (news.Start section kind turn last moving ∷ ns) r a w = told_was m begun ns (told m r (news.Start section kind turn last moving)) a.1 (of_kind m begun section turn last moving kind a.0)
-told_was m begun (news.Done section turn ∷ ns) r a w = told_was m begun ns (told m r (news.Done section turn)) a w
-told_was m begun (news.Read x sections ∷ ns) r a w = told_was m begun ns (told m r (news.Read x sections)) a w
-told_was m begun (news.Line board line from ∷ ns) r a w = told_was m begun ns (told m r (news.Line board line from)) a w
+told_was m begun (news.Start section kind turn last moving ∷ ns) r a w = told_was m begun ns (known_behind m r (news.Start section kind turn last moving)) a.1 (of_kind m begun section turn last moving kind a.0)
+told_was m begun (news.Done section turn ∷ ns) r a w = told_was m begun ns (known_behind m r (news.Done section turn)) a w
+told_was m begun (news.Read x sections ∷ ns) r a w = told_was m begun ns (known_behind m r (news.Read x sections)) a w
+told_was m begun (news.Line board line from ∷ ns) r a w = told_was m begun ns (known_behind m r (news.Line board line from)) a w
 
 pub noted_was : (m : Machine) (begun : List Started) (k : ℕ) (given : Option Note) (r : Known) → IsNoteOf begun k given → WasBegun begun r.homing → WasBegun begun (noted m given r).homing
 noted_was m begun zero given r is w = subst (λ (o : Option Note). WasBegun begun (noted m o r).homing) (sym is) w

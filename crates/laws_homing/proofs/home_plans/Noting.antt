@@ -19,7 +19,7 @@ use Rattle.motion_work.specs.Puts.{begun_notes}
 use Rattle.motion_work.specs.Seen.{Started}
 use Rattle.motion_work.specs.Turns.{done_notes}
 use Rattle.host_reactor.specs.declared.ordered.Known.{Known}
-use Rattle.host_reactor.specs.Notes.{news_of, noted, told, told_all}
+use Rattle.host_reactor.specs.Notes.{news_of, noted, known_behind, told_all}
 use Rattle.host_reactor.specs.Runs.{Came, known_by}
 use Rattle.laws_homing.specs.home_runs.Sections.{IsOf}
 use Rattle.laws_homing.specs.home_runs.Words.{BeginsNone, IsBegunIn}
@@ -90,7 +90,7 @@ none_later ready from (suc k) past s later given row is e far early =
 -- the given that begins it
 pub told_both : (m : Machine) (xs ys : List NoteNews) (r : Known) → told_all m (xs ++ ys) r ≡ told_all m ys (told_all m xs r)
 told_both m [] ys r = refl
-told_both m (x ∷ xs) ys r = told_both m xs ys (told m r x)
+told_both m (x ∷ xs) ys r = told_both m xs ys (known_behind m r x)
 
 begun_of : (m : Machine) (section at turn last moving : ℕ) (ms : List Member) → may_be (map unseen ms) turn last ≡ true → IsOf turn ms (homing_with section at turn (group_where ms turn last))
 begun_of m section at turn last moving ms may =
@@ -114,7 +114,7 @@ now_of m ready k axis past s later given r row is at early kind may =
     let all : is.0.news ≡ done ++ (start ∷ is.1) = is.3 ∙ ap (λ (l : List NoteNews). done ++ (l ++ is.1)) here in
     let before = told_all m done r in
     let known : (told_all m is.0.news r).homing ≡ homing_of m one.0 s.section.kind s.start s.last s.moving =
-    ap (λ (l : List NoteNews). (told_all m l r).homing) all ∙ ap (λ (x : Known). x.homing) (told_both m done (start ∷ is.1) r) ∙ all_none m is.1 (told m before start) is.4 in
+    ap (λ (l : List NoteNews). (told_all m l r).homing) all ∙ ap (λ (x : Known). x.homing) (told_both m done (start ∷ is.1) r) ∙ all_none m is.1 (known_behind m before start) is.4 in
     subst (λ (o : Option Note). IsOf s.start ms (noted m o r).homing) (sym is.2) (subst (λ (o : Option Homing). IsOf s.start ms o) (sym known) (kind_of m one.0 axis s.start s.last s.moving s.section.kind kind may))
 
 -- over turns

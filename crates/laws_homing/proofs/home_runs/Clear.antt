@@ -20,7 +20,7 @@ use Rattle.laws_board.specs.clocks.Runs.{ends_in, orders_in}
 use Rattle.laws_board.proofs.clocks.Orders.{ends_in_order, last_stands, order_length}
 use Rattle.laws_board.proofs.sections.Calm.{AllQuiet, AreClear, both_quiet, clear_turn, first_clear, none_unquiet, quiet_now, stretch_quiet}
 use Rattle.laws_board.proofs.sections.Spoiled.{soon_at}
-use Rattle.laws_homing.specs.home_runs.Sections.{SpoilsFew, TakesSetUp, queued_by}
+use Rattle.laws_homing.specs.home_runs.Sections.{SpoilsFew, TakesSetUp, queued_in_turns}
 use Rattle.laws_homing.proofs.home_runs.Resting.{rests_up}
 use Rattle.laws_homing.proofs.home_runs.Settled.{later_orders}
 use Rattle.laws_homing.proofs.home_runs.Windows.{begun}
@@ -46,14 +46,14 @@ all_quiet b pins board entries (t ∷ before) e are =
     quiet_both (ends_in before) (record { turn = turn; link = t.after } ∷ []) (all_quiet b pins board entries before e are.1)
     (both_quiet (is_quiet_line t.after.down turn) (is_quiet_line t.after.up turn) (quiet_now t.after.down turn clear.0) (quiet_now t.after.up turn clear.1), tt)
 
-queue_flat : (turns : List BoardTurn) → flat_map queued_in (orders_in turns) ≡ queued_by turns
+queue_flat : (turns : List BoardTurn) → flat_map queued_in (orders_in turns) ≡ queued_in_turns turns
 queue_flat [] = refl
 queue_flat (t ∷ before) =
     let o = orders t.control t.batch in
-    flat_map-append queued_in (orders_in before) (o ∷ []) ∙ ap (λ (x : List Meant). x ++ (queued_in o ++ [])) (queue_flat before) ∙ ap (λ (x : List Meant). queued_by before ++ x) (append-nil (queued_in o))
+    flat_map-append queued_in (orders_in before) (o ∷ []) ∙ ap (λ (x : List Meant). x ++ (queued_in o ++ [])) (queue_flat before) ∙ ap (λ (x : List Meant). queued_in_turns before ++ x) (append-nil (queued_in o))
 
 clear_took : (b : BoardDef) (pins : List (List Level)) (board : ℕ) (entries : List Entry) (turns : List BoardTurn) → entries ≡ [] → AreBoardTurns (clock_of b) (first_state b pins board entries) turns → AllKeepLimits (orders_in turns)
-    → (more : List Meant) × (queued_by turns ++ more ≡ (stands_after (first_state b pins board entries) turns).core.taken)
+    → (more : List Meant) × (queued_in_turns turns ++ more ≡ (stands_after (first_state b pins board entries) turns).core.taken)
 clear_took b pins board entries turns e are limits =
     let first = first_state b pins board entries in
     let clock = clock_of b in
@@ -120,7 +120,7 @@ few_set_up b pins board entries turns start n are limits f =
     let place : length (orders_in past) - n ≡ length (orders_in cut.1) = omega (arith, one, two, long) in
     let front : take (length (orders_in past) - n) (orders_in past) ≡ orders_in cut.1 =
     ap (λ (k : ℕ). take k (orders_in past)) place ∙ ap (take (length (orders_in cut.1))) (ap orders_in cut.2 ∙ rest.1) ∙ take_front (orders_in cut.1) rest.0 in
-    let took : queued_by cut.1 ++ soon.0 ≡ (stands_after first past).core.taken =
+    let took : queued_in_turns cut.1 ++ soon.0 ≡ (stands_after first past).core.taken =
     ap (λ (x : List Meant). x ++ soon.0) (sym (ap (flat_map queued_in) front ∙ queue_flat cut.1)) ∙ soon.1 ∙ ap (λ (l : LinkState). l.core.taken) (last_stands first past) in
     let whole = ap length cut.2 in
     record {

@@ -24,7 +24,7 @@ use Rattle.trigger_group.specs.declared.round.Phase.{Phase}
 use Rattle.trigger_group.specs.declared.round.Phase.TheVariants.{Sends}
 use Rattle.trigger_group.specs.declared.round.Round.TheVariants.{Resets}
 use Rattle.trigger_group.specs.declared.seen.Seen.{Seen}
-use Rattle.trigger_group.specs.Group.{bits, orders_in, orders_to, phase, reset, round_of, steppers, unseen}
+use Rattle.trigger_group.specs.Group.{bits, orders_of_group, orders_to, phase, reset, round_of, steppers, unseen}
 use Rattle.axis_homing.specs.declared.homing.Homing.{Homing}
 use Rattle.axis_homing.specs.Homing.{answer_in, by_answer, command_to, commands_to, hears_all, homing_turn, low}
 use Rattle.axis_homing.specs.Rising.{members_of}
@@ -34,7 +34,7 @@ use Rattle.host_reactor.specs.declared.ordered.Known.{Known}
 use Rattle.host_reactor.specs.declared.ordered.Phase.TheVariants.{Connecting}
 use Rattle.host_reactor.specs.Notes.{noted}
 use Rattle.host_reactor.specs.Reactor.{Reacted, homing_commands, stop_command, stops}
-use Rattle.host_reactor.specs.Runs.{Came, known_by, last_turn}
+use Rattle.host_reactor.specs.Runs.{Came, known_by, last_reacted}
 use Rattle.laws_board.specs.turns.Turns.{BoardTurn}
 use Rattle.laws_board.specs.clocks.Runs as clock_runs
 use Rattle.laws_board.specs.clocks.Runs.{IsInRun}
@@ -44,29 +44,29 @@ use Rattle.laws_board.proofs.clocks.Lines.{as_long, noted_phase, run_before, tur
 use Rattle.laws_board.proofs.clocks.Links.{among_both}
 use Rattle.laws_board.proofs.clocks.Orders.{order_length}
 use Rattle.laws_board.proofs.clocks.Turning.{Asks, BoardTurned, Ends, Runs}
-use Rattle.laws_board.specs.sections.Homes.{Sets, SetsIn}
+use Rattle.laws_board.specs.sections.Homes.{SomeSets, SetsIn}
 use Rattle.laws_homing.specs.home_runs.Sections.{HomesFrom, IsOf, Moves}
 use Rattle.laws_homing.proofs.home_runs.Controlling.{connecting_not, not_yet}
 use Rattle.laws_homing.proofs.home_runs.Grouped.{members_states}
 use Rattle.laws_homing.proofs.home_runs.Setting.{commands_both, steppers_are}
 use Rattle.laws_homing.proofs.home_runs.Settled.{later_orders}
 
-sets_front : (oid : ℕ) (xs ys : List Cmd) → Sets oid xs → Sets oid (xs ++ ys)
+sets_front : (oid : ℕ) (xs ys : List Cmd) → SomeSets oid xs → SomeSets oid (xs ++ ys)
 sets_front oid [] ys k = absurd k
 sets_front oid (x ∷ xs) ys (inl k) = inl k
 sets_front oid (x ∷ xs) ys (inr k) = inr (sets_front oid xs ys k)
 
-sets_behind : (oid : ℕ) (xs ys : List Cmd) → Sets oid ys → Sets oid (xs ++ ys)
+sets_behind : (oid : ℕ) (xs ys : List Cmd) → SomeSets oid ys → SomeSets oid (xs ++ ys)
 sets_behind oid [] ys k = k
 sets_behind oid (x ∷ xs) ys k = inr (sets_behind oid xs ys k)
 
 -- a row of resets
-resets_set : (m : Machine) (clocks : Clocks) (b start : ℕ) (axis : AxisDef) (x : Seen) (s : ℕ) (ks : List ℕ) → x.member.board ≡ b → IsAmong s ks → Sets (stepper_at m s).oid (commands_to m clocks b start axis (map (reset x) ks))
+resets_set : (m : Machine) (clocks : Clocks) (b start : ℕ) (axis : AxisDef) (x : Seen) (s : ℕ) (ks : List ℕ) → x.member.board ≡ b → IsAmong s ks → SomeSets (stepper_at m s).oid (commands_to m clocks b start axis (map (reset x) ks))
 resets_set m clocks b start axis x s [] same is = absurd is
 resets_set m clocks b start axis x s (k ∷ ks) same (inl e) =
     let i = (stepper_at m s).oid in
     let rest = commands_to m clocks b start axis (map (reset x) ks) in
-    subst (λ (t : Bool). Sets i (cond t (cmd.ResetStepClock (stepper_at m k).oid (low (turn_tick clocks start)) ∷ []) [] ++ rest)) (sym (eq-eqb x.member.board b same)) (inl (ap (λ (n : ℕ). (stepper_at m n).oid) e))
+    subst (λ (t : Bool). SomeSets i (cond t (cmd.ResetStepClock (stepper_at m k).oid (low (turn_tick clocks start)) ∷ []) [] ++ rest)) (sym (eq-eqb x.member.board b same)) (inl (ap (λ (n : ℕ). (stepper_at m n).oid) e))
 resets_set m clocks b start axis x s (k ∷ ks) same (inr is) =
     sets_behind (stepper_at m s).oid (command_to m clocks b start axis (reset x k)) (commands_to m clocks b start axis (map (reset x) ks)) (resets_set m clocks b start axis x s ks same is)
 
@@ -75,16 +75,16 @@ abbrev RowOf : ℕ → ℕ → ℕ → List Member → Type 0
 RowOf b s row [] = ⊥
 RowOf b s row (x ∷ ms) = ((x.board ≡ b) × IsAmong s (take 6 (drop (row * 6) (steppers (unseen x))))) ⊎ RowOf b s row ms
 
-round_sets : (m : Machine) (clocks : Clocks) (b start : ℕ) (axis : AxisDef) (row : ℕ) (xs : List Seen) (s : ℕ) → RowOf b s row (map (λ (y : Seen). y.member) xs) → Sets (stepper_at m s).oid (commands_to m clocks b start axis (round_of (Resets row) xs))
+round_sets : (m : Machine) (clocks : Clocks) (b start : ℕ) (axis : AxisDef) (row : ℕ) (xs : List Seen) (s : ℕ) → RowOf b s row (map (λ (y : Seen). y.member) xs) → SomeSets (stepper_at m s).oid (commands_to m clocks b start axis (round_of (Resets row) xs))
 round_sets m clocks b start axis row [] s is = absurd is
 round_sets m clocks b start axis row (x ∷ xs) s (inl is) =
     let i = (stepper_at m s).oid in
     let there = subst (λ (l : List ℕ). IsAmong s (take 6 (drop (row * 6) l))) (steppers_are x) is.1 in
-    subst (λ (l : List Cmd). Sets i l) (sym (commands_both m clocks b start axis (orders_to (Resets row) x) (round_of (Resets row) xs)))
+    subst (λ (l : List Cmd). SomeSets i l) (sym (commands_both m clocks b start axis (orders_to (Resets row) x) (round_of (Resets row) xs)))
     (sets_front i (commands_to m clocks b start axis (orders_to (Resets row) x)) (commands_to m clocks b start axis (round_of (Resets row) xs)) (resets_set m clocks b start axis x s (take 6 (drop (row * 6) (steppers x))) is.0 there))
 round_sets m clocks b start axis row (x ∷ xs) s (inr is) =
     let i = (stepper_at m s).oid in
-    subst (λ (l : List Cmd). Sets i l) (sym (commands_both m clocks b start axis (orders_to (Resets row) x) (round_of (Resets row) xs)))
+    subst (λ (l : List Cmd). SomeSets i l) (sym (commands_both m clocks b start axis (orders_to (Resets row) x) (round_of (Resets row) xs)))
     (sets_behind i (commands_to m clocks b start axis (orders_to (Resets row) x)) (commands_to m clocks b start axis (round_of (Resets row) xs)) (round_sets m clocks b start axis row xs s is))
 
 -- at most 16 steppers move on a board
@@ -139,15 +139,15 @@ row_phase start last k (suc (suc zero)) l e = let left : start - k ≡ 252 = ome
 row_phase start last k (suc (suc (suc n))) l e = absurd (omega (arith, l))
 
 group_sets : (m : Machine) (own : Clocks) (b k : ℕ) (g : Homing) (s row : ℕ) → answer_in k g.start g.group ≡ None → phase g.group.start g.group.last k ≡ Sends (Resets row) → RowOf b s row (members_of g.group)
-    → Sets (stepper_at m s).oid (homing_commands m (by_answer k g (answer_in k g.start g.group)) own b)
+    → SomeSets (stepper_at m s).oid (homing_commands m (by_answer k g (answer_in k g.start g.group)) own b)
 group_sets m own b k g s row none is inside =
     let i = (stepper_at m s).oid in
-    let By : Option End → Type 0 = λ o. Sets i (homing_commands m (by_answer k g o) own b) in
-    let In : Phase → Type 0 = λ p. Sets i (commands_to m own b g.start (axis_at m g.axis) (orders_in p g.group k)) in
+    let By : Option End → Type 0 = λ o. SomeSets i (homing_commands m (by_answer k g o) own b) in
+    let In : Phase → Type 0 = λ p. SomeSets i (commands_to m own b g.start (axis_at m g.axis) (orders_of_group p g.group k)) in
     subst By (sym none) (subst In (sym is) (round_sets m own b g.start (axis_at m g.axis) row g.group.members s inside))
 
 row_sets : (m : Machine) (all : List Clocks) (states : List State) (own : Clocks) (b k : ℕ) (h : Homing) (s row : ℕ) → h.start ≡ h.group.start → row ≤ 2 → h.group.start + row ≡ k + 254 → RowOf b s row (members_of h.group)
-    → Sets (stepper_at m s).oid (homing_commands m (homing_turn all k states (Some h)) own b)
+    → SomeSets (stepper_at m s).oid (homing_commands m (homing_turn all k states (Some h)) own b)
 row_sets m all states own b k h s row together few e inside =
     let g = hears_all all states h in
     let at : g.group.start ≡ h.group.start = states_start all 0 h.start states h.group in
@@ -155,7 +155,7 @@ row_sets m all states own b k h s row together few e inside =
     (subst (λ (l : List Member). RowOf b s row l) (sym (members_states all 0 h.start states h.group)) inside)
 
 control_sets : (m : Machine) (b s row : ℕ) (c : Came) (r : Known) (k start : ℕ) (ms : List Member) (a : Asking) (x : Reacted) (t : BoardTurn) (o : Option Homing) → r.homing ≡ o → IsOf start ms o → row ≤ 2 → start + row ≡ k + 254 → RowOf b s row ms
-    → (r.phase ≡ Connecting → ⊥) → BoardTurned m r b k c.states a x t.control → Sets (stepper_at m s).oid t.control.commands
+    → (r.phase ≡ Connecting → ⊥) → BoardTurned m r b k c.states a x t.control → SomeSets (stepper_at m s).oid t.control.commands
 control_sets m b s row c r k start ms a x t o is of few e inside n (Asks p g) = absurd (n p)
 control_sets m b s row c r k start ms a x t o is of few e inside n (Ends p g) = absurd (n p)
 control_sets m b s row c r k start ms a x t None is of few e inside n (Runs p g) = absurd of
@@ -163,18 +163,18 @@ control_sets m b s row c r k start ms a x t (Some h) is of few e inside n (Runs 
     let i = (stepper_at m s).oid in
     let waits = waits_in (drifts (board_at m b).drift) k a in
     let commands = homing_commands m (homing_turn r.clocks k c.states r.homing) g.own b in
-    let Home : Option Homing → Type 0 = λ y. Sets i (homing_commands m (homing_turn r.clocks k c.states y) g.own b) in
+    let Home : Option Homing → Type 0 = λ y. SomeSets i (homing_commands m (homing_turn r.clocks k c.states y) g.own b) in
     let at = of.1 in
-    let home : Sets i commands = subst Home (sym is) (row_sets m r.clocks c.states g.own b k h s row (of.0 ∙ sym of.1) few (omega (arith, at, e)) (subst (λ (l : List Member). RowOf b s row l) (sym of.2) inside)) in
-    subst (λ (y : Control). Sets i y.commands) (sym g.control_is) (sets_front i commands (clock_question commands waits ++ stop_command (stops g.stop)) home)
+    let home : SomeSets i commands = subst Home (sym is) (row_sets m r.clocks c.states g.own b k h s row (of.0 ∙ sym of.1) few (omega (arith, at, e)) (subst (λ (l : List Member). RowOf b s row l) (sym of.2) inside)) in
+    subst (λ (y : Control). SomeSets i y.commands) (sym g.control_is) (sets_front i commands (clock_question commands waits ++ stop_command (stops g.stop)) home)
 
 turn_clocks : (m : Machine) (switches : List Switch) (pins : List (List Level)) (entries : List Entry) (b s row : ℕ) (c : Came) (before : List Came) (t : BoardTurn) (turns : List BoardTurn) (start : ℕ) (ms : List Member)
     → IsInRun m switches pins entries b (c ∷ before) (t ∷ turns) → ((known_by m switches before).phase ≡ Connecting → ⊥) → IsOf start ms (noted m c.note (known_by m switches before)).homing → row ≤ 2 → start + row ≡ length before + 254
-    → RowOf b s row ms → Sets (stepper_at m s).oid t.control.commands
+    → RowOf b s row ms → SomeSets (stepper_at m s).oid t.control.commands
 turn_clocks m switches pins entries b s row c before t turns start ms r n of few e inside =
     let x = turn_of m switches pins entries b c before t turns r in
     let known = known_by m switches before in
-    control_sets m b s row c (noted m c.note known) (length before) start ms x.a (last_turn m switches c before) t (noted m c.note known).homing refl of few e inside
+    control_sets m b s row c (noted m c.note known) (length before) start ms x.a (last_reacted m switches c before) t (noted m c.note known).homing refl of few e inside
     (connecting_not (noted m c.note known) known (noted_phase m c.note known) n) x.turned
 
 -- over turns
@@ -183,7 +183,7 @@ sets_on oid s turn [] ps k = absurd k
 sets_on oid s turn (o ∷ os) ps (inl k) = inl k
 sets_on oid s turn (o ∷ os) ps (inr k) = inr (sets_on oid s (turn + 1) os ps k)
 
-sets_last : (oid : ℕ) (s : BoardSection) (turn n : ℕ) (os : List Orders) (o : Orders) → n ≡ turn + length os → s.start ≤ n + 254 → n + 252 ≤ s.start → Sets oid o.control.commands → SetsIn oid s turn (os ++ o ∷ [])
+sets_last : (oid : ℕ) (s : BoardSection) (turn n : ℕ) (os : List Orders) (o : Orders) → n ≡ turn + length os → s.start ≤ n + 254 → n + 252 ≤ s.start → SomeSets oid o.control.commands → SetsIn oid s turn (os ++ o ∷ [])
 sets_last oid s turn n [] o e soon late k = inl (omega (arith, e, soon), omega (arith, e, late), k)
 sets_last oid s turn n (x ∷ os) o e soon late k = inr (sets_last oid s (turn + 1) n os o (omega (arith, e)) soon late k)
 

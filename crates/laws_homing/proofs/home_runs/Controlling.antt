@@ -15,7 +15,7 @@ use Rattle.trigger_group.specs.declared.round.Phase.{Phase}
 use Rattle.trigger_group.specs.declared.round.Phase.TheVariants.{Sends}
 use Rattle.trigger_group.specs.declared.round.Round.{Round}
 use Rattle.trigger_group.specs.declared.round.Round.TheVariants.{Homes, Starts}
-use Rattle.trigger_group.specs.Group.{GroupState, ended, first_timeout, orders_in, phase}
+use Rattle.trigger_group.specs.Group.{GroupState, ended, first_timeout, orders_of_group, phase}
 use Rattle.trigger_group.specs.Kept.{BoardsRise}
 use Rattle.axis_homing.specs.declared.homing.Homing.{Homing}
 use Rattle.axis_homing.specs.Homing.{answer_in, by_answer, commands_to, hears_all, homing_turn}
@@ -27,7 +27,7 @@ use Rattle.host_reactor.specs.declared.ordered.Known.{Known}
 use Rattle.host_reactor.specs.declared.ordered.Phase.TheVariants.{Connecting}
 use Rattle.host_reactor.specs.Notes.{noted}
 use Rattle.host_reactor.specs.Reactor.{Reacted, homing_commands, stop_command, stops}
-use Rattle.host_reactor.specs.Runs.{Came, known_by, last_turn}
+use Rattle.host_reactor.specs.Runs.{Came, known_by, last_reacted}
 use Rattle.laws_board.specs.turns.Turns.{BoardTurn}
 use Rattle.laws_board.specs.clocks.Runs.{IsInRun}
 use Rattle.laws_board.proofs.clocks.Controls.{states_start}
@@ -55,7 +55,7 @@ group_binds m own b k g s round none is rise inside =
     let i = (stepper_at m s).oid in
     let j = trigger_of m b in
     let By : Option End → Type 0 = λ o. Binds i j (homing_commands m (by_answer k g o) own b) in
-    let In : Phase → Type 0 = λ p. Binds i j (commands_to m own b g.start (axis_at m g.axis) (orders_in p g.group k)) in
+    let In : Phase → Type 0 = λ p. Binds i j (commands_to m own b g.start (axis_at m g.axis) (orders_of_group p g.group k)) in
     subst By (sym none) (subst In (sym is) (round_binds m own b g.start (axis_at m g.axis) round g.group.members s rise inside))
 
 pub first_binds : (m : Machine) (all : List Clocks) (states : List State) (own : Clocks) (b k : ℕ) (h : Homing) (s : ℕ) → h.start ≡ h.group.start → h.group.start ≡ k + 251 → BoardsRise (members_of h.group) → FirstOf b s (members_of h.group)
@@ -99,7 +99,7 @@ pub turn_calm : (i j : ℕ) (m : Machine) (switches : List Switch) (pins : List 
 turn_calm i j m switches pins entries b c before t turns start ms r n of soon =
     let x = turn_of m switches pins entries b c before t turns r in
     let known = known_by m switches before in
-    control_calm i j m b c (noted m c.note known) (length before) start ms x.a (last_turn m switches c before) t (noted m c.note known).homing refl of soon (connecting_not (noted m c.note known) known (noted_phase m c.note known) n) x.turned
+    control_calm i j m b c (noted m c.note known) (length before) start ms x.a (last_reacted m switches c before) t (noted m c.note known).homing refl of soon (connecting_not (noted m c.note known) known (noted_phase m c.note known) n) x.turned
 
 control_binds : (m : Machine) (b s : ℕ) (c : Came) (r : Known) (k start : ℕ) (ms : List Member) (a : Asking) (x : Reacted) (t : BoardTurn) (o : Option Homing) → r.homing ≡ o → IsOf start ms o
     → (r.phase ≡ Connecting → ⊥) → BoardTurned m r b k c.states a x t.control
@@ -126,7 +126,7 @@ turn_binds m switches pins entries b s c before t turns start ms r n of binds =
     let x = turn_of m switches pins entries b c before t turns r in
     let known = known_by m switches before in
     let now = noted m c.note known in
-    control_binds m b s c now (length before) start ms x.a (last_turn m switches c before) t now.homing refl of (connecting_not now known (noted_phase m c.note known) n) x.turned
+    control_binds m b s c now (length before) start ms x.a (last_reacted m switches c before) t now.homing refl of (connecting_not now known (noted_phase m c.note known) n) x.turned
     (λ h own is. binds h own (subst (λ (o : Option Homing). IsOf start ms o) is of))
 
 pub first_turn : (m : Machine) (switches : List Switch) (pins : List (List Level)) (entries : List Entry) (b s : ℕ) (c : Came) (before : List Came) (t : BoardTurn) (turns : List BoardTurn) (start : ℕ) (ms : List Member)

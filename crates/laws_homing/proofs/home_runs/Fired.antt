@@ -27,7 +27,7 @@ use Rattle.laws_homing.specs.home_runs.SetUps.{IsBoundIn, StopsAt}
 use Rattle.laws_homing.specs.home_runs.Timeouts.{BeginsBy, CouldUpTo, TakesSent, known_in, tick_in}
 use Rattle.laws_homing.specs.home_runs.Told.{IsMember}
 use Rattle.laws_homing.specs.home_runs.Windows.{HasAnswer}
-use Rattle.laws_homing.specs.switch_runs.Runs.{IsEndstop, IsRead}
+use Rattle.laws_homing.specs.switch_runs.Runs.{IsEndstop, IsReadInRun}
 use Rattle.laws_homing.proofs.fired_runs.Reported.{before_start}
 use Rattle.laws_homing.proofs.home_runs.Hearing.{stops_by_heard}
 use Rattle.laws_homing.proofs.home_runs.Reporting.{reports_moments}
@@ -69,7 +69,7 @@ pub run_moments : (m : Machine) (switches : List Switch) (pins : List (List Leve
     × CouldAt oid x (stands_after (first_state (board_at m b) pins b entries) (later ++ t ∷ (middle ++ past))).core.board
     × (clock ≡ x % 2 ^ 32)
 run_moments m switches pins entries b came later t middle past oid can reason clock r =
-    let F = IsRead m switches pins b came in
+    let F = IsReadInRun m switches pins b came in
     reports_moments (IsEndstop m b) F (board_at m b) pins b entries later t middle past oid can reason clock r.turns_are
     (bring_fit m switches pins entries b (λ (n : ℕ). F) came (later ++ t ∷ (middle ++ past)) r (λ tick k. k))
 

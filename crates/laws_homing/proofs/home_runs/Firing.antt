@@ -13,11 +13,11 @@ use Rattle.board_sim.specs.Rig.{Rig}
 use Rattle.board_world.specs.declared.event.Event.{Event}
 use Rattle.board_world.specs.declared.event.Event.TheVariants as event
 use Rattle.board_world.specs.Stands.{IsOrdered}
-use Rattle.board_world.specs.World.{Core, does, happens, orders_of, takes_in, text_of}
+use Rattle.board_world.specs.World.{Core, does, after_event, orders_of, takes_in, wire_text}
 use Rattle.laws_board.proofs.clocks.Answers.{Each}
 use Rattle.laws_board.proofs.clocks.Replies.{AllUp, up_by, up_more}
 use Rattle.laws_board.proofs.clocks.Uptimes.{none_said}
-use Rattle.laws_homing.specs.home_runs.Guards.{AreCalm, IsQuiet, IsSole, StandsFired}
+use Rattle.laws_homing.specs.home_runs.Guards.{AreCalm, HasNoTimeout, IsSole, StandsFired}
 use Rattle.laws_homing.proofs.home_runs.Guarding.{Next, next_same, passes_next, stands_next}
 use Rattle.laws_homing.proofs.home_runs.Saying.{EachCalm, Says, all_next, all_say, time_says}
 use Rattle.laws_homing.proofs.home_runs.Spelled.{same_kind, state_is, state_told}
@@ -44,19 +44,19 @@ fires_next i j r q rs x k =
     record { own_reason = s.own_reason; own_clock = s.own_clock; stands = stands_next i j s.own_reason s.own_clock r q x s.stands; read = s.read })) k
 
 -- an answer of the board
-by_row : (P : Type 0) (j oid reason clock : ℕ) (q : Rig) (c : Cmd) → P → Says P j q c → row.TrsyncState ≡ row_of c → IsText own_formats (cmd.TrsyncState oid 0 reason clock) (text_of c) → StandsRead j reason clock q
+by_row : (P : Type 0) (j oid reason clock : ℕ) (q : Rig) (c : Cmd) → P → Says P j q c → row.TrsyncState ≡ row_of c → IsText own_formats (cmd.TrsyncState oid 0 reason clock) (wire_text c) → StandsRead j reason clock q
 by_row P j oid reason clock q (cmd.TrsyncState a b r k) given s e t =
     let stands = s.4 (state_is a b r k oid reason clock s.0 s.1 t).1 given in
     let small : k < 2 ^ 32 = let is = stands.clock_is in omega (arith, is) in
     record { own_reason = r; own_clock = k; stands = stands; read = λ fits. (let same = state_told a b r k oid 0 reason clock s.0 s.1 fits small t in (same.2, same.3)) }
 by_row P j oid reason clock q c given s e t = cc
 
-fires_answers : (P : Type 0) (j : ℕ) (q : Rig) (n : ℕ) (cs : List Cmd) → P → Each (Says P j q) cs → EachFires j q (numbered n (map text_of cs))
+fires_answers : (P : Type 0) (j : ℕ) (q : Rig) (n : ℕ) (cs : List Cmd) → P → Each (Says P j q) cs → EachFires j q (numbered n (map wire_text cs))
 fires_answers P j q n [] given k = tt
 fires_answers P j q n (c ∷ cs) given k = (λ oid reason clock t. by_row P j oid reason clock q c given k.0 (same_kind c (cmd.TrsyncState oid 0 reason clock) t) t, fires_answers P j q n cs given k.1)
 
 -- the replies behind an event
-pub fires_by : (P : Type 0) (j : ℕ) (q : Rig) (h : Core) (e : Event) → P → Each (Says P j q) (does h e).answers → EachFires j q h.link.up → EachFires j q (happens h e).link.up
+pub fires_by : (P : Type 0) (j : ℕ) (q : Rig) (h : Core) (e : Event) → P → Each (Says P j q) (does h e).answers → EachFires j q h.link.up → EachFires j q (after_event h e).link.up
 fires_by P j q h e given t k =
     up_by (Fires j q) h e (λ n oid reason clock none. absurd (none_said (cmd.TrsyncState oid 0 reason clock) none)) (λ n is. fires_answers P j q n (does h e).answers given t) k
 
@@ -74,10 +74,10 @@ next_by i j h event.Garble b = next_same i j h.board
 next_by i j h event.Reply b = next_same i j h.board
 next_by i j h event.LoseReply b = next_same i j h.board
 
-pub says_by : (i j : ℕ) (h : Core) (e : Event) → EachCalm i j (commands_of (takes_in h e)) → length h.board.triggers ≤ 256 → IsSole j h.board → Each (Says (IsQuiet j h.board) j (does h e).board) (does h e).answers
-says_by i j h (event.Pass t) b few sole = time_says (IsQuiet j h.board) i j h.board t few sole (λ quiet. quiet)
-says_by i j h event.Arrive b few sole = all_say (IsQuiet j h.board) i j h.board (commands_of (takes_in h event.Arrive)) few sole (λ quiet. quiet) b
-says_by i j h event.Repeat b few sole = all_say (IsQuiet j h.board) i j h.board (commands_of (takes_in h event.Repeat)) few sole (λ quiet. quiet) b
+pub says_by : (i j : ℕ) (h : Core) (e : Event) → EachCalm i j (commands_of (takes_in h e)) → length h.board.triggers ≤ 256 → IsSole j h.board → Each (Says (HasNoTimeout j h.board) j (does h e).board) (does h e).answers
+says_by i j h (event.Pass t) b few sole = time_says (HasNoTimeout j h.board) i j h.board t few sole (λ quiet. quiet)
+says_by i j h event.Arrive b few sole = all_say (HasNoTimeout j h.board) i j h.board (commands_of (takes_in h event.Arrive)) few sole (λ quiet. quiet) b
+says_by i j h event.Repeat b few sole = all_say (HasNoTimeout j h.board) i j h.board (commands_of (takes_in h event.Repeat)) few sole (λ quiet. quiet) b
 says_by i j h (event.Put c) b few sole = tt
 says_by i j h (event.Control c) b few sole = tt
 says_by i j h event.Send b few sole = tt
@@ -101,9 +101,9 @@ calm_each i j [] a = tt
 calm_each i j (x ∷ xs) a = (a.0, calm_each i j xs a.1)
 
 -- the commands that are left behind an event
-pub left_by : (h : Core) (e : Event) (left : List Meant) → IsOrdered (happens h e) → h.taken ++ left ≡ h.queued → (more : List Meant) × (takes_in h e ++ more ≡ left ++ orders_of e) × ((h.taken ++ takes_in h e) ++ more ≡ h.queued ++ orders_of e)
+pub left_by : (h : Core) (e : Event) (left : List Meant) → IsOrdered (after_event h e) → h.taken ++ left ≡ h.queued → (more : List Meant) × (takes_in h e ++ more ≡ left ++ orders_of e) × ((h.taken ++ takes_in h e) ++ more ≡ h.queued ++ orders_of e)
 left_by h e left o rest =
-    let g = happens h e in
+    let g = after_event h e in
     let n = length g.link.taken in
     let all : (h.taken ++ takes_in h e) ++ drop n g.queued ≡ h.queued ++ orders_of e = ap (λ (x : List Meant). x ++ drop n g.queued) o.first ∙ take-append-drop n g.queued in (
       drop n g.queued,

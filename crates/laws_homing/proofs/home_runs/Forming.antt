@@ -24,7 +24,7 @@ use Rattle.axis_homing.specs.declared.homing.Homing.{Homing}
 use Rattle.axis_homing.specs.Homing.{answer_in, goes_on_homing, hears_all, homing_after, homing_of, homing_with, members_from, moving_on}
 use Rattle.axis_homing.specs.Rising.{members_of}
 use Rattle.host_reactor.specs.declared.ordered.Known.{Known}
-use Rattle.host_reactor.specs.Notes.{noted, told, told_all}
+use Rattle.host_reactor.specs.Notes.{noted, known_behind, told_all}
 use Rattle.host_reactor.specs.Reactor.{Reacted}
 use Rattle.host_reactor.specs.Runs.{Came, GoesOn, known_by}
 use Rattle.laws_board.specs.clocks.Samples.{IsAmong}
@@ -52,7 +52,7 @@ begun_formed m section (HomeKind axis) turn last moving =
     let ms = members_from m (axis_at m axis) moving 0 m.boards in
     formed_if (may_be (map unseen ms) turn last) m section axis turn turn last moving (axis_at m axis) refl
 
-told_formed : (m : Machine) (r : Known) (n : NoteNews) → IsFormed m r.homing → IsFormed m (told m r n).homing
+told_formed : (m : Machine) (r : Known) (n : NoteNews) → IsFormed m r.homing → IsFormed m (known_behind m r n).homing
 told_formed m r (news.Start section kind turn last moving) h = begun_formed m section kind turn last moving
 told_formed m r (news.Done section turn) h = h
 told_formed m r (news.Read x sections) h = h
@@ -60,7 +60,7 @@ told_formed m r (news.Line board line from) h = h
 
 all_formed : (m : Machine) (ns : List NoteNews) (r : Known) → IsFormed m r.homing → IsFormed m (told_all m ns r).homing
 all_formed m [] r h = h
-all_formed m (n ∷ ns) r h = all_formed m ns (told m r n) (told_formed m r n h)
+all_formed m (n ∷ ns) r h = all_formed m ns (known_behind m r n) (told_formed m r n h)
 
 pub noted_formed : (m : Machine) (note : Option Note) (r : Known) → IsFormed m r.homing → IsFormed m (noted m note r).homing
 noted_formed m None r h = h

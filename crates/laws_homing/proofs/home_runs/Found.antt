@@ -13,7 +13,7 @@ use Rattle.board_sim.specs.RigRuns.{IsHalted}
 use Rattle.board_sim.proofs.RigPlaces.{halted_is, is_halted}
 use Rattle.board_world.specs.declared.event.Event.{Event}
 use Rattle.board_world.specs.declared.event.Event.TheVariants as event
-use Rattle.board_world.specs.World.{Core, Step, Do, Turn, does, happens, in_turn, run, takes_in}
+use Rattle.board_world.specs.World.{Core, Step, Do, Turn, does, after_event, in_turn, run_world, takes_in}
 use Rattle.link_work.specs.Stands.{orders}
 use Rattle.link_work.specs.Turn.{LinkState}
 use Rattle.link_work.proofs.Sending.{run_append}
@@ -49,52 +49,52 @@ step_both : (i : ℕ) (xs ys : List Meant) → AllStepNot i xs → AllStepNot i 
 step_both i [] ys a b = b
 step_both i (x ∷ xs) ys a b = (a.0, step_both i xs ys a.1 b)
 
-steps_none : (i : ℕ) (steps : List Step) (h : Core) → StepsFindHalted i h steps → AllSetNot i (steps_take steps h).0 → (run steps h).board.controller.state ≡ Running
-    → IsHalted (stepper_at (run steps h).board.controller i) ⊎ AllStepNot i (steps_take steps h).0
+steps_none : (i : ℕ) (steps : List Step) (h : Core) → StepsFindHalted i h steps → AllSetNot i (steps_take steps h).0 → (run_world steps h).board.controller.state ≡ Running
+    → IsHalted (stepper_at (run_world steps h).board.controller i) ⊎ AllStepNot i (steps_take steps h).0
 unfolding steps_take
 steps_none i [] h f n runs = inr tt
 steps_none i (Do e ∷ steps) h f n runs =
-    let next = happens h e in
+    let next = after_event h e in
     let rest = (steps_take steps next).0 in
     let both = not_parts i (takes_in h e) rest n in
     elim (event_none i h e f.0 both.0 (ran_steps steps next runs)) [
-      | inl is ↦ inl (is_halted (stepper_at (run steps next).board.controller i) (steps_stay i steps next both.1 (halted_is (stepper_at next.board.controller i) is)))
+      | inl is ↦ inl (is_halted (stepper_at (run_world steps next).board.controller i) (steps_stay i steps next both.1 (halted_is (stepper_at next.board.controller i) is)))
       | inr one ↦ elim (steps_none i steps next (f.1 both.0) both.1 runs) [ inl is ↦ inl is | inr more ↦ inr (step_both i (takes_in h e) rest one more) ]
     ]
 steps_none i (Turn turn ∷ steps) h f n runs = steps_none i steps (in_turn h turn) f n runs
 
 -- where these commands are taken in the steps
-pub found_none : (i : ℕ) (steps : List Step) (h : Core) (ms : List Meant) → (run steps h).taken ≡ h.taken ++ ms → AllSetNot i ms → StepsFindHalted i h steps → (run steps h).board.controller.state ≡ Running
-    → IsHalted (stepper_at (run steps h).board.controller i) ⊎ AllStepNot i ms
+pub found_none : (i : ℕ) (steps : List Step) (h : Core) (ms : List Meant) → (run_world steps h).taken ≡ h.taken ++ ms → AllSetNot i ms → StepsFindHalted i h steps → (run_world steps h).board.controller.state ≡ Running
+    → IsHalted (stepper_at (run_world steps h).board.controller i) ⊎ AllStepNot i ms
 found_none i steps h ms e n f runs =
     let took = steps_take steps h in
     let same : took.0 ≡ ms = append_cancel_left h.taken took.0 ms (sym took.1 ∙ e) in
-    subst (λ (x : List Meant). IsHalted (stepper_at (run steps h).board.controller i) ⊎ AllStepNot i x) same (steps_none i steps h f (subst (λ (x : List Meant). AllSetNot i x) (sym same) n) runs)
+    subst (λ (x : List Meant). IsHalted (stepper_at (run_world steps h).board.controller i) ⊎ AllStepNot i x) same (steps_none i steps h f (subst (λ (x : List Meant). AllSetNot i x) (sym same) n) runs)
 
 -- steps in two parts
 pub find_front : (i : ℕ) (xs ys : List Step) (h : Core) → StepsFindHalted i h (xs ++ ys) → StepsFindHalted i h xs
 find_front i [] ys h f = tt
-find_front i (Do e ∷ xs) ys h f = (f.0, λ n. find_front i xs ys (happens h e) (f.1 n))
+find_front i (Do e ∷ xs) ys h f = (f.0, λ n. find_front i xs ys (after_event h e) (f.1 n))
 find_front i (Turn turn ∷ xs) ys h f = find_front i xs ys (in_turn h turn) f
 
-take_behind : (i : ℕ) (xs ys : List Step) (h : Core) → AllSetNot i (steps_take xs h).0 → StepsFindHalted i h (xs ++ ys) → StepsFindHalted i (run xs h) ys
+take_behind : (i : ℕ) (xs ys : List Step) (h : Core) → AllSetNot i (steps_take xs h).0 → StepsFindHalted i h (xs ++ ys) → StepsFindHalted i (run_world xs h) ys
 unfolding steps_take
 take_behind i [] ys h n f = f
-take_behind i (Do e ∷ xs) ys h n f = let both = not_parts i (takes_in h e) (steps_take xs (happens h e)).0 n in take_behind i xs ys (happens h e) both.1 (f.1 both.0)
+take_behind i (Do e ∷ xs) ys h n f = let both = not_parts i (takes_in h e) (steps_take xs (after_event h e)).0 n in take_behind i xs ys (after_event h e) both.1 (f.1 both.0)
 take_behind i (Turn turn ∷ xs) ys h n f = take_behind i xs ys (in_turn h turn) n f
 
-pub find_behind : (i : ℕ) (xs ys : List Step) (h : Core) (ms : List Meant) → (run xs h).taken ≡ h.taken ++ ms → AllSetNot i ms → StepsFindHalted i h (xs ++ ys) → StepsFindHalted i (run xs h) ys
+pub find_behind : (i : ℕ) (xs ys : List Step) (h : Core) (ms : List Meant) → (run_world xs h).taken ≡ h.taken ++ ms → AllSetNot i ms → StepsFindHalted i h (xs ++ ys) → StepsFindHalted i (run_world xs h) ys
 find_behind i xs ys h ms e n f =
     let took = steps_take xs h in
     let same : took.0 ≡ ms = append_cancel_left h.taken took.0 ms (sym took.1 ∙ e) in
     take_behind i xs ys h (subst (λ (x : List Meant). AllSetNot i x) (sym same) n) f
 
 -- the steps of some turns
-pub later_steps : (clock : BoardClock) (first : LinkState) (later past : List BoardTurn) → AreBoardTurns clock first (later ++ past) → (steps : List Step) × ((stands_after first (later ++ past)).core ≡ run steps (stands_after first past).core)
+pub later_steps : (clock : BoardClock) (first : LinkState) (later past : List BoardTurn) → AreBoardTurns clock first (later ++ past) → (steps : List Step) × ((stands_after first (later ++ past)).core ≡ run_world steps (stands_after first past).core)
 later_steps clock first [] past are = ([], refl)
 later_steps clock first (t ∷ later) past are =
     let before = later ++ past in
     let l = stands_after first before in
     let now = turns_are_steps clock (length before) (orders t.control t.batch ∷ []) l t.after (t.after, are.0.0, refl) in
     let old = later_steps clock first later past are.1 in
-    (old.0 ++ now.0, now.1 ∙ ap (λ (h : Core). run now.0 h) old.1 ∙ sym (run_append old.0 now.0 (stands_after first past).core))
+    (old.0 ++ now.0, now.1 ∙ ap (λ (h : Core). run_world now.0 h) old.1 ∙ sym (run_append old.0 now.0 (stands_after first past).core))

@@ -29,13 +29,13 @@ use Rattle.trigger_group.specs.declared.round.Phase.{Phase}
 use Rattle.trigger_group.specs.declared.round.Phase.TheVariants.{Goes, Rests, Sends}
 use Rattle.trigger_group.specs.declared.seen.Fired.{Fired}
 use Rattle.trigger_group.specs.declared.seen.Seen.{Seen}
-use Rattle.trigger_group.specs.Group.{GroupState, after_in, all_fired, answer, came, ended, first, has_fired, hears_from, later, new_group, phase, unseen}
+use Rattle.trigger_group.specs.Group.{GroupState, after_in, all_fired, answer, came, ended, first_fired, has_fired, hears_from, later, new_group, phase, unseen}
 use Rattle.trigger_group.specs.Kept.{may_be}
 use Rattle.axis_homing.specs.declared.homing.Homing.{Homing}
 use Rattle.axis_homing.specs.Homing.{answer_in, came_at, goes_on_homing, hears_all, hears_answer, hears_news, hears_state, hears_states, homing_after, homing_of, homing_with, members_from}
 use Rattle.axis_homing.specs.Rising.{members_of}
 use Rattle.host_reactor.specs.declared.ordered.Known.{Known}
-use Rattle.host_reactor.specs.Notes.{noted, told, told_all}
+use Rattle.host_reactor.specs.Notes.{noted, known_behind, told_all}
 use Rattle.host_reactor.specs.Reactor.{Reacted}
 use Rattle.host_reactor.specs.Runs.{Came, known_by, state_at}
 use Rattle.laws_board.specs.turns.Turns.{AreBoardTurns, BoardTurn, latest_state}
@@ -62,8 +62,8 @@ seen_none b P (m ∷ ms) = (λ f is fired. absurd (cc), seen_none b P ms)
 -- a report comes
 one_heard : (here can : Bool) (b board : ℕ) (P : Type 0) (s : TrigState) (tick turn : ℕ) (x : Seen) → (x.member.board == board) ≡ here → s.can ≡ can → ((f : Fired) → x.member.board ≡ b → x.fired ≡ Some f → P)
     → (board ≡ b → s.can ≡ false → P) → (f : Fired)
-    → (cond here (cond can (record x { heard = Some (later x.heard turn) }) (record x { fired = Some (first x.fired (record { reason = s.reason; tick = tick; turn = turn })) })) x).member.board ≡ b
-    → (cond here (cond can (record x { heard = Some (later x.heard turn) }) (record x { fired = Some (first x.fired (record { reason = s.reason; tick = tick; turn = turn })) })) x).fired ≡ Some f → P
+    → (cond here (cond can (record x { heard = Some (later x.heard turn) }) (record x { fired = Some (first_fired x.fired (record { reason = s.reason; tick = tick; turn = turn })) })) x).member.board ≡ b
+    → (cond here (cond can (record x { heard = Some (later x.heard turn) }) (record x { fired = Some (first_fired x.fired (record { reason = s.reason; tick = tick; turn = turn })) })) x).fired ≡ Some f → P
 one_heard true true b board P s tick turn x e c k new f is fired = k f is fired
 one_heard true false b board P s tick turn x e c k new f is fired = new (sym (eqb-true x.member.board board e) ∙ is) c
 one_heard false can b board P s tick turn x e c k new f is fired = k f is fired
@@ -160,7 +160,7 @@ begun_so m b section (Home axis) turn last moving turns =
     let ms = members_from m (axis_at m axis) moving 0 m.boards in
     begun_if (may_be (map unseen ms) turn last) b section axis turn turn last turns ms
 
-told_so : (m : Machine) (b : ℕ) (turns : List BoardTurn) (r : Known) (n : NoteNews) → HomingSo b turns r.homing → HomingSo b turns (told m r n).homing
+told_so : (m : Machine) (b : ℕ) (turns : List BoardTurn) (r : Known) (n : NoteNews) → HomingSo b turns r.homing → HomingSo b turns (known_behind m r n).homing
 told_so m b turns r (news.Start section kind turn last moving) k = begun_so m b section kind turn last moving turns
 told_so m b turns r (news.Done section turn) k = k
 told_so m b turns r (news.Read x sections) k = k
@@ -168,7 +168,7 @@ told_so m b turns r (news.Line board line from) k = k
 
 all_told_so : (m : Machine) (b : ℕ) (turns : List BoardTurn) (ns : List NoteNews) (r : Known) → HomingSo b turns r.homing → HomingSo b turns (told_all m ns r).homing
 all_told_so m b turns [] r k = k
-all_told_so m b turns (n ∷ ns) r k = all_told_so m b turns ns (told m r n) (told_so m b turns r n k)
+all_told_so m b turns (n ∷ ns) r k = all_told_so m b turns ns (known_behind m r n) (told_so m b turns r n k)
 
 noted_so : (m : Machine) (b : ℕ) (turns : List BoardTurn) (note : Option Note) (r : Known) → HomingSo b turns r.homing → HomingSo b turns (noted m note r).homing
 noted_so m b turns None r k = k
@@ -230,7 +230,7 @@ members_heard board tick turn t (s ∷ ss) =
     ∙ ap (λ (l : List Member). s.member ∷ l) (members_heard board tick turn t ss)
   where
     one : (here can : Bool)
-        → (cond here (cond can (record s { heard = Some (later s.heard turn) }) (record s { fired = Some (first s.fired (record { reason = t.reason; tick = tick; turn = turn })) })) s).member ≡ s.member
+        → (cond here (cond can (record s { heard = Some (later s.heard turn) }) (record s { fired = Some (first_fired s.fired (record { reason = t.reason; tick = tick; turn = turn })) })) s).member ≡ s.member
     one true true = refl
     one true false = refl
     one false can = refl

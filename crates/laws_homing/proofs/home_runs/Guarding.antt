@@ -16,12 +16,12 @@ use Rattle.plan_types.specs.Board.{nearest}
 use Rattle.msg_code.specs.declared.cmd.Cmd.{Cmd}
 use Rattle.msg_code.specs.declared.cmd.Cmd.TheVariants as cmd
 use Rattle.board_sim.specs.Board.{stepper_at}
-use Rattle.board_sim.specs.Rig.{Rig, Slot, Passed, slot_at, levels_of, becomes, make_trigger, make_endstop, start, expires_at_once, set_timeout, trigger, bind, home, by_board, acts, acts_running, takes, earliest, runs_to, rested, rests_to, happens_to, happens, goes_on, at_of, passes_by, pass, passes, all_left}
-use Rattle.board_sim.specs.RigRuns.{has, IsHalted, IsBehind}
+use Rattle.board_sim.specs.Rig.{Rig, Slot, Passed, slot_at, levels_of, becomes, make_trigger, make_endstop, start_trigger, expires_at_once, set_timeout, trigger, bind, home, by_board, acts, acts_running, takes, earliest_moment, runs_to, rested, rests_to, happens_to, happens_at, goes_on, at_of, passes_by, pass, passes, all_left}
+use Rattle.board_sim.specs.RigRuns.{has, IsHalted, IsBehindSetUp}
 use Rattle.board_sim.proofs.RigPlaces.{there_is, is_there, halted_is, is_halted}
 use Rattle.board_sim.proofs.RigCommands.{IsIn, takes_is, passes_is}
 use Rattle.board_sim.proofs.Bound.{slot_range, same_or_not, one_slot, set_other, halts_is, halts_all, both_true, or_true, map_at}
-use Rattle.laws_homing.specs.home_runs.Guards.{HasFired, IsCalm, IsGuarded, IsQuiet, IsSole, StandsFired}
+use Rattle.laws_homing.specs.home_runs.Guards.{HasFired, IsCalm, IsGuarded, HasNoTimeout, IsSole, StandsFired}
 
 -- what becomes of a trigger that isn't started anew: where it can't trigger, it can't on; and where it has no timeout then, its reason and tick stay
 pub record Stays (t u : Trigger) : Type 0 where
@@ -43,7 +43,7 @@ pub record Next (i j : ℕ) (r q : Rig) : Type 0 where
   pub keep : (h : Bool) → IsIn h i r.controller → IsIn h i q.controller
   pub places : length q.triggers ≡ length r.triggers
   pub sole : IsSole j r → IsSole j q
-  pub quiet : IsQuiet j r → IsQuiet j q
+  pub quiet : HasNoTimeout j r → HasNoTimeout j q
 
 no_other : (b : Bool) → b ≡ true → b ≡ false → ⊥
 no_other true e f = cc
@@ -78,7 +78,7 @@ stays_then t u v x y = record {
       (two.0 ∙ one.0, two.1 ∙ one.1);
 }
 
-quiet_by : (i j : ℕ) (s : Slot) (r q : Rig) → slot_at r j ≡ Some s → Becomes i j s r q → IsQuiet j r → IsQuiet j q
+quiet_by : (i j : ℕ) (s : Slot) (r q : Rig) → slot_at r j ≡ Some s → Becomes i j s r q → HasNoTimeout j r → HasNoTimeout j q
 quiet_by i j s r q at b quiet v is = subst (λ (x : Slot). x.trigger.can ≡ false → x.trigger.timeout ≡ None) (one_slot (slot_at q j) b.slot v b.is is) (b.stays.quiet (quiet s at))
 
 pub next_same : (i j : ℕ) (r : Rig) → Next i j r r
@@ -206,7 +206,7 @@ becomes_next i j oid r s t at stays =
     (same_or_not oid j)
 
 -- commands of triggers
-new_quiet : (j : ℕ) (r q : Rig) (u : Slot) → q.triggers ≡ set r.triggers j (Some u) → u.trigger.timeout ≡ None → IsQuiet j q
+new_quiet : (j : ℕ) (r q : Rig) (u : Slot) → q.triggers ≡ set r.triggers j (Some u) → u.trigger.timeout ≡ None → HasNoTimeout j q
 new_quiet j r q u e quiet v is stopped =
     let within : j < length r.triggers = subst (λ (n : ℕ). j < n) (set_places r q j (Some u) e) (slot_range q.triggers j v is) in
     let at : slot_at q j ≡ Some u = ap (λ (xs : List (Option Slot)). get_or xs j None) e ∙ get_or-set_same r.triggers j (Some u) None within in
@@ -229,7 +229,7 @@ endstop_next : (i j oid pin : ℕ) (r : Rig) (o : Option ℕ) → Next i j r (ma
 endstop_next i j oid pin r None = other_next i j r (make_endstop r oid pin None) refl refl (λ x. x) (λ h is. is)
 endstop_next i j oid pin r (Some p) = next_same i j r
 
-start_next : (i j oid : ℕ) (r : Rig) (o : Option Slot) (clock every reason : ℕ) → slot_at r oid ≡ o → (oid ≡ j → ⊥) → Next i j r (start r oid o clock every reason)
+start_next : (i j oid : ℕ) (r : Rig) (o : Option Slot) (clock every reason : ℕ) → slot_at r oid ≡ o → (oid ≡ j → ⊥) → Next i j r (start_trigger r oid o clock every reason)
 start_next i j oid r None clock every reason e other = next_same i j r
 start_next i j oid r (Some s) clock every reason e other = becomes_next i j oid r s _ e (λ same. absurd (other same))
 
@@ -280,7 +280,7 @@ home_next i j other r (Some pin) (Some s) h e =
     })
     (same_or_not other j)
 
-calm_behind : (i j : ℕ) (c : Cmd) → IsCalm i j c → IsBehind i j c
+calm_behind : (i j : ℕ) (c : Cmd) → IsCalm i j c → IsBehindSetUp i j c
 calm_behind i j (cmd.TrsyncStart oid clock every reason) k = k
 calm_behind i j (cmd.ResetStepClock oid clock) k = k
 calm_behind i j c k = tt
@@ -345,7 +345,7 @@ rests_becomes i j r t s e =
       stops = λ stopped could b is. absurd (no_other s.trigger.can could stopped);
     }
 
-rests_quiet : (i j : ℕ) (r : Rig) (t : ℕ) → IsQuiet j r → IsQuiet j (rests_to r t).rig
+rests_quiet : (i j : ℕ) (r : Rig) (t : ℕ) → HasNoTimeout j r → HasNoTimeout j (rests_to r t).rig
 rests_quiet i j r t quiet u is =
     let was = rested_from r.pins t (slot_at r j) u (sym (map_at (rested r.pins t) r.triggers j refl) ∙ is) in
     quiet_by i j was.0 r (rests_to r t).rig was.1 (rests_becomes i j r t was.0 was.1) quiet u is
@@ -360,7 +360,7 @@ rests_next i j r t = record {
 }
 
 -- a trigger that can't trigger and has no timeout only reports
-happened_stays : (e s report : Option ℕ) (levels : List Level) (until : ℕ) (t : Trigger) → trig.expiry_of until t ≡ e → trig.switch_of levels until t ≡ s → Stays t (trig.happened levels until (trig.earliest e s report) t).trigger
+happened_stays : (e s report : Option ℕ) (levels : List Level) (until : ℕ) (t : Trigger) → trig.expiry_of until t ≡ e → trig.switch_of levels until t ≡ s → Stays t (trig.happened levels until (trig.earliest_happening e s report) t).trigger
 happened_stays e s (Some tick) levels until t at on = stays_as t (record t { report = Some (tick + t.every) }) refl refl refl refl
 happened_stays e (Some tick) None levels until t at on =
     let is = was_switch levels (trig.or_until until (trig.expiry_of until t)) t.can t.sampling tick on in
@@ -381,18 +381,18 @@ happens_next i j r until oid None e = next_same i j r
 happens_next i j r until oid (Some s) e =
     becomes_next i j oid r s (trig.advanced (levels_of r s.pin) until s.trigger).trigger e (λ same. tells_stays s.trigger.untold (levels_of r s.pin) until s.trigger)
 
-goes_next : (i j : ℕ) (o : Option (ℕ × ℕ)) (r : Rig) (t : ℕ) (rest : Passed) → (Next i j (happens r t (at_of o)).rig rest.rig) → Next i j r (goes_on o (rests_to r t) (passes_by (happens r t (at_of o)) rest)).rig
+goes_next : (i j : ℕ) (o : Option (ℕ × ℕ)) (r : Rig) (t : ℕ) (rest : Passed) → (Next i j (happens_at r t (at_of o)).rig rest.rig) → Next i j r (goes_on o (rests_to r t) (passes_by (happens_at r t (at_of o)) rest)).rig
 goes_next i j None r t rest more = rests_next i j r t
 goes_next i j (Some at) r t rest more =
     let ran = (runs_to r (at.0 / 3)).rig in
-    next_then i j r (happens r t at).rig rest.rig
-    (next_then i j r (runs_to r (at.0 / 3)).rig (happens r t at).rig (runs_next i j r (at.0 / 3)) (happens_next i j (runs_to r (at.0 / 3)).rig t at.1 (slot_at (runs_to r (at.0 / 3)).rig at.1) refl)) more
+    next_then i j r (happens_at r t at).rig rest.rig
+    (next_then i j r (runs_to r (at.0 / 3)).rig (happens_at r t at).rig (runs_next i j r (at.0 / 3)) (happens_next i j (runs_to r (at.0 / 3)).rig t at.1 (slot_at (runs_to r (at.0 / 3)).rig at.1) refl)) more
 
 pub pass_next : (n i j : ℕ) (r : Rig) (t : ℕ) → Next i j r (pass n r t).rig
 pass_next zero i j r t = next_same i j r
 pass_next (suc n) i j r t =
-    goes_next i j (earliest r t 0 r.triggers) r t (pass n (happens r t (at_of (earliest r t 0 r.triggers))).rig t)
-    (pass_next n i j (happens r t (at_of (earliest r t 0 r.triggers))).rig t)
+    goes_next i j (earliest_moment r t 0 r.triggers) r t (pass n (happens_at r t (at_of (earliest_moment r t 0 r.triggers))).rig t)
+    (pass_next n i j (happens_at r t (at_of (earliest_moment r t 0 r.triggers))).rig t)
 
 pub passes_next : (i j : ℕ) (r : Rig) (t : ℕ) → Next i j r (passes r t).rig
 passes_next i j r t = elim (leb_tells r.controller.tick t) [ inl p ↦ rw p.0 (pass_next (all_left t r.triggers + 1) i j r t) | inr p ↦ rw p.0 (next_same i j r) ]

@@ -25,7 +25,7 @@ use Rattle.axis_homing.specs.declared.homing.Homing.{Homing}
 use Rattle.axis_homing.specs.Homing.{answer_in, goes_on_homing, hears_all, homing_after, homing_of, homing_with, members_from}
 use Rattle.axis_homing.specs.Rising.{members_of}
 use Rattle.host_reactor.specs.declared.ordered.Known.{Known}
-use Rattle.host_reactor.specs.Notes.{noted, told, told_all}
+use Rattle.host_reactor.specs.Notes.{noted, known_behind, told_all}
 use Rattle.host_reactor.specs.Reactor.{Reacted}
 use Rattle.host_reactor.specs.Runs.{Came, GoesOn, known_by}
 use Rattle.laws_board.specs.turns.Turns.{BoardTurn}
@@ -75,7 +75,7 @@ module _ (m : Machine) (switches : List Switch) (b start u : ℕ) (late : start 
       let ms = members_from m (axis_at m axis) moving 0 m.boards in
       begun_if (may_be (map unseen ms) turn last) section axis turn turn last ms
 
-  told_so : (r : Known) (n : NoteNews) → HeardSo r.homing → HeardSo (told m r n).homing
+  told_so : (r : Known) (n : NoteNews) → HeardSo r.homing → HeardSo (known_behind m r n).homing
   told_so r (news.Start section kind turn last moving) k = begun_so section kind turn last moving
   told_so r (news.Done section turn) k = k
   told_so r (news.Read x sections) k = k
@@ -83,7 +83,7 @@ module _ (m : Machine) (switches : List Switch) (b start u : ℕ) (late : start 
 
   all_told_so : (ns : List NoteNews) (r : Known) → HeardSo r.homing → HeardSo (told_all m ns r).homing
   all_told_so [] r k = k
-  all_told_so (n ∷ ns) r k = all_told_so ns (told m r n) (told_so r n k)
+  all_told_so (n ∷ ns) r k = all_told_so ns (known_behind m r n) (told_so r n k)
 
   pub noted_so : (note : Option Note) (r : Known) → HeardSo r.homing → HeardSo (noted m note r).homing
   noted_so None r k = k

@@ -10,7 +10,7 @@ use Rattle.wire_scene.specs.declared.scene.Entry.{Entry}
 use Rattle.wire_scene.specs.declared.scene.Switch.{Switch}
 use Rattle.link_work.specs.Stands.{first_state}
 use Rattle.link_work.specs.Turn.{LinkState, Orders}
-use Rattle.board_world.specs.World.{start}
+use Rattle.board_world.specs.World.{new_world}
 use Rattle.laws_board.specs.sections.Courses.{AllHeed, courses}
 use Rattle.laws_board.specs.sections.Events.{AreOwn}
 use Rattle.laws_board.specs.sections.Homes.{AreOrdersIn, AreSoon, BeginLeftOf, IsHomeBoard, IsHomeRun, IsSplitIn, RunSection, lost_at}
@@ -128,9 +128,9 @@ unfoldable pub home_board : (m : Machine) (switches : List Switch) (pins : List 
     (told : AreTold (clock_of (board_at m b)) 0 (orders_in turns) states (first_state (board_at m b) pins b entries) end) → IsValidMachine m → b < length m.boards
     → AreBoardTurns (clock_of (board_at m b)) (first_state (board_at m b) pins b entries) turns
     → AreOwn (board_at m b) (length turns) own → IsHomeRun own clocks (board_at m b).freq (board_at m b).slots ready stops ss (orders_in turns) → (split : IsSplitIn own stops (board_at m b).slots ss (orders_in turns))
-    → AllTimely (start (board_at m b) pins) (steps_of (clock_of (board_at m b)) 0 (orders_in turns) (first_state (board_at m b) pins b entries) end
+    → AllTimely (new_world (board_at m b) pins) (steps_of (clock_of (board_at m b)) 0 (orders_in turns) (first_state (board_at m b) pins b entries) end
     (turns_told (clock_of (board_at m b)) 0 (orders_in turns) states (first_state (board_at m b) pins b entries) end told))
-    → AllHeed split.front split.tail (start (board_at m b) pins) (steps_of (clock_of (board_at m b)) 0 (orders_in turns) (first_state (board_at m b) pins b entries) end
+    → AllHeed split.front split.tail (new_world (board_at m b) pins) (steps_of (clock_of (board_at m b)) 0 (orders_in turns) (first_state (board_at m b) pins b entries) end
     (turns_told (clock_of (board_at m b)) 0 (orders_in turns) states (first_state (board_at m b) pins b entries) end told))
     → AreToldIn m switches pins entries b stops ss turns
     → IsHomeBoard b entries ready (length turns) ss (record { board = board_at m b; pins = pins; clocks = clocks; sections = map (λ s. s.section) ss; orders = orders_in turns; states = states })

@@ -33,7 +33,7 @@ use Rattle.axis_homing.proofs.Rises.{homing-rises, started-rises}
 use Rattle.board_asking.specs.Machine.{trigger_of}
 use Rattle.host_reactor.specs.declared.ordered.Phase.TheVariants.{Connecting}
 use Rattle.host_reactor.specs.declared.ordered.Known.{Known}
-use Rattle.host_reactor.specs.Notes.{noted, told, told_all}
+use Rattle.host_reactor.specs.Notes.{noted, known_behind, told_all}
 use Rattle.host_reactor.specs.Reactor.{Reacted}
 use Rattle.host_reactor.specs.Runs.{Came, GoesOn, known_by, state_at}
 use Rattle.laws_board.specs.turns.Turns.{AreBoardTurns, BoardTurn, latest_state, stands_after}
@@ -43,7 +43,7 @@ use Rattle.laws_board.proofs.clocks.Made.{made_none, made_once}
 use Rattle.laws_board.proofs.clocks.Turning.{goes}
 use Rattle.laws_board.proofs.orders.Controlled.{few_on}
 use Rattle.laws_homing.specs.home_runs.Guards.{AreCalm}
-use Rattle.laws_homing.specs.home_runs.Sections.{HomesFrom, IsAnswered, IsMoved, IsOf, Moves, TakesSetUp, SetNoneFrom, queued_by}
+use Rattle.laws_homing.specs.home_runs.Sections.{HomesFrom, GroupAnswers, IsMoved, IsOf, Moves, TakesSetUp, SetNoneFrom, queued_in_turns}
 use Rattle.laws_homing.specs.home_runs.Stages.{no_stage, stage_from}
 use Rattle.laws_homing.specs.home_runs.Told.{IsMember, TellFiredFrom}
 use Rattle.laws_homing.specs.home_runs.Windows.{BringCalm, IsSetUp, TellFired}
@@ -63,7 +63,7 @@ BindsAt m switches pins entries b s q start ms =
 
 run_bound : (m : Machine) (switches : List Switch) (pins : List (List Level)) (entries : List Entry) (b : ℕ) (came : List Came) (turns : List BoardTurn) (s q from start : ℕ) (ms : List Member) → IsValidMachine m
     → IsInRun m switches pins entries b came turns → HomesFrom m switches from start ms came → SetNoneFrom (stepper_at m s).oid from turns → s < length m.steppers → (stepper_at m s).board ≡ b
-    → BindsAt m switches pins entries b s q start ms → from ≤ q → start ≤ q + 251 → q < length turns → IsWhole (stage_from (stepper_at m s).oid (trigger_of m b) no_stage (commands_of (queued_by turns)))
+    → BindsAt m switches pins entries b s q start ms → from ≤ q → start ≤ q + 251 → q < length turns → IsWhole (stage_from (stepper_at m s).oid (trigger_of m b) no_stage (commands_of (queued_in_turns turns)))
 unfolding BindsAt
 run_bound m switches pins entries b [] [] s q from start ms v r homes none l e binds early soon below = absurd (omega (arith, below))
 run_bound m switches pins entries b [] (t ∷ turns) s q from start ms v r homes none l e binds early soon below = absurd r.both
@@ -73,7 +73,7 @@ run_bound m switches pins entries b (c ∷ before) (t ∷ turns) s q from start 
     let j = trigger_of m b in
     let long = as_long m switches b before turns r.both.2 in
     let old = run_before m switches pins entries b c before t turns r in
-    let stage = stage_from i j no_stage (commands_of (queued_by turns)) in
+    let stage = stage_from i j no_stage (commands_of (queued_in_turns turns)) in
     let new = queued_in (orders t.control t.batch) in
     subst IsWhole (sym (stage_turn i j t turns)) (elim (leb_tells (suc q) (length turns)) [
       | inl p ↦
@@ -94,7 +94,7 @@ run_bound m switches pins entries b (c ∷ before) (t ∷ turns) s q from start 
 -- behind both rounds
 pub run_whole : (m : Machine) (switches : List Switch) (pins : List (List Level)) (entries : List Entry) (b : ℕ) (came : List Came) (turns : List BoardTurn) (s from start : ℕ) (ms : List Member) → IsValidMachine m
     → IsInRun m switches pins entries b came turns → HomesFrom m switches from start ms came → SetNoneFrom (stepper_at m s).oid from turns → s < length m.steppers → (stepper_at m s).board ≡ b
-    → BoardsRise ms → Moves b s ms → from + 251 ≡ start → start ≤ length turns + 249 → IsWhole (stage_from (stepper_at m s).oid (trigger_of m b) no_stage (commands_of (queued_by turns)))
+    → BoardsRise ms → Moves b s ms → from + 251 ≡ start → start ≤ length turns + 249 → IsWhole (stage_from (stepper_at m s).oid (trigger_of m b) no_stage (commands_of (queued_in_turns turns)))
 unfolding BindsAt
 run_whole m switches pins entries b came turns s from start ms v r homes none l e rise moves early soon = elim (which b s ms moves) [
   | inl first ↦ run_bound m switches pins entries b came turns s from from start ms v r homes none l e
@@ -143,19 +143,19 @@ turn_queued clock turn o l n t =
     ap (λ (h : Core). h.queued) steps.1 ∙ all_orders steps.0 l.core ∙ ap (λ (ms : List Meant). l.core.queued ++ ms) (steps.2 ∙ append-nil (queued_in o))
 
 pub all_queued : (b : BoardDef) (pins : List (List Level)) (board : ℕ) (entries : List Entry) (turns : List BoardTurn) → AreBoardTurns (clock_of b) (first_state b pins board entries) turns
-    → (stands_after (first_state b pins board entries) turns).core.queued ≡ queued_by turns
+    → (stands_after (first_state b pins board entries) turns).core.queued ≡ queued_in_turns turns
 all_queued b pins board entries [] are = refl
 all_queued b pins board entries (t ∷ before) are =
     let o = orders t.control t.batch in
     turn_queued (clock_of b) (length before) o (stands_after (first_state b pins board entries) before) t.after are.0.0 ∙ ap (λ (ms : List Meant). ms ++ queued_in o) (all_queued b pins board entries before are.1)
 
 -- and what of it behind some turns
-pub late_parts : (i j : ℕ) (late past : List BoardTurn) → (ms : List Meant) × (queued_by (late ++ past) ≡ queued_by past ++ ms) × (BringCalm i j late → AreCalm i j ms)
-late_parts i j [] past = ([], sym (append-nil (queued_by past)), λ b. tt)
+pub late_parts : (i j : ℕ) (late past : List BoardTurn) → (ms : List Meant) × (queued_in_turns (late ++ past) ≡ queued_in_turns past ++ ms) × (BringCalm i j late → AreCalm i j ms)
+late_parts i j [] past = ([], sym (append-nil (queued_in_turns past)), λ b. tt)
 late_parts i j (t ∷ late) past =
     let rest = late_parts i j late past in
     let new = queued_in (orders t.control t.batch) in
-    (rest.0 ++ new, ap (λ (l : List Meant). l ++ new) rest.1 ∙ append_assoc (queued_by past) rest.0 new, λ b. calm_both i j rest.0 new (rest.2 b.1) b.0)
+    (rest.0 ++ new, ap (λ (l : List Meant). l ++ new) rest.1 ∙ append_assoc (queued_in_turns past) rest.0 new, λ b. calm_both i j rest.0 new (rest.2 b.1) b.0)
 
 -- the object ids are small
 oid_small : (m : Machine) (switches : List Switch) (pins : List (List Level)) (entries : List Entry) (b : ℕ) (came : List Came) (turns : List BoardTurn) (s : ℕ) → IsValidMachine m → IsInRun m switches pins entries b came turns
@@ -193,7 +193,7 @@ told_within start (x ∷ window) past early (inr t) = inr (told_within start win
 set_up : (m : Machine) (switches : List Switch) (pins : List (List Level)) (entries : List Entry) (b : ℕ) (came : List Came) (late past : List BoardTurn) (s from start : ℕ) (ms : List Member) (more : List Meant) → IsValidMachine m
     → IsInRun m switches pins entries b came (late ++ past) → HomesFrom m switches from start ms came → SetNoneFrom (stepper_at m s).oid from (late ++ past) → s < length m.steppers → (stepper_at m s).board ≡ b
     → BoardsRise ms → Moves b s ms → from + 251 ≡ start → start ≤ length past + 249
-    → queued_by past ++ more ≡ (stands_after (first_state (board_at m b) pins b entries) (late ++ past)).core.taken → (stands_after (first_state (board_at m b) pins b entries) (late ++ past)).core.link.up ≡ []
+    → queued_in_turns past ++ more ≡ (stands_after (first_state (board_at m b) pins b entries) (late ++ past)).core.taken → (stands_after (first_state (board_at m b) pins b entries) (late ++ past)).core.link.up ≡ []
     → (stands_after (first_state (board_at m b) pins b entries) (late ++ past)).core.board.controller.state ≡ Running → IsSetUp (stepper_at m s).oid (trigger_of m b) (stands_after (first_state (board_at m b) pins b entries) (late ++ past)).core
 set_up m switches pins entries b came late past s from start ms more v r homes none l e rise moves early soon took quiet runs =
     let i = (stepper_at m s).oid in
@@ -209,12 +209,12 @@ set_up m switches pins entries b came late past s from start ms more v r homes n
     let parts = late_parts i j late past in
     let calm_late = run_calm m switches pins entries b came late past i j from start ms r homes none (omega (arith, early, soon)) (omega (arith, soon)) in
     let both : more ++ left ≡ parts.0 =
-    append_cancel_left (queued_by past) (more ++ left) parts.0
-    (sym (append_assoc (queued_by past) more left) ∙ ap (λ (x : List Meant). x ++ left) took ∙ rest ∙ all_queued d pins b entries (late ++ past) r.turns_are ∙ parts.1) in
+    append_cancel_left (queued_in_turns past) (more ++ left) parts.0
+    (sym (append_assoc (queued_in_turns past) more left) ∙ ap (λ (x : List Meant). x ++ left) took ∙ rest ∙ all_queued d pins b entries (late ++ past) r.turns_are ∙ parts.1) in
     let calm = calm_parts i j more left (subst (λ (x : List Meant). AreCalm i j x) (sym both) (parts.2 calm_late)) in
-    let stage_is : stage_from i j no_stage (commands_of h.taken) ≡ stage_from i j (stage_from i j no_stage (commands_of (queued_by past))) (commands_of more) =
-    ap (λ (x : List Meant). stage_from i j no_stage (commands_of x)) (sym took) ∙ ap (stage_from i j no_stage) (commands_both (queued_by past) more) ∙ stage_append i j no_stage (commands_of (queued_by past)) (commands_of more) in
-    let now : IsWhole (stage_from i j no_stage (commands_of h.taken)) = subst IsWhole (sym stage_is) (whole_on i j (stage_from i j no_stage (commands_of (queued_by past))) (commands_of more) (calm_each i j more calm.0) whole) in
+    let stage_is : stage_from i j no_stage (commands_of h.taken) ≡ stage_from i j (stage_from i j no_stage (commands_of (queued_in_turns past))) (commands_of more) =
+    ap (λ (x : List Meant). stage_from i j no_stage (commands_of x)) (sym took) ∙ ap (stage_from i j no_stage) (commands_both (queued_in_turns past) more) ∙ stage_append i j no_stage (commands_of (queued_in_turns past)) (commands_of more) in
+    let now : IsWhole (stage_from i j no_stage (commands_of h.taken)) = subst IsWhole (sym stage_is) (whole_on i j (stage_from i j no_stage (commands_of (queued_in_turns past))) (commands_of more) (calm_each i j more calm.0) whole) in
     let small = small_by m switches pins entries b old.came past s from start ms v old.run old.homes (omega (arith, early, soon)) l e in
     let few : j < 256 = let q = v.steppers_few in omega (arith, few_on b m.steppers, q) in
     let staged = (staged_after d pins b entries (late ++ past) i j small few r.turns_are).staged runs in
@@ -232,7 +232,7 @@ pub members_halt : (m : Machine) (switches : List Switch) (pins : List (List Lev
     → answer_in (length before) h.start (hears_all (noted m c.note (known_by m switches before)).clocks c.states h).group ≡ Some e
     → from + 251 ≡ h.start → HomesFrom m switches from h.start (members_of h.group) before → BoardsRise (members_of h.group) → Moves b s (members_of h.group) → s < length m.steppers → (stepper_at m s).board ≡ b
     → SetNoneFrom (stepper_at m s).oid from (window ++ (late ++ past)) → h.start ≤ length past + 249 → length (late ++ past) + 1 ≤ h.start
-    → queued_by past ++ more ≡ (stands_after (first_state (board_at m b) pins b entries) (late ++ past)).core.taken → (stands_after (first_state (board_at m b) pins b entries) (late ++ past)).core.link.up ≡ []
+    → queued_in_turns past ++ more ≡ (stands_after (first_state (board_at m b) pins b entries) (late ++ past)).core.taken → (stands_after (first_state (board_at m b) pins b entries) (late ++ past)).core.link.up ≡ []
     → (stands_after (first_state (board_at m b) pins b entries) (window ++ (late ++ past))).core.board.controller.state ≡ Running
     → IsHalted (board.stepper_at (stands_after (first_state (board_at m b) pins b entries) (window ++ (late ++ past))).core.board.controller (stepper_at m s).oid)
 members_halt m switches pins entries b c before window late past h e s from more v r at is ends early homes rise moves l on none soon heard took quiet runs =
@@ -260,7 +260,7 @@ members_halt m switches pins entries b c before window late past h e s from more
     moves_among n k (x ∷ xs) (inr q) = inr (moves_among n k xs q)
 
 -- the members of a section stand in the order of their boards
-told_rises : (m : Machine) (r : Known) (n : NoteNews) → HomingRises r.homing → HomingRises (told m r n).homing
+told_rises : (m : Machine) (r : Known) (n : NoteNews) → HomingRises r.homing → HomingRises (known_behind m r n).homing
 told_rises m r (news.Start section kind turn last moving) h = started-rises m section kind turn last moving
 told_rises m r (news.Done section turn) h = h
 told_rises m r (news.Read x sections) h = h
@@ -268,7 +268,7 @@ told_rises m r (news.Line board line from) h = h
 
 all_rise : (m : Machine) (ns : List NoteNews) (r : Known) → HomingRises r.homing → HomingRises (told_all m ns r).homing
 all_rise m [] r h = h
-all_rise m (n ∷ ns) r h = all_rise m ns (told m r n) (told_rises m r n h)
+all_rise m (n ∷ ns) r h = all_rise m ns (known_behind m r n) (told_rises m r n h)
 
 pub noted_rises : (m : Machine) (note : Option Note) (r : Known) → HomingRises r.homing → HomingRises (noted m note r).homing
 noted_rises m None r h = h
@@ -296,7 +296,7 @@ none_later i from to [] l h = tt
 none_later i from to (t ∷ turns) l h = (λ k. h.0 (omega (arith, k, l)), none_later i from to turns l h.1)
 
 pub answered_halt : (m : Machine) (switches : List Switch) (pins : List (List Level)) (entries : List Entry) (b : ℕ) (c : Came) (before : List Came) (turns : List BoardTurn) (h : Homing) (s : ℕ) → IsValidMachine m
-    → IsInRun m switches pins entries b before turns → state_at b c.states ≡ latest_state turns → IsAnswered m switches c before h → IsMoved m b h turns s → TakesSetUp (first_state (board_at m b) pins b entries) h.start turns
+    → IsInRun m switches pins entries b before turns → state_at b c.states ≡ latest_state turns → GroupAnswers m switches c before h → IsMoved m b h turns s → TakesSetUp (first_state (board_at m b) pins b entries) h.start turns
     → (stands_after (first_state (board_at m b) pins b entries) turns).core.board.controller.state ≡ Running
     → IsHalted (board.stepper_at (stands_after (first_state (board_at m b) pins b entries) turns).core.board.controller (stepper_at m s).oid)
 answered_halt m switches pins entries b c before turns h s v r at a moved took runs =

@@ -18,7 +18,7 @@ use Rattle.trigger_group.specs.declared.order.End.TheVariants as end
 use Rattle.trigger_group.specs.declared.order.Member.{Member}
 use Rattle.trigger_group.specs.declared.round.Phase.TheVariants.{Goes, Rests, Sends}
 use Rattle.trigger_group.specs.declared.round.Phase.{Phase as GroupPhase}
-use Rattle.trigger_group.specs.Group.{GroupState, after, after_in, all_fired, phase}
+use Rattle.trigger_group.specs.Group.{GroupState, turned_group, after_in, all_fired, phase}
 use Rattle.axis_homing.specs.declared.homing.Homing.{Homing}
 use Rattle.axis_homing.specs.declared.homing.HomingTurn.{HomingTurn}
 use Rattle.axis_homing.specs.Homing.{answer_in, by_answer, goes_on_homing, hears_all, homing_after, homing_turn}
@@ -29,11 +29,11 @@ use Rattle.board_asking.specs.Drift.{new_line, new_lines, stale}
 use Rattle.host_reactor.specs.declared.ordered.Known.{Known}
 use Rattle.host_reactor.specs.declared.ordered.Phase.{Phase}
 use Rattle.host_reactor.specs.declared.ordered.Phase.TheVariants.{Connecting, Running, Stopping}
-use Rattle.host_reactor.specs.Notes.{is_out, news_of, noted, told, told_all}
+use Rattle.host_reactor.specs.Notes.{is_out, news_of, noted, known_behind, told_all}
 use Rattle.host_reactor.specs.Report.{first_lines}
 use Rattle.host_reactor.specs.Running.{first_cause}
 use Rattle.host_reactor.specs.Reactor.{Reacted, after_homing, by_phase, cut_line, homed, phase_after, reacts, unless_ended, unless_homing_ends, unless_stale}
-use Rattle.host_reactor.specs.Runs.{Came, GoesOn, known_by, last_turn}
+use Rattle.host_reactor.specs.Runs.{Came, GoesOn, known_by, last_reacted}
 use Rattle.laws_board.proofs.clocks.Controls.{states_start}
 use Rattle.laws_board.proofs.clocks.Lines.{noted_phase}
 use Rattle.laws_board.proofs.clocks.Turning.{Goes as Going, RunsOn, goes}
@@ -121,7 +121,7 @@ switch_answer k tick h (Some (end.Expired b turn)) c = cc
 
 -- what a turn of a run that goes on makes of a homing section
 abbrev Word : Machine → List Switch → Came → List Came → List WordNews
-Word m switches c before = (last_turn m switches c before).ordered.word.news
+Word m switches c before = (last_reacted m switches c before).ordered.word.news
 
 words_are : (m : Machine) (r : Known) (k : ℕ) (states : List State) (x : Reacted) (g : RunsOn m r k states x) → x.ordered.word.news ≡ homed (homing_turn r.clocks k states r.homing).cut ++ new_lines m 0 r.askings.items (listen_all r.askings.items states)
 words_are m r k states x g = ap (λ (y : Reacted). y.ordered.word.news) g.is
@@ -149,7 +149,7 @@ not_connecting None e = cc
 not_connecting (Some line) e = cc
 
 -- the note
-told_none : (m : Machine) (r : Known) (n : NoteNews) → BeginsNone (n ∷ []) → (told m r n).homing ≡ r.homing
+told_none : (m : Machine) (r : Known) (n : NoteNews) → BeginsNone (n ∷ []) → (known_behind m r n).homing ≡ r.homing
 told_none m r (news.Start section kind turn last moving) b = absurd b
 told_none m r (news.Done section turn) b = refl
 told_none m r (news.Read x sections) b = refl
@@ -163,7 +163,7 @@ first_none (news.Line board line from) ns b = (tt, b)
 
 pub all_none : (m : Machine) (ns : List NoteNews) (r : Known) → BeginsNone ns → (told_all m ns r).homing ≡ r.homing
 all_none m [] r b = refl
-all_none m (n ∷ ns) r b = let both = first_none n ns b in all_none m ns (told m r n) both.1 ∙ told_none m r n both.0
+all_none m (n ∷ ns) r b = let both = first_none n ns b in all_none m ns (known_behind m r n) both.1 ∙ told_none m r n both.0
 
 pub noted_none : (m : Machine) (note : Option Note) (r : Known) → BeginsNone (news_of note) → (noted m note r).homing ≡ r.homing
 noted_none m None r b = refl
@@ -194,13 +194,13 @@ record IsKnown (m : Machine) (switches : List Switch) (start : ℕ) (ms : List M
   past : (known_by m switches came).phase ≡ Connecting → ⊥
   of : IsOf start ms (known_by m switches came).homing
 
-after_known : (m : Machine) (switches : List Switch) (start : ℕ) (ms : List Member) (c : Came) (before : List Came) → (last_turn m switches c before).ordered.end ≡ None → ((known_by m switches before).phase ≡ Connecting → ⊥)
+after_known : (m : Machine) (switches : List Switch) (start : ℕ) (ms : List Member) (c : Came) (before : List Came) → (last_reacted m switches c before).ordered.end ≡ None → ((known_by m switches before).phase ≡ Connecting → ⊥)
     → IsOf start ms (noted m c.note (known_by m switches before)).homing → (TellsHomed (Word m switches c before) → ⊥) → IsKnown m switches start ms (c ∷ before)
 after_known m switches start ms c before end_is n of none =
     let known = known_by m switches before in
     let now = noted m c.note known in
     let k = length before in
-    let x = last_turn m switches c before in
+    let x = last_reacted m switches c before in
     let past : now.phase ≡ Connecting → ⊥ = λ e. n (sym (noted_phase m c.note known) ∙ e) in
     let g = running_now m now k c.states x (goes m switches known k c.states c.note end_is) past in
     let cut = none_cut m now k c.states x g none in
@@ -229,14 +229,14 @@ pub homing_known : (m : Machine) (switches : List Switch) (from start : ℕ) (ms
 homing_known m switches from start ms came g b = (known_on m switches from start ms came g b).0
 
 pub word_answers : (m : Machine) (switches : List Switch) (from start : ℕ) (ms : List Member) (c : Came) (before : List Came) → GoesOn m switches (c ∷ before) → IsBegunIn m switches from start ms before → from < length before → BeginsNone (news_of c.note)
-    → TellsHomed (last_turn m switches c before).ordered.word.news
+    → TellsHomed (last_reacted m switches c before).ordered.word.news
     → (h : Homing) × (tick : ℕ) × ((noted m c.note (known_by m switches before)).homing ≡ Some h) × (h.start ≡ start) × (members_of h.group ≡ ms)
     × (answer_in (length before) h.start (hears_all (noted m c.note (known_by m switches before)).clocks c.states h).group ≡ Some (end.Endstop tick))
 word_answers m switches from start ms c before g b later none told_homed =
     let known = known_by m switches before in
     let now = noted m c.note known in
     let k = length before in
-    let x = last_turn m switches c before in
+    let x = last_reacted m switches c before in
     let at = (known_on m switches from start ms before g.1 b).1 later in
     let of : IsOf start ms now.homing = subst (λ (o : Option Homing). IsOf start ms o) (sym (noted_none m c.note known none)) at.of in
     let past : now.phase ≡ Connecting → ⊥ = λ e. at.past (sym (noted_phase m c.note known) ∙ e) in

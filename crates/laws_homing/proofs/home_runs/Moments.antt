@@ -17,8 +17,8 @@ use Rattle.board_trig.proofs.Nexts.{is_next}
 use Rattle.msg_code.specs.declared.cmd.Cmd.{Cmd}
 use Rattle.msg_code.specs.declared.cmd.Cmd.TheVariants as cmd
 use Rattle.msg_code.specs.Units.{bit}
-use Rattle.board_sim.specs.Rig.{Passed, Rig, Slot, acts_running, all_left, at_of, becomes, earliest, goes_on, happens, happens_to, make_trigger, pass, passes_by, rested, rests_to, runs_to, slot_at, takes, told}
-use Rattle.board_sim.specs.RigRuns.{AllSound, IsSound}
+use Rattle.board_sim.specs.Rig.{Passed, Rig, Slot, acts_running, all_left, at_of, becomes, earliest_moment, goes_on, happens_at, happens_to, make_trigger, pass, passes_by, rested, rests_to, runs_to, slot_at, takes, trigger_answers}
+use Rattle.board_sim.specs.RigRuns.{AllSound, IsSoundTrigger}
 use Rattle.board_sim.proofs.Bound.{map_at, one_slot, same_or_not, set_other, slot_range}
 use Rattle.board_sim.proofs.Halting.{quiet_moves, quiet_switch}
 use Rattle.board_sim.proofs.Passing.{finishes}
@@ -108,7 +108,7 @@ SaidThen oid low until pins s o x = (o ≡ oid) × (low ≤ x) × (x < until) ×
 happened_says : (oid low until : ℕ) (pins : List (List Level)) (e : Happening) (s : Slot)
     → IsNextOf (slice_index_or pins s.pin []) until s.trigger e → IsLate 0 low pins s
     → Each (IsMoment (SaidThen oid low until pins (then_of s pins until e)))
-    (told oid (trig.happened (slice_index_or pins s.pin []) until e s.trigger).event)
+    (trigger_answers oid (trig.happened (slice_index_or pins s.pin []) until e s.trigger).event)
 happened_says oid low until pins Nothing s next k = tt
 happened_says oid low until pins (Expires at) s next k = ((λ no. absurd (no refl)), tt)
 happened_says oid low until pins (Switches at) s next k = ((λ no. absurd (no refl)), tt)
@@ -136,16 +136,16 @@ told_late : (o : Option ℕ) (x low until : ℕ) (pins : List (List Level)) (s :
     → IsLate x low pins (record s { trigger = (trig.tells o (slice_index_or pins s.pin []) until s.trigger).trigger })
 told_late None x low until pins s e k =
     let levels = slice_index_or pins s.pin [] in
-    happened_late x low until pins (trig.next levels until s.trigger) s (is_next levels until s.trigger k.moves) k
+    happened_late x low until pins (trig.next_happening levels until s.trigger) s (is_next levels until s.trigger k.moves) k
 told_late (Some n) x low until pins s e k = absurd (let bad : None ≡ Some n = sym k.told ∙ e in cc)
 
 told_says : (o : Option ℕ) (oid low until : ℕ) (pins : List (List Level)) (s : Slot) → s.trigger.untold ≡ o
     → IsLate 0 low pins s
     → Each (IsMoment (SaidThen oid low until pins (record s { trigger = (trig.tells o (slice_index_or pins s.pin []) until s.trigger).trigger })))
-    (told oid (trig.tells o (slice_index_or pins s.pin []) until s.trigger).event)
+    (trigger_answers oid (trig.tells o (slice_index_or pins s.pin []) until s.trigger).event)
 told_says None oid low until pins s e k =
     let levels = slice_index_or pins s.pin [] in
-    happened_says oid low until pins (trig.next levels until s.trigger) s (is_next levels until s.trigger k.moves) k
+    happened_says oid low until pins (trig.next_happening levels until s.trigger) s (is_next levels until s.trigger k.moves) k
 told_says (Some n) oid low until pins s e k = absurd (let bad : None ≡ Some n = sym k.told ∙ e in cc)
 
 -- the trigger at an id; and all of a board
@@ -193,7 +193,7 @@ happens_says low until k r (Some s) e all =
     let next = next_of s r.pins until in
     let q = becomes r k s (trig.advanced (slice_index_or r.pins s.pin []) until s.trigger).trigger in
     let Then : ℕ → ℕ → Type 0 = λ o x. (low ≤ x) × (x < until) × LateAt o x low q in
-    moments_more (SaidThen k low until r.pins next) Then (told k (trig.advanced (slice_index_or r.pins s.pin []) until s.trigger).event)
+    moments_more (SaidThen k low until r.pins next) Then (trigger_answers k (trig.advanced (slice_index_or r.pins s.pin []) until s.trigger).event)
     (λ o x y. (
       y.1,
       y.2,
@@ -230,9 +230,9 @@ goes_by P (Some at) x y k l = l
 pass_late : (n o x low t : ℕ) (r : Rig) → LateAt o x low r → LateAt o x low (pass n r t).rig
 pass_late zero o x low t r h = h
 pass_late (suc n) o x low t r h =
-    let next = earliest r t 0 r.triggers in
+    let next = earliest_moment r t 0 r.triggers in
     let ran = (runs_to r ((at_of next).0 / 3)).rig in
-    let first = happens r t (at_of next) in
+    let first = happens_at r t (at_of next) in
     let on : LateAt o x low ran = record { slot = h.slot; is = h.is; late = h.late } in
     goes_by (λ (p : Passed). LateAt o x low p.rig) next (rests_to r t) (passes_by first (pass n first.rig t)) (rests_late o x low t r h)
     (pass_late n o x low t first.rig (happens_late o x low t (at_of next).1 ran (slot_at ran (at_of next).1) refl on))
@@ -241,10 +241,10 @@ pub pass_says : (n low t : ℕ) (r : Rig) → AllLate low r
     → Each (IsMoment (λ o x. (low ≤ x) × (x < t) × LateAt o x low (pass n r t).rig)) (pass n r t).answers
 pass_says zero low t r all = tt
 pass_says (suc n) low t r all =
-    let next = earliest r t 0 r.triggers in
+    let next = earliest_moment r t 0 r.triggers in
     let at = (at_of next).1 in
     let ran = (runs_to r ((at_of next).0 / 3)).rig in
-    let first = happens r t (at_of next) in
+    let first = happens_at r t (at_of next) in
     let rest = pass n first.rig t in
     let Then : Rig → ℕ → ℕ → Type 0 = λ q o x. (low ≤ x) × (x < t) × LateAt o x low q in
     let now = moments_more (Then first.rig) (Then rest.rig) first.answers (λ o x y. (y.0, y.1, pass_late n o x low t first.rig y.2)) (happens_says low t at ran (slot_at ran at) refl all) in
@@ -338,7 +338,7 @@ takes_could o x r (cmd.ConfigTrsync oid) k =
 takes_could o x r c k = could_by o x r c r.controller.state (λ m. absurd m) (all_tick r (c ∷ [])) k
 
 -- over time
-late_of : (x low now : ℕ) (pins : List (List Level)) (s : Slot) → IsSound now pins s → x ≤ now → Since x s.trigger
+late_of : (x low now : ℕ) (pins : List (List Level)) (s : Slot) → IsSoundTrigger now pins s → x ≤ now → Since x s.trigger
     → DueFrom low s.trigger → IsLate x low pins s
 late_of x low now pins s k l since due = record {
   told = k.told;
@@ -378,9 +378,9 @@ pass_back : (n t oid : ℕ) (r : Rig) (u : Slot) → slot_at (pass n r t).rig oi
     → (s : Slot) × (slot_at r oid ≡ Some s)
 pass_back zero t oid r u at = (u, at)
 pass_back (suc n) t oid r u at =
-    let next = earliest r t 0 r.triggers in
+    let next = earliest_moment r t 0 r.triggers in
     let ran = (runs_to r ((at_of next).0 / 3)).rig in
-    let first = happens r t (at_of next) in
+    let first = happens_at r t (at_of next) in
     goes_by (λ (p : Passed). slot_at p.rig oid ≡ Some u → (s : Slot) × (slot_at r oid ≡ Some s)) next (rests_to r t) (passes_by first (pass n first.rig t))
     (λ is. let x = rested_is r.pins t (slot_at r oid) u (sym (map_at (rested r.pins t) r.triggers oid refl) ∙ is) in (x.0, x.1))
     (λ is. let x = pass_back n t oid first.rig u is in happens_back t (at_of next).1 oid ran (slot_at ran (at_of next).1) x.0 refl x.1) at

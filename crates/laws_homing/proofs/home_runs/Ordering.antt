@@ -29,7 +29,7 @@ use Rattle.trigger_group.specs.declared.round.Phase.TheVariants.{Sends}
 use Rattle.trigger_group.specs.declared.round.Round.{Round}
 use Rattle.trigger_group.specs.declared.round.Round.TheVariants.{Homes, Resets, Starts}
 use Rattle.trigger_group.specs.declared.seen.Seen.{Seen}
-use Rattle.trigger_group.specs.Group.{bits, first_timeout, orders_in, orders_to, phase, reset, round_of, steppers, stop, to_board, unseen}
+use Rattle.trigger_group.specs.Group.{bits, first_timeout, orders_of_group, orders_to, phase, reset, round_of, steppers, stop, to_board, unseen}
 use Rattle.trigger_group.specs.Kept.{BoardsRise}
 use Rattle.axis_homing.specs.declared.homing.Homing.{Homing}
 use Rattle.axis_homing.specs.Homing.{by_answer, commands_to, hears_all, homing_turn, order_command}
@@ -41,7 +41,7 @@ use Rattle.host_reactor.specs.declared.ordered.Known.{Known}
 use Rattle.host_reactor.specs.declared.ordered.Phase.TheVariants.{Connecting}
 use Rattle.host_reactor.specs.Notes.{noted}
 use Rattle.host_reactor.specs.Reactor.{Reacted, homing_commands, stop_command, stops}
-use Rattle.host_reactor.specs.Runs.{Came, known_by, last_turn}
+use Rattle.host_reactor.specs.Runs.{Came, known_by, last_reacted}
 use Rattle.laws_board.specs.turns.Turns.{BoardTurn, stands_after}
 use Rattle.laws_board.specs.clocks.Runs.{IsInRun}
 use Rattle.laws_board.specs.clocks.Samples.{IsAmong}
@@ -50,9 +50,9 @@ use Rattle.laws_board.proofs.clocks.Links.{among_both}
 use Rattle.laws_board.proofs.clocks.Lines.{as_long, noted_phase, run_before, turn_of}
 use Rattle.laws_board.proofs.clocks.Turning.{Asks, BoardTurned, Ends, Runs}
 use Rattle.laws_homing.specs.home_runs.Guards.{AreCalm, IsCalm}
-use Rattle.laws_homing.specs.home_runs.Sections.{HomesFrom, IsOf, Moves, SetNone, SetNoneFrom, queued_by}
+use Rattle.laws_homing.specs.home_runs.Sections.{HomesFrom, IsOf, Moves, SetNone, SetNoneFrom, queued_in_turns}
 use Rattle.laws_homing.specs.home_runs.Settled.{SendNoneIn, SetNoClockFrom}
-use Rattle.laws_homing.specs.home_runs.SetUps.{AreInOrder, IsInOrder, far_by}
+use Rattle.laws_homing.specs.home_runs.SetUps.{AreSetUpInOrder, IsInOrder, far_by}
 use Rattle.laws_homing.proofs.home_runs.Controlling.{connecting_not, not_yet, phase_homes, phase_starts, turn_calm}
 use Rattle.laws_homing.proofs.home_runs.Grouped.{members_states}
 use Rattle.laws_homing.proofs.home_runs.Joining.{all_queued, known_rises, noted_rises}
@@ -69,22 +69,22 @@ far_all i j far (c ∷ cs) = far_all i j (far_by i j far c) cs
 
 -- some commands that come in order, and bring it so far
 record Goes (i j : ℕ) (P : ℕ → Type 0) (far : ℕ) (cs : List Cmd) : Type 0 where
-  order : AreInOrder i j far cs
+  order : AreSetUpInOrder i j far cs
   far_is : P (far_all i j far cs)
 
 far_both : (i j far : ℕ) (xs ys : List Cmd) → far_all i j far (xs ++ ys) ≡ far_all i j (far_all i j far xs) ys
 far_both i j far [] ys = refl
 far_both i j far (x ∷ xs) ys = far_both i j (far_by i j far x) xs ys
 
-order_both : (i j far : ℕ) (xs ys : List Cmd) → AreInOrder i j far xs → AreInOrder i j (far_all i j far xs) ys → AreInOrder i j far (xs ++ ys)
+order_both : (i j far : ℕ) (xs ys : List Cmd) → AreSetUpInOrder i j far xs → AreSetUpInOrder i j (far_all i j far xs) ys → AreSetUpInOrder i j far (xs ++ ys)
 order_both i j far [] ys a b = b
 order_both i j far (x ∷ xs) ys a b = (a.0, order_both i j (far_by i j far x) xs ys a.1 b)
 
-pub order_front : (i j far : ℕ) (xs ys : List Cmd) → AreInOrder i j far (xs ++ ys) → AreInOrder i j far xs
+pub order_front : (i j far : ℕ) (xs ys : List Cmd) → AreSetUpInOrder i j far (xs ++ ys) → AreSetUpInOrder i j far xs
 order_front i j far [] ys a = tt
 order_front i j far (x ∷ xs) ys a = (a.0, order_front i j (far_by i j far x) xs ys a.1)
 
-pub order_rest : (i j far : ℕ) (xs ys : List Cmd) → AreInOrder i j far (xs ++ ys) → AreInOrder i j (far_all i j far xs) ys
+pub order_rest : (i j far : ℕ) (xs ys : List Cmd) → AreSetUpInOrder i j far (xs ++ ys) → AreSetUpInOrder i j (far_all i j far xs) ys
 order_rest i j far [] ys a = a
 order_rest i j far (x ∷ xs) ys a = order_rest i j (far_by i j far x) xs ys a.1
 
@@ -381,7 +381,7 @@ home_goes m all states own b k s h ms round P far start of early rise moves is g
     let on = on_board b s g.group.members (subst BoardsRise (sym members) rise) (subst (λ (l : List Member). Moves b s l) (sym members) moves) in
     let begun = of.0 in
     let By : Option End → Type 0 = λ o. Goes i j P far (homing_commands m (by_answer k g o) own b) in
-    let In : Phase → Type 0 = λ p. Goes i j P far (commands_to m own b g.start (axis_at m g.axis) (orders_in p g.group k)) in
+    let In : Phase → Type 0 = λ p. Goes i j P far (commands_to m own b g.start (axis_at m g.axis) (orders_of_group p g.group k)) in
     let phase_is : phase g.group.start g.group.last k ≡ Sends (round g.group.last) = ap (λ (n : ℕ). phase n g.group.last k) begin ∙ is g.group.last in
     subst By (sym (not_yet k g.start g.group (omega (arith, early, begun))))
     (subst In (sym phase_is)
@@ -422,7 +422,7 @@ turn_goes P far m switches pins entries b s c before t turns start ms r n of goe
     let x = turn_of m switches pins entries b c before t turns r in
     let known = known_by m switches before in
     let now = noted m c.note known in
-    control_goes P far m b s c now (length before) start ms x.a (last_turn m switches c before) t now.homing refl of (connecting_not now known (noted_phase m c.note known) n) x.turned goes
+    control_goes P far m b s c now (length before) start ms x.a (last_reacted m switches c before) t now.homing refl of (connecting_not now known (noted_phase m c.note known) n) x.turned goes
 
 -- a turn of a section
 which_turn : (d : ℕ) → (d ≡ 0) ⊎ ((d ≡ 1) ⊎ ((d ≡ 2) ⊎ ((d ≡ 3) ⊎ ((d ≡ 4) ⊎ (5 ≤ d)))))
@@ -544,7 +544,7 @@ rise_of start ms (Some h) of rise = subst BoardsRise of.2 rise
 -- what was queued in some turns of a section comes in order
 record QueuedSo (i j : ℕ) (P : ℕ → Type 0) (later early : List BoardTurn) : Type 0 where
   new : List Meant
-  is : queued_by (later ++ early) ≡ queued_by early ++ new
+  is : queued_in_turns (later ++ early) ≡ queued_in_turns early ++ new
   goes : Goes i j P 0 (commands_of new)
 
 long_both : (later early : List BoardTurn) → length (later ++ early) ≡ length later + length early
@@ -554,7 +554,7 @@ queued_so : (m : Machine) (switches : List Switch) (pins : List (List Level)) (e
     → IsInRun m switches pins entries b came (later ++ early) → HomesFrom m switches from start ms came → from + 254 ≡ start → Moves b s ms → SetNoneFrom (stepper_at m s).oid from (later ++ early) → SendNoneIn from (from + 4) (later ++ early)
     → length early ≡ from → QueuedSo (stepper_at m s).oid (trigger_of m b) (IsFar s (movers_of b ms) (length later)) later early
 queued_so m switches pins entries b s came [] early from start ms r homes at moves sets sends long =
-    record { new = []; is = sym (append-nil (queued_by early)); goes = record { order = tt; far_is = (λ l. (omega arith, λ is. absurd is), λ e. absurd (omega (arith, e)), λ l. absurd (omega (arith, l))) } }
+    record { new = []; is = sym (append-nil (queued_in_turns early)); goes = record { order = tt; far_is = (λ l. (omega arith, λ is. absurd is), λ e. absurd (omega (arith, e)), λ l. absurd (omega (arith, l))) } }
 queued_so m switches pins entries b s [] (t ∷ later) early from start ms r homes at moves sets sends long = absurd r.both
 queued_so m switches pins entries b s (c ∷ before) (t ∷ later) early from start ms r homes at moves sets sends long =
     let i = (stepper_at m s).oid in
@@ -577,7 +577,7 @@ queued_so m switches pins entries b s (c ∷ before) (t ∷ later) early from st
     let next : length later + 1 ≡ suc (length later) = omega arith in
     record {
       new = past.new ++ new;
-      is = ap (λ (l : List Meant). l ++ new) past.is ∙ append_assoc (queued_by early) past.new new;
+      is = ap (λ (l : List Meant). l ++ new) past.is ∙ append_assoc (queued_in_turns early) past.new new;
       goes = subst (λ (l : List Cmd). Goes i j (IsFar s (movers_of b ms) (suc (length later))) 0 l) (sym (meant_both past.new new))
           (subst (λ (n : ℕ). Goes i j (IsFar s (movers_of b ms) n) 0 (commands_of past.new ++ commands_of new)) next (goes_both i j P Q 0 (commands_of past.new) (commands_of new) past.goes one));
     }
@@ -585,7 +585,7 @@ queued_so m switches pins entries b s (c ∷ before) (t ∷ later) early from st
 -- and what was taken of it
 pub taken_in_order : (m : Machine) (switches : List Switch) (pins : List (List Level)) (entries : List Entry) (b s : ℕ) (came : List Came) (later early : List BoardTurn) (from start : ℕ) (ms : List Member) (own : List Meant)
     → IsInRun m switches pins entries b came (later ++ early) → HomesFrom m switches from start ms came → from + 254 ≡ start → Moves b s ms → SetNoClockFrom from (later ++ early) → SendNoneIn from (from + 4) (later ++ early)
-    → length early ≡ from → (stands_after (first_state (board_at m b) pins b entries) (later ++ early)).core.taken ≡ queued_by early ++ own → AreInOrder (stepper_at m s).oid (trigger_of m b) 0 (commands_of own)
+    → length early ≡ from → (stands_after (first_state (board_at m b) pins b entries) (later ++ early)).core.taken ≡ queued_in_turns early ++ own → AreSetUpInOrder (stepper_at m s).oid (trigger_of m b) 0 (commands_of own)
 taken_in_order m switches pins entries b s came later early from start ms own r homes at moves sets sends long took =
     let i = (stepper_at m s).oid in
     let j = trigger_of m b in
@@ -597,7 +597,7 @@ taken_in_order m switches pins entries b s came later early from start ms own r 
     let left = drop (length h.link.taken) h.queued in
     let rest : h.taken ++ left ≡ h.queued = ap (λ (x : List Meant). x ++ left) o.first ∙ take-append-drop (length h.link.taken) h.queued in
     let both : own ++ left ≡ all.new =
-    append_cancel_left (queued_by early) (own ++ left) all.new
-    (sym (append_assoc (queued_by early) own left) ∙ ap (λ (x : List Meant). x ++ left) (sym took) ∙ rest ∙ all_queued d pins b entries turns r.turns_are ∙ all.is) in
+    append_cancel_left (queued_in_turns early) (own ++ left) all.new
+    (sym (append_assoc (queued_in_turns early) own left) ∙ ap (λ (x : List Meant). x ++ left) (sym took) ∙ rest ∙ all_queued d pins b entries turns r.turns_are ∙ all.is) in
     order_front i j 0 (commands_of own) (commands_of left)
-    (subst (λ (l : List Cmd). AreInOrder i j 0 l) (meant_both own left) (subst (λ (l : List Meant). AreInOrder i j 0 (commands_of l)) (sym both) all.goes.order))
+    (subst (λ (l : List Cmd). AreSetUpInOrder i j 0 l) (meant_both own left) (subst (λ (l : List Meant). AreSetUpInOrder i j 0 (commands_of l)) (sym both) all.goes.order))

@@ -27,7 +27,7 @@ use Rattle.board_sim.proofs.Sound.{passes_sound, sound_regular, takes_sound}
 use Rattle.board_world.specs.declared.event.Event.{Event}
 use Rattle.board_world.specs.declared.event.Event.TheVariants as event
 use Rattle.board_world.specs.Stands.{IsAnswer}
-use Rattle.board_world.specs.World.{Core, Deed, Do, Step, Turn, after, does, happens, obeys, run, runs, shut_before, takes_in, text_of}
+use Rattle.board_world.specs.World.{Core, Deed, Do, Step, Turn, world_after, does, after_event, obeys, run_world, board_runs, shut_before, takes_in, wire_text}
 use Rattle.link_work.specs.Stands.{first_state, orders}
 use Rattle.link_work.specs.Told.{AreNews, before_replies, news_of}
 use Rattle.link_work.specs.Turn.{LinkState, come}
@@ -38,7 +38,7 @@ use Rattle.laws_board.proofs.clocks.Replies.{AllUp, up_by, up_come, up_more}
 use Rattle.laws_board.proofs.clocks.Uptimes.{none_said}
 use Rattle.laws_homing.specs.home_runs.Moments.{CouldAt}
 use Rattle.laws_homing.specs.home_runs.Windows.{HasAnswer}
-use Rattle.laws_homing.specs.clear_groups.Early.{AreEarly, IsEarly}
+use Rattle.laws_homing.specs.clear_groups.Early.{AreEarly, TellsBetween}
 use Rattle.laws_homing.specs.switch_runs.Reading.{BringFit}
 use Rattle.laws_homing.proofs.clear_boards.Standing.{tick_is}
 use Rattle.laws_homing.proofs.clear_groups.Early.{TellsAll, takes_early}
@@ -60,7 +60,7 @@ early_none : (P : ℕ → ℕ → Type 0) (cs : List Cmd) → AreEarly 0 0 cs �
 early_none P [] k = tt
 early_none P (c ∷ cs) k = (one c k.0, early_none P cs k.1)
   where
-    one : (c : Cmd) → IsEarly 0 0 c → IsMoment P c
+    one : (c : Cmd) → TellsBetween 0 0 c → IsMoment P c
     one (cmd.TrsyncState oid can reason clock) m = λ able. let x = m able in absurd (let l = x.2 in omega (arith, l))
     one c m = tt
 
@@ -95,7 +95,7 @@ shut_moments P (Shut reason tick first) from to = by (nat_lt from to)
     by true = (tt, tt)
     by false = tt
 
-runs_does : (r : Rig) (t : ℕ) → AllSound r → AllDueNow r → Does r (runs r t)
+runs_does : (r : Rig) (t : ℕ) → AllSound r → AllDueNow r → Does r (board_runs r t)
 runs_does r t sound due =
     let shut = says_shut (shut_before r.controller.state r.controller.tick) r.controller.tick t in
     let n = all_left t r.triggers + 1 in
@@ -129,7 +129,7 @@ TellsAble low r reply =
 
 able_row : (F : ℕ → Type 0) (P : ℕ → ℕ → Type 0) (oid can reason clock : ℕ) (c : Cmd) → Says F c → IsMoment P c
     → row.TrsyncState ≡ row_of c
-    → IsText own_formats (cmd.TrsyncState oid can reason clock) (text_of c) → (can ≡ 0 → ⊥)
+    → IsText own_formats (cmd.TrsyncState oid can reason clock) (wire_text c) → (can ≡ 0 → ⊥)
     → (x : ℕ) × P oid x × (clock ≡ x % 2 ^ 32)
 able_row F P oid can reason clock (cmd.TrsyncState a b r k) s m e t able =
     let same = state_told a b r k oid can reason clock s.0 s.1 s.2 s.3 t in
@@ -139,7 +139,7 @@ able_row F P oid can reason clock c s m e t able = absurd (cc)
 
 able_answers : (F : ℕ → Type 0) (low now : ℕ) (r : Rig) (n : ℕ) (cs : List Cmd) → low ≤ now → Each (Says F) cs
     → Each (IsMoment (λ o x. (now ≤ x) × CouldAt o x r)) cs
-    → AllUp (TellsAble low r) (numbered n (map text_of cs))
+    → AllUp (TellsAble low r) (numbered n (map wire_text cs))
 able_answers F low now r n [] l s k = tt
 able_answers F low now r n (c ∷ cs) l s k = (
   λ oid can reason clock t able. (
@@ -156,7 +156,7 @@ pub record Hears (E : ℕ → (ℕ → Type 0)) (F : ℕ → Type 0) (pins : Lis
   pub told : AllUp (TellsAble low h.board) h.link.up
 
 hears_step : (E : ℕ → (ℕ → Type 0)) (F : ℕ → Type 0) (pins : List (List Level)) (low : ℕ) (h : Core) (s : Step)
-    → Brings E F F pins s → Hears E F pins low h → Hears E F pins low (after h s)
+    → Brings E F F pins s → Hears E F pins low h → Hears E F pins low (world_after h s)
 hears_step E F pins low h (Do e) b k =
     let one = keeps_by E F F pins h e b k.keeps in
     let d = event_does h e k.keeps.ordered.sound k.due in
@@ -190,12 +190,12 @@ stays_sound h e sound = all_sound h.board (commands_of (takes_in h e)) sound
     all_sound r [] k = k
     all_sound r (c ∷ cs) k = all_sound (takes r c).rig cs (takes_sound r c k)
 
-stays_along : (o x : ℕ) (steps : List Step) (h : Core) → Stays o x h → Stays o x (run steps h)
+stays_along : (o x : ℕ) (steps : List Step) (h : Core) → Stays o x h → Stays o x (run_world steps h)
 stays_along o x [] h k = k
 stays_along o x (Do e ∷ steps) h k =
     let d = event_does h e k.sound k.due in
-    stays_along o x steps (happens h e) (record { sound = stays_sound h e k.sound; due = d.due; could = d.could o x k.could })
-stays_along o x (Turn turn ∷ steps) h k = stays_along o x steps (after h (Turn turn)) (record { sound = k.sound; due = k.due; could = k.could })
+    stays_along o x steps (after_event h e) (record { sound = stays_sound h e k.sound; due = d.due; could = d.could o x k.could })
+stays_along o x (Turn turn ∷ steps) h k = stays_along o x steps (world_after h (Turn turn)) (record { sound = k.sound; due = k.due; could = k.could })
 
 -- the news of replies
 first_able : (low : ℕ) (q : Rig) (r : Reply) (o : Option Cmd) (rest : List News) (oid can reason clock : ℕ)
@@ -231,7 +231,7 @@ module _ (E : ℕ → (ℕ → Type 0)) (F : ℕ → Type 0) (b : BoardDef) (pin
       let turn = length before in
       let l2 = before_replies clock turn (orders t.control t.batch) are.0.0.resent (stands_after First before) in
       let done = turn_keeps E F F pins (Hears E F pins low) (hears_step E F pins low) clock First t before are.0 (λ x early complete. complete) fit.0 k in
-      let came : t.after.core ≡ run (come Up turn l2.up.copies) l2.core = ap (λ (x : LinkState). x.core) are.0.0.becomes in (
+      let came : t.after.core ≡ run_world (come Up turn l2.up.copies) l2.core = ap (λ (x : LinkState). x.core) are.0.0.becomes in (
         done.1,
         λ oid can reason at has able.
             let x = able_news low l2.core.board _ t.state.news oid can reason at are.0.1.news (up_come (TellsAble low l2.core.board) turn l2.up.copies l2.core done.0.told).0 able has in

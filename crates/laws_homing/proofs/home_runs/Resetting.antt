@@ -27,7 +27,7 @@ use Rattle.trigger_group.specs.declared.round.Round.{Round}
 use Rattle.trigger_group.specs.declared.round.Round.TheVariants.{Homes, Relays, Resets, Starts, Timeouts}
 use Rattle.trigger_group.specs.declared.seen.Fired.{Fired}
 use Rattle.trigger_group.specs.declared.seen.Seen.{Seen}
-use Rattle.trigger_group.specs.Group.{GroupState, all_fired, bits, goes, limit, orders, orders_in, orders_to, phase, relay_in, relays_in, reset, round_of, steppers, stop, to_board, unless_fired}
+use Rattle.trigger_group.specs.Group.{GroupState, all_fired, bits, goes, limit, orders, orders_of_group, orders_to, phase, relay_in, relays_in, reset, round_of, steppers, stop, to_board, unless_fired}
 use Rattle.axis_homing.specs.declared.homing.Homing.{Homing}
 use Rattle.axis_homing.specs.Homing.{answer_in, by_answer, command_to, commands_to, hears_all, homing_turn, moving_on, order_command}
 use Rattle.axis_homing.specs.Rising.{members_of}
@@ -37,7 +37,7 @@ use Rattle.host_reactor.specs.declared.ordered.Known.{Known}
 use Rattle.host_reactor.specs.declared.ordered.Phase.TheVariants.{Connecting}
 use Rattle.host_reactor.specs.Notes.{noted}
 use Rattle.host_reactor.specs.Reactor.{Reacted, homing_commands, stop_command, stops}
-use Rattle.host_reactor.specs.Runs.{Came, known_by, last_turn}
+use Rattle.host_reactor.specs.Runs.{Came, known_by, last_reacted}
 use Rattle.laws_board.specs.turns.Turns.{BoardTurn}
 use Rattle.laws_board.specs.clocks.Runs.{IsInRun}
 use Rattle.laws_board.specs.clocks.Samples.{IsAmong}
@@ -143,7 +143,7 @@ goes_in ms g turn c =
     (in_if ms (nat_lt g.sent (limit g)) (round_of (Timeouts (limit g)) g.members) (round_in ms (Timeouts (limit g)) g.members c))
     (in_if ms (relays_in (relay_in g turn) turn) (round_of Relays g.members) (round_in ms Relays g.members c))
 
-phase_in : (ms : List Member) (p : Phase) (g : GroupState) (turn : ℕ) → Covers ms g.members → AllResetIn ms (orders_in p g turn)
+phase_in : (ms : List Member) (p : Phase) (g : GroupState) (turn : ℕ) → Covers ms g.members → AllResetIn ms (orders_of_group p g turn)
 phase_in ms (Sends round) g turn c = round_in ms round g.members c
 phase_in ms Goes g turn c = in_unless ms (all_fired g.members) (goes g turn) (goes_in ms g turn c)
 phase_in ms Rests g turn c = tt
@@ -218,7 +218,7 @@ pub turn_sets : (m : Machine) (switches : List Switch) (pins : List (List Level)
 turn_sets m switches pins entries b c before t turns start ms r n of =
     let x = turn_of m switches pins entries b c before t turns r in
     let known = known_by m switches before in
-    control_of m b c (noted m c.note known) (length before) start ms x.a (last_turn m switches c before) t (noted m c.note known).homing refl of (connecting_not (noted m c.note known) known (noted_phase m c.note known) n) x.turned
+    control_of m b c (noted m c.note known) (length before) start ms x.a (last_reacted m switches c before) t (noted m c.note known).homing refl of (connecting_not (noted m c.note known) known (noted_phase m c.note known) n) x.turned
 
 -- steppers that move on a board are the board's
 low_bit : (c : Bool) (r : ℕ) → ((cond c 1 0 + 2 * r) % 2 ≡ cond c 1 0) × ((cond c 1 0 + 2 * r) / 2 ≡ r)

@@ -10,14 +10,14 @@ use Rattle.board_world.specs.Stands.{reply_text}
 use Rattle.board_world.specs.World.{Core}
 use Rattle.board_world.proofs.Runs.{start_ordered}
 use Rattle.link_work.specs.Ends.{is_idle, none_wait}
-use Rattle.link_work.specs.Runs.{bytes_of}
+use Rattle.link_work.specs.Runs.{blocks_on}
 use Rattle.link_work.specs.Stands.{first_state}
 use Rattle.link_work.proofs.Turns.{turns_are_steps, turns_hold}
 use Rattle.laws_board.specs.turns.Turns.{AreBoardTurns, BoardTurn, stands_after}
 use Rattle.laws_board.specs.clocks.Runs.{orders_in}
 use Rattle.laws_board.proofs.clocks.Orders.{turns_in_order}
 use Rattle.laws_board.proofs.sections.Finding.{idle_took}
-use Rattle.laws_homing.specs.home_runs.Sections.{RestsInTime, TakesSetUp, queued_by}
+use Rattle.laws_homing.specs.home_runs.Sections.{RestsInTime, TakesSetUp, queued_in_turns}
 use Rattle.laws_homing.proofs.home_runs.Joining.{all_queued}
 use Rattle.laws_homing.proofs.home_runs.Windows.{begun}
 use Rattle.laws_board.proofs.clocks.Askings.{both_true}
@@ -31,7 +31,7 @@ none_up [] e = refl
 none_up (r ∷ rs) e = cc
 
 pub rests_took : (b : BoardDef) (pins : List (List Level)) (board : ℕ) (entries : List Entry) (turns : List BoardTurn) → AreBoardTurns (clock_of b) (first_state b pins board entries) turns
-    → is_idle (stands_after (first_state b pins board entries) turns) ≡ true → (stands_after (first_state b pins board entries) turns).core.taken ≡ queued_by turns
+    → is_idle (stands_after (first_state b pins board entries) turns) ≡ true → (stands_after (first_state b pins board entries) turns).core.taken ≡ queued_in_turns turns
 rests_took b pins board entries turns are idle =
     let first = first_state b pins board entries in
     let l = stands_after first turns in
@@ -48,7 +48,7 @@ rests_up b pins board entries turns are none =
     let first = first_state b pins board entries in
     let l = stands_after first turns in
     let holds = turns_hold (clock_of b) 0 (orders_in turns) first l (start_ordered b pins).in_step (record { down = refl; up = refl }) (turns_in_order (clock_of b) first turns are) in
-    none_up l.core.link.up (sym holds.up ∙ ap bytes_of none)
+    none_up l.core.link.up (sym holds.up ∙ ap blocks_on none)
 
 pub rests_set_up : (b : BoardDef) (pins : List (List Level)) (board : ℕ) (entries : List Entry) (turns : List BoardTurn) (begin : ℕ) → AreBoardTurns (clock_of b) (first_state b pins board entries) turns
     → RestsInTime (first_state b pins board entries) begin turns → TakesSetUp (first_state b pins board entries) begin turns
@@ -63,6 +63,6 @@ rests_set_up b pins board entries turns begin are r =
       queued = r.queued;
       in_time = r.in_time;
       more = [];
-      took = append-nil (queued_by r.past) ∙ sym (rests_took b pins board entries r.past mine r.idle);
+      took = append-nil (queued_in_turns r.past) ∙ sym (rests_took b pins board entries r.past mine r.idle);
       heard = rests_up b pins board entries r.past mine r.none;
     }

@@ -18,12 +18,12 @@ use Rattle.board_trig.specs.Trigger as trig
 use Rattle.msg_code.specs.declared.cmd.Cmd.{Cmd}
 use Rattle.msg_code.specs.declared.cmd.Cmd.TheVariants as cmd
 use Rattle.board_sim.specs.Board.{Controller, Done as BoardDone, stepper_at, is_none_pending, first_of, refusal, takes_triple, queue_step, set_dir, reset, make_stepper, acts as board_acts, acts_running as board_running, takes as board_takes, stop, quiet as board_quiet, with_stepper, stepper_active}
-use Rattle.board_sim.specs.Rig.{Rig, Slot, Passed, becomes, slot_at, expires_at_once, set_timeout, trigger, acts, acts_running, takes, takes_all, tell, told, happens_to, happens, runs_to, rests_to, earliest, at_of, goes_on, passes_by, pass, all_left, passes}
+use Rattle.board_sim.specs.Rig.{Rig, Slot, Passed, becomes, slot_at, expires_at_once, set_timeout, trigger, acts, acts_running, takes, takes_all, tell, trigger_answers, happens_to, happens_at, runs_to, rests_to, earliest_moment, at_of, goes_on, passes_by, pass, all_left, passes}
 use Rattle.board_sim.specs.Turn.{says_shut}
 use Rattle.board_sim.proofs.Bound.{slot_range}
 use Rattle.board_world.specs.World.{says, shut_before}
 use Rattle.laws_board.proofs.clocks.Answers.{Each, each_both}
-use Rattle.laws_homing.specs.home_runs.Guards.{HasFired, IsCalm, IsQuiet, IsSole, StandsFired}
+use Rattle.laws_homing.specs.home_runs.Guards.{HasFired, IsCalm, HasNoTimeout, IsSole, StandsFired}
 use Rattle.laws_homing.proofs.home_runs.Guarding.{Next, fired_next, stands_next, next_same, next_then, pass_next, runs_next, happens_next, takes_next}
 
 -- what a board answers of a trigger is about this one, which can't trigger where that is told, and stands as told where P is so
@@ -33,7 +33,7 @@ Says P j q c = Unit {0}
 
 -- as it answers, the trigger stands so where it is quiet
 abbrev SaysNow : ℕ → Rig → Cmd → Type 0
-SaysNow j q c = Says (IsQuiet j q) j q c
+SaysNow j q c = Says (HasNoTimeout j q) j q c
 
 one_later : (P Q : Type 0) (i j : ℕ) (r q : Rig) (c : Cmd) → (Q → P) → Next i j r q → Says P j r c → Says Q j q c
 one_later P Q i j r q (cmd.TrsyncState oid can reason clock) f x s = (s.0, s.1, s.2, (λ fired. fired_next i j r q x (s.3 fired)), λ fired given. stands_next i j reason clock r q x (s.4 fired (f given)))
@@ -112,7 +112,7 @@ becomes_at j oid r s t at same =
 becomes_fired : (j oid : ℕ) (r : Rig) (s : Slot) (t : Trigger) → slot_at r oid ≡ Some s → oid ≡ j → t.can ≡ false → HasFired j (becomes r oid s t)
 becomes_fired j oid r s t at same fell = record { slot = record s { trigger = t }; is = becomes_at j oid r s t at same; fired = fell }
 
-becomes_stands : (j oid n : ℕ) (r : Rig) (s : Slot) (t : Trigger) → slot_at r oid ≡ Some s → oid ≡ j → t.can ≡ false → IsQuiet j (becomes r oid s t) → StandsFired j t.reason ((if t.can then n else t.tick) % 2 ^ 32) (becomes r oid s t)
+becomes_stands : (j oid n : ℕ) (r : Rig) (s : Slot) (t : Trigger) → slot_at r oid ≡ Some s → oid ≡ j → t.can ≡ false → HasNoTimeout j (becomes r oid s t) → StandsFired j t.reason ((if t.can then n else t.tick) % 2 ^ 32) (becomes r oid s t)
 becomes_stands j oid n r s t at same fell quiet =
     let u : Slot = record s { trigger = t } in
     let is = becomes_at j oid r s t at same in
@@ -161,11 +161,11 @@ rig_says j r (cmd.TrsyncTrigger oid reason) few sole = trigger_says j oid reason
 rig_says j r (cmd.StepperStopOnTrigger oid other) few sole = tt
 rig_says j r (cmd.ConfigEndstop oid pin pull) few sole = tt
 rig_says j r (cmd.EndstopHome oid clock sample count rest value other reason) few sole = tt
-rig_says j r c few sole = others_say (IsQuiet j (acts r c).rig) j (acts r c).rig (board_takes r.controller c).answers (board_tells r.controller c)
+rig_says j r c few sole = others_say (HasNoTimeout j (acts r c).rig) j (acts r c).rig (board_takes r.controller c).answers (board_tells r.controller c)
 
 state_says : (j : ℕ) (s : BoardState) (r : Rig) (c : Cmd) → length r.triggers ≤ 256 → IsSole j r → Each (SaysNow j (acts_running s r c).rig) (acts_running s r c).answers
 state_says j Running r c few sole = rig_says j r c few sole
-state_says j (Shut reason at first) r c few sole = others_say (IsQuiet j (acts_running (Shut reason at first) r c).rig) j (acts_running (Shut reason at first) r c).rig (board_takes r.controller c).answers (board_tells r.controller c)
+state_says j (Shut reason at first) r c few sole = others_say (HasNoTimeout j (acts_running (Shut reason at first) r c).rig) j (acts_running (Shut reason at first) r c).rig (board_takes r.controller c).answers (board_tells r.controller c)
 
 -- commands that neither start this trigger anew nor set the clock of this stepper
 abbrev pub EachCalm : ℕ → ℕ → List Cmd → Type 0
@@ -176,15 +176,15 @@ pub all_next : (i j : ℕ) (r : Rig) (cs : List Cmd) → EachCalm i j cs → Nex
 all_next i j r [] b = next_same i j r
 all_next i j r (c ∷ cs) b = next_then i j r (takes r c).rig (takes_all (takes r c).rig cs).rig (takes_next i j r c b.0) (all_next i j (takes r c).rig cs b.1)
 
-pub all_say : (P : Type 0) (i j : ℕ) (r : Rig) (cs : List Cmd) → length r.triggers ≤ 256 → IsSole j r → (P → IsQuiet j r) → EachCalm i j cs → Each (Says P j (takes_all r cs).rig) (takes_all r cs).answers
+pub all_say : (P : Type 0) (i j : ℕ) (r : Rig) (cs : List Cmd) → length r.triggers ≤ 256 → IsSole j r → (P → HasNoTimeout j r) → EachCalm i j cs → Each (Says P j (takes_all r cs).rig) (takes_all r cs).answers
 all_say P i j r [] few sole quiet b = tt
 all_say P i j r (c ∷ cs) few sole quiet b =
     let one = (takes r c).rig in
     let next = takes_next i j r c b.0 in
     let still : length one.triggers ≤ 256 = omega (arith, few, next.places) in
-    let quiet_one : P → IsQuiet j one = (λ given. next.quiet (quiet given)) in
+    let quiet_one : P → HasNoTimeout j one = (λ given. next.quiet (quiet given)) in
     each_both (Says P j (takes_all one cs).rig) (takes r c).answers (takes_all one cs).answers
-    (all_later (IsQuiet j one) P i j one (takes_all one cs).rig (takes r c).answers quiet_one (all_next i j one cs b.1) (state_says j r.controller.state r c few sole))
+    (all_later (HasNoTimeout j one) P i j one (takes_all one cs).rig (takes r c).answers quiet_one (all_next i j one cs b.1) (state_says j r.controller.state r c few sole))
     (all_say P i j one cs still (next.sole sole) quiet_one b.1)
 
 -- while time passes an event tells of a trigger as it is
@@ -199,10 +199,10 @@ happened_tells (Switches tick) levels until t = refl
 happened_tells (Reports tick) levels until t = refl
 
 advanced_tells : (o : Option ℕ) (levels : List Level) (until : ℕ) (t : Trigger) → IsEventOf (trig.tells o levels until t).trigger (trig.tells o levels until t).event
-advanced_tells None levels until t = happened_tells (trig.next levels until t) levels until t
+advanced_tells None levels until t = happened_tells (trig.next_happening levels until t) levels until t
 advanced_tells (Some tick) levels until t = refl
 
-told_says : (j oid : ℕ) (r : Rig) (s : Slot) (t : Trigger) (o : Option TrigEvent) → length r.triggers ≤ 256 → IsSole j r → slot_at r oid ≡ Some s → IsEventOf t o → Each (SaysNow j (becomes r oid s t)) (told oid o)
+told_says : (j oid : ℕ) (r : Rig) (s : Slot) (t : Trigger) (o : Option TrigEvent) → length r.triggers ≤ 256 → IsSole j r → slot_at r oid ≡ Some s → IsEventOf t o → Each (SaysNow j (becomes r oid s t)) (trigger_answers oid o)
 told_says j oid r s t None few sole at same = tt
 told_says j oid r s t (Some e) few sole at same = (subst (λ (x : TrigState). SaysNow j (becomes r oid s t) (tell oid x)) (sym same) (tell_says j oid e.tick r s t few sole at), tt)
 
@@ -217,25 +217,25 @@ goes_says : (P : Type 0) (j : ℕ) (o : Option (ℕ × ℕ)) (x y : Passed) → 
 goes_says P j None x y k l = k
 goes_says P j (Some at) x y k l = l
 
-pass_says : (P : Type 0) (n i j : ℕ) (r : Rig) (t : ℕ) → length r.triggers ≤ 256 → IsSole j r → (P → IsQuiet j r) → Each (Says P j (pass n r t).rig) (pass n r t).answers
+pass_says : (P : Type 0) (n i j : ℕ) (r : Rig) (t : ℕ) → length r.triggers ≤ 256 → IsSole j r → (P → HasNoTimeout j r) → Each (Says P j (pass n r t).rig) (pass n r t).answers
 pass_says P zero i j r t few sole quiet = tt
 pass_says P (suc n) i j r t few sole quiet =
-    let next = earliest r t 0 r.triggers in
+    let next = earliest_moment r t 0 r.triggers in
     let ran = (runs_to r ((at_of next).0 / 3)).rig in
-    let first = happens r t (at_of next) in
+    let first = happens_at r t (at_of next) in
     let rest = pass n first.rig t in
     let one = runs_next i j r ((at_of next).0 / 3) in
     let two = happens_next i j ran t (at_of next).1 (slot_at ran (at_of next).1) refl in
     let few1 : length ran.triggers ≤ 256 = omega (arith, few, one.places) in
     let few2 : length first.rig.triggers ≤ 256 = omega (arith, few1, two.places) in
     let sole1 = one.sole sole in
-    let quiet2 : P → IsQuiet j first.rig = (λ given. two.quiet (one.quiet (quiet given))) in
+    let quiet2 : P → HasNoTimeout j first.rig = (λ given. two.quiet (one.quiet (quiet given))) in
     goes_says P j next (rests_to r t) (passes_by first rest) tt
     (each_both (Says P j rest.rig) first.answers rest.answers
-    (all_later (IsQuiet j first.rig) P i j first.rig rest.rig first.answers quiet2 (pass_next n i j first.rig t) (happens_says j ran t (at_of next).1 (slot_at ran (at_of next).1) few1 sole1 refl))
+    (all_later (HasNoTimeout j first.rig) P i j first.rig rest.rig first.answers quiet2 (pass_next n i j first.rig t) (happens_says j ran t (at_of next).1 (slot_at ran (at_of next).1) few1 sole1 refl))
     (pass_says P n i j first.rig t few2 (two.sole sole1) quiet2))
 
-pub passes_say : (P : Type 0) (i j : ℕ) (r : Rig) (t : ℕ) → length r.triggers ≤ 256 → IsSole j r → (P → IsQuiet j r) → Each (Says P j (passes r t).rig) (passes r t).answers
+pub passes_say : (P : Type 0) (i j : ℕ) (r : Rig) (t : ℕ) → length r.triggers ≤ 256 → IsSole j r → (P → HasNoTimeout j r) → Each (Says P j (passes r t).rig) (passes r t).answers
 passes_say P i j r t few sole quiet = elim (leb_tells r.controller.tick t) [ inl p ↦ rw p.0 (pass_says P (all_left t r.triggers + 1) i j r t few sole quiet) | inr p ↦ rw p.0 tt ]
 
 each_if : (b : Bool) (xs : List Cmd) → Each IsOther xs → Each IsOther (cond b xs [])
@@ -246,7 +246,7 @@ pub shut_other : (s : BoardState) (from to : ℕ) → Each IsOther (says_shut s 
 shut_other Running from to = tt
 shut_other (Shut reason at first) from to = each_if (nat_lt from to) (cmd.IsShutdown reason ∷ []) (tt, tt)
 
-pub time_says : (P : Type 0) (i j : ℕ) (r : Rig) (t : ℕ) → length r.triggers ≤ 256 → IsSole j r → (P → IsQuiet j r) → Each (Says P j (passes r t).rig) (says r t)
+pub time_says : (P : Type 0) (i j : ℕ) (r : Rig) (t : ℕ) → length r.triggers ≤ 256 → IsSole j r → (P → HasNoTimeout j r) → Each (Says P j (passes r t).rig) (says r t)
 time_says P i j r t few sole quiet =
     let said = says_shut (shut_before r.controller.state r.controller.tick) r.controller.tick t in
     each_both (Says P j (passes r t).rig) (passes r t).answers said (passes_say P i j r t few sole quiet) (others_say P j (passes r t).rig said (shut_other (shut_before r.controller.state r.controller.tick) r.controller.tick t))

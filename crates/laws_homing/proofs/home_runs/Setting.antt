@@ -23,7 +23,7 @@ use Rattle.trigger_group.specs.declared.round.Round.{Round}
 use Rattle.trigger_group.specs.declared.round.Round.TheVariants.{Homes, Relays, Resets, Starts, Timeouts}
 use Rattle.trigger_group.specs.declared.seen.Fired.{Fired}
 use Rattle.trigger_group.specs.declared.seen.Seen.{Seen}
-use Rattle.trigger_group.specs.Group.{GroupState, all_fired, first_timeout, goes, limit, orders, orders_in, orders_to, phase, relay_in, relays_in, round_of, steppers, stop, to_board, unless_fired, unseen}
+use Rattle.trigger_group.specs.Group.{GroupState, all_fired, first_timeout, goes, limit, orders, orders_of_group, orders_to, phase, relay_in, relays_in, round_of, steppers, stop, to_board, unless_fired, unseen}
 use Rattle.trigger_group.specs.Kept.{BoardsRise}
 use Rattle.axis_homing.specs.declared.homing.Homing.{Homing}
 use Rattle.axis_homing.specs.Homing.{answer_in, by_answer, command_to, commands_to, hears_all, homing_turn, order_command}
@@ -129,7 +129,7 @@ goes_later g turn =
     (later_if (nat_lt g.sent (limit g)) (round_of (Timeouts (limit g)) g.members) (round_later (Timeouts (limit g)) g.members tt))
     (later_if (relays_in (relay_in g turn) turn) (round_of Relays g.members) (round_later Relays g.members tt))
 
-in_later : (p : Phase) (g : GroupState) (turn : ℕ) → PhaseLate p → AllLater (orders_in p g turn)
+in_later : (p : Phase) (g : GroupState) (turn : ℕ) → PhaseLate p → AllLater (orders_of_group p g turn)
 in_later (Sends round) g turn a = round_later round g.members a
 in_later Goes g turn a = later_unless (all_fired g.members) (goes g turn) (goes_later g turn)
 in_later Rests g turn a = tt

@@ -20,7 +20,7 @@ use Rattle.board_sim.specs.Fair.{Meant, commands_of}
 use Rattle.board_sim.specs.Halted.{is_halted}
 use Rattle.board_sim.specs.RigRuns.{IsHalted}
 use Rattle.board_world.specs.Orders.{plain, unit_orders, unit_ticks, units_orders}
-use Rattle.board_world.specs.World.{Core, Step, run}
+use Rattle.board_world.specs.World.{Core, Step, run_world}
 use Rattle.link_work.specs.Runs.{queued_in}
 use Rattle.link_work.specs.Stands.{first_state, orders}
 use Rattle.link_work.specs.Turn.{LinkState, Orders}
@@ -36,9 +36,9 @@ use Rattle.laws_board.proofs.clocks.Lines.{as_long, run_before}
 use Rattle.laws_board.proofs.clocks.Orders.{order_length}
 use Rattle.laws_board.specs.sections.Courses.{AreInTime, Course, IsFrom, FindStopped, IsInTime, IsSettled, IsStopped, course_behind, course_from, course_of, courses, next_part, no_course}
 use Rattle.laws_board.specs.sections.Finds.{AllSetNot, SetsNot, StepsFindHalted}
-use Rattle.laws_board.specs.sections.Known.{AreQueued, Known, Sent, more_steps, orders_in, sent_at, sent_in}
+use Rattle.laws_board.specs.sections.Known.{AreQueued, Known, Sent, more_steps, orders_sent, sent_at, sent_in}
 use Rattle.laws_board.proofs.sections.Lists.{cons_same, cuts, orders_append, orders_at, orders_long, shorter}
-use Rattle.laws_homing.specs.home_runs.Sections.{HomesFrom, IsMoved, SetNone, SetNoneFrom, TakesSetUp, queued_by}
+use Rattle.laws_homing.specs.home_runs.Sections.{HomesFrom, IsMoved, SetNone, SetNoneFrom, TakesSetUp, queued_in_turns}
 use Rattle.laws_homing.specs.home_runs.Settled.{AreHomed, IsHomed, SendNoneIn, SetNoClock, SetNoClockFrom}
 use Rattle.laws_homing.specs.fired_runs.Since.{HasFiredSince}
 use Rattle.laws_homing.specs.fired_runs.Waiting.{AllStepNot, MoveNone, MoveNoneIn, StepsNot, TookNone}
@@ -107,12 +107,12 @@ sent_turn t before =
     ∙ ap (λ (n : ℕ). sent_by before ++ (sent_at n (queued_in o) ++ [])) at
     ∙ ap (λ (x : List Sent). sent_by before ++ x) (append-nil (sent_at (length before) (queued_in o)))
 
-queue_is : (turns : List BoardTurn) → orders_in (sent_by turns) ≡ queued_by turns
+queue_is : (turns : List BoardTurn) → orders_sent (sent_by turns) ≡ queued_in_turns turns
 queue_is [] = refl
 queue_is (t ∷ before) =
     let new = queued_in (orders t.control t.batch) in
-    ap orders_in (sent_turn t before) ∙ orders_append (sent_by before) (sent_at (length before) new) ∙ ap (λ (x : List Meant). x ++ orders_in (sent_at (length before) new)) (queue_is before)
-    ∙ ap (λ (x : List Meant). queued_by before ++ x) (orders_at (length before) new)
+    ap orders_sent (sent_turn t before) ∙ orders_append (sent_by before) (sent_at (length before) new) ∙ ap (λ (x : List Meant). x ++ orders_sent (sent_at (length before) new)) (queue_is before)
+    ∙ ap (λ (x : List Meant). queued_in_turns before ++ x) (orders_at (length before) new)
 
 -- a part of a stepper's steps is begun by the last command that sets its clock
 pub record LastSet (oid turn : ℕ) (ss : List Sent) : Type 0 where
@@ -123,10 +123,10 @@ pub record LastSet (oid turn : ℕ) (ss : List Sent) : Type 0 where
   pub at : set.turn ≡ turn
   pub clock : ℕ
   pub is : set.order.command ≡ cmd.ResetStepClock oid clock
-  pub none : AllSetNot oid (orders_in behind)
+  pub none : AllSetNot oid (orders_sent behind)
 
 abbrev Begun : ℕ → ℕ → Course → List Sent → Type 0
-Begun oid turn c ss = ((c.since ≡ Some turn) × AllSetNot oid (orders_in ss)) ⊎ LastSet oid turn ss
+Begun oid turn c ss = ((c.since ≡ Some turn) × AllSetNot oid (orders_sent ss)) ⊎ LastSet oid turn ss
 
 -- what one command makes of it
 One : ℕ → ℕ → Course → Course → Cmd → ℕ → Type 0
@@ -233,7 +233,7 @@ record Takes (first : LinkState) (start : ℕ) (turns : List BoardTurn) : Type 0
   are : turns ≡ later ++ past
   queued : start ≤ length past + 251
   more : List Meant
-  took : (stands_after first turns).core.taken ≡ queued_by past ++ more
+  took : (stands_after first turns).core.taken ≡ queued_in_turns past ++ more
 
 -- a board that took the set-up in time
 takes_soon : (clock : BoardClock) (first : LinkState) (start : ℕ) (turns : List BoardTurn) → AreBoardTurns clock first turns → TakesSetUp first start turns → Takes first start turns
@@ -248,7 +248,7 @@ takes_soon clock first start turns are took =
       queued = omega (arith, queued);
       more = took.more ++ rest.0;
       took =
-          ap (λ (x : List BoardTurn). (stands_after first x).core.taken) took.are ∙ rest.1 ∙ ap (λ (x : List Meant). x ++ rest.0) (sym took.took) ∙ append_assoc (queued_by took.past) took.more rest.0;
+          ap (λ (x : List BoardTurn). (stands_after first x).core.taken) took.are ∙ rest.1 ∙ ap (λ (x : List Meant). x ++ rest.0) (sym took.took) ∙ append_assoc (queued_in_turns took.past) took.more rest.0;
     }
 
 -- or whose trigger has fired since
@@ -258,11 +258,11 @@ takes_fired trigger start first turns f =
     record { later = f.later; past = f.early; are = f.are; queued = omega (arith, at); more = f.front ++ f.begin ∷ f.more; took = f.took }
 
 -- what is left was sent behind it
-left_from : (early later : List BoardTurn) (done left : List Sent) (more : List Meant) → done ++ left ≡ sent_by (later ++ early) → orders_in done ≡ queued_by early ++ more → AllFrom (length early) left
+left_from : (early later : List BoardTurn) (done left : List Sent) (more : List Meant) → done ++ left ≡ sent_by (later ++ early) → orders_sent done ≡ queued_in_turns early ++ more → AllFrom (length early) left
 left_from early later done left more cut took =
     let parts = sent_parts later early in
     let l : length (sent_by early) ≤ length done =
-    omega (arith, orders_long done, orders_long (sent_by early), ap length took, ap length (queue_is early), length-append (queued_by early) more) in
+    omega (arith, orders_long done, orders_long (sent_by early), ap length took, ap length (queue_is early), length-append (queued_in_turns early) more) in
     let cuts_so = shorter done left (sent_by early) parts.0 (cut ∙ parts.1) l in
     from_behind (length early) cuts_so.0 left (subst (λ (x : List Sent). AllFrom (length early) x) (sym cuts_so.2) parts.2)
 
@@ -361,7 +361,7 @@ one_ends oid turn c (cmd.ConfigStepper other step dir invert width) ticks sets s
 one_ends oid turn c (cmd.SetNextStepDir other dir) ticks sets steps = ends_if (other == oid) c (record c.known { up = dir == 1 }) refl
 one_ends oid turn c m ticks sets steps = refl
 
-all_ends : (oid : ℕ) (c : Course) (ss : List Sent) → AllSetNot oid (orders_in ss) → AllStepNot oid (orders_in ss) → (course_from oid c ss).known.ends ≡ c.known.ends
+all_ends : (oid : ℕ) (c : Course) (ss : List Sent) → AllSetNot oid (orders_sent ss) → AllStepNot oid (orders_sent ss) → (course_from oid c ss).known.ends ≡ c.known.ends
 all_ends oid c [] sets steps = refl
 all_ends oid c (s ∷ ss) sets steps = all_ends oid (course_behind oid c s) ss sets.1 steps.1 ∙ one_ends oid s.turn c s.order.command s.order.ticks sets.0 steps.0
 
@@ -379,7 +379,7 @@ course_both : (oid : ℕ) (c : Course) (ss ts : List Sent) → course_from oid c
 course_both oid c [] ts = refl
 course_both oid c (s ∷ ss) ts = course_both oid (course_behind oid c s) ss ts
 
-none_ends : (oid clock : ℕ) (front : List Sent) (set : Sent) (behind : List Sent) → set.order.command ≡ cmd.ResetStepClock oid clock → AllSetNot oid (orders_in behind) → AllStepNot oid (orders_in behind)
+none_ends : (oid clock : ℕ) (front : List Sent) (set : Sent) (behind : List Sent) → set.order.command ≡ cmd.ResetStepClock oid clock → AllSetNot oid (orders_sent behind) → AllStepNot oid (orders_sent behind)
     → (courses (front ++ set ∷ behind) oid).known.ends ≡ []
 none_ends oid clock front set behind is sets steps =
     let c = courses front oid in
@@ -488,20 +488,20 @@ module _ (m : Machine) (switches : List Switch) (pins : List (List Level)) (entr
     last : LastSet oid q done
     mover : Mover oid
     steps : List Step
-    are_steps : Now ≡ run steps Then
+    are_steps : Now ≡ run_world steps Then
     since : List Meant
-    took : (run steps Then).taken ≡ Then.taken ++ since
+    took : (run_world steps Then).taken ≡ Then.taken ++ since
     sets : AllSetNot oid since
-    behind : (mid : List Meant) × (orders_in last.behind ≡ mid ++ since)
+    behind : (mid : List Meant) × (orders_sent last.behind ≡ mid ++ since)
 
-  since_of : (q oid : ℕ) (done left : List Sent) → start ≤ q + 254 → q + 252 ≤ start → done ++ left ≡ sent_by turns → orders_in done ≡ Now.taken → LastSet oid q done → Since oid q done
+  since_of : (q oid : ℕ) (done left : List Sent) → start ≤ q + 254 → q + 252 ≤ start → done ++ left ≡ sent_by turns → orders_sent done ≡ Now.taken → LastSet oid q done → Since oid q done
   since_of q oid done left soon late cut taken last =
       let clock = clock_of (board_at m b) in
       let mine : AreBoardTurns clock First (hm.later ++ hm.past) = subst (λ (x : List BoardTurn). AreBoardTurns clock First x) hm.are are in
       let steps = later_steps clock First hm.later hm.past mine in
-      let now_is : Now ≡ run steps.0 Then = ap (λ (x : List BoardTurn). (stands_after First x).core) hm.are ∙ steps.1 in
+      let now_is : Now ≡ run_world steps.0 Then = ap (λ (x : List BoardTurn). (stands_after First x).core) hm.are ∙ steps.1 in
       let later = taken_later clock First hm.later hm.past mine in
-      let took : (run steps.0 Then).taken ≡ Then.taken ++ later.0 = ap (λ (x : Core). x.taken) (sym steps.1) ∙ later.1 in
+      let took : (run_world steps.0 Then).taken ≡ Then.taken ++ later.0 = ap (λ (x : Core). x.taken) (sym steps.1) ∙ later.1 in
       let turn_is = last.at in
       let whole : last.front ++ last.set ∷ (last.behind ++ left) ≡ sent_by turns = sym (append_assoc last.front (last.set ∷ last.behind) left) ∙ ap (λ (x : List Sent). x ++ left) (sym last.are) ∙ cut in
       let mover = mover_of last.front last.set (last.behind ++ left) oid last.clock whole last.is (omega (arith, soon, turn_is)) (omega (arith, late, turn_is)) in
@@ -511,14 +511,14 @@ module _ (m : Machine) (switches : List Switch) (pins : List (List Level)) (entr
       let parts = sent_parts (hm.later ++ t.later) t.past in
       let in_early = placed last.front last.set (last.behind ++ left) (sent_by t.past) parts.0 (length t.past) (whole ∙ ap sent_by flat ∙ parts.1) parts.2 (omega (arith, turn_is, late, queued)) in
       let set = last.front ++ last.set ∷ [] in
-      let set_taken = orders_in last.front ++ last.set.order ∷ [] in
-      let early_is : queued_by t.past ≡ orders_in last.front ++ last.set.order ∷ orders_in in_early.0 = sym (queue_is t.past) ∙ ap orders_in in_early.1 ∙ orders_append last.front (last.set ∷ in_early.0) in
-      let ended : Then.taken ≡ set_taken ++ (orders_in in_early.0 ++ t.more) =
-      t.took ∙ ap (λ (x : List Meant). x ++ t.more) early_is ∙ append_assoc (orders_in last.front) (last.set.order ∷ orders_in in_early.0) t.more ∙ sym (append_assoc (orders_in last.front) (last.set.order ∷ []) (orders_in in_early.0 ++ t.more)) in
-      let took_all : set_taken ++ orders_in last.behind ≡ set_taken ++ ((orders_in in_early.0 ++ t.more) ++ later.0) =
-      append_assoc (orders_in last.front) (last.set.order ∷ []) (orders_in last.behind) ∙ sym (orders_append last.front (last.set ∷ last.behind)) ∙ ap orders_in (sym last.are) ∙ taken ∙ ap (λ (x : Core). x.taken) now_is ∙ took
-      ∙ ap (λ (x : List Meant). x ++ later.0) ended ∙ append_assoc set_taken (orders_in in_early.0 ++ t.more) later.0 in
-      let rest : orders_in last.behind ≡ (orders_in in_early.0 ++ t.more) ++ later.0 = append_cancel_left set_taken (orders_in last.behind) ((orders_in in_early.0 ++ t.more) ++ later.0) took_all in
+      let set_taken = orders_sent last.front ++ last.set.order ∷ [] in
+      let early_is : queued_in_turns t.past ≡ orders_sent last.front ++ last.set.order ∷ orders_sent in_early.0 = sym (queue_is t.past) ∙ ap orders_sent in_early.1 ∙ orders_append last.front (last.set ∷ in_early.0) in
+      let ended : Then.taken ≡ set_taken ++ (orders_sent in_early.0 ++ t.more) =
+      t.took ∙ ap (λ (x : List Meant). x ++ t.more) early_is ∙ append_assoc (orders_sent last.front) (last.set.order ∷ orders_sent in_early.0) t.more ∙ sym (append_assoc (orders_sent last.front) (last.set.order ∷ []) (orders_sent in_early.0 ++ t.more)) in
+      let took_all : set_taken ++ orders_sent last.behind ≡ set_taken ++ ((orders_sent in_early.0 ++ t.more) ++ later.0) =
+      append_assoc (orders_sent last.front) (last.set.order ∷ []) (orders_sent last.behind) ∙ sym (orders_append last.front (last.set ∷ last.behind)) ∙ ap orders_sent (sym last.are) ∙ taken ∙ ap (λ (x : Core). x.taken) now_is ∙ took
+      ∙ ap (λ (x : List Meant). x ++ later.0) ended ∙ append_assoc set_taken (orders_sent in_early.0 ++ t.more) later.0 in
+      let rest : orders_sent last.behind ≡ (orders_sent in_early.0 ++ t.more) ++ later.0 = append_cancel_left set_taken (orders_sent last.behind) ((orders_sent in_early.0 ++ t.more) ++ later.0) took_all in
       record {
         last = last;
         mover = mover;
@@ -526,15 +526,15 @@ module _ (m : Machine) (switches : List Switch) (pins : List (List Level)) (entr
         are_steps = now_is;
         since = later.0;
         took = took;
-        sets = (not_parts oid (orders_in in_early.0 ++ t.more) later.0 (subst (λ (x : List Meant). AllSetNot oid x) rest last.none)).1;
-        behind = (orders_in in_early.0 ++ t.more, rest);
+        sets = (not_parts oid (orders_sent in_early.0 ++ t.more) later.0 (subst (λ (x : List Meant). AllSetNot oid x) rest last.none)).1;
+        behind = (orders_sent in_early.0 ++ t.more, rest);
       }
 
-  running_then : (steps : List Step) → Now ≡ run steps Then → Now.board.controller.state ≡ Running → (run steps Then).board.controller.state ≡ Running
+  running_then : (steps : List Step) → Now ≡ run_world steps Then → Now.board.controller.state ≡ Running → (run_world steps Then).board.controller.state ≡ Running
   running_then steps e runs = subst (λ (h : Core). h.board.controller.state ≡ Running) e runs
 
   -- of a board that took no step of the stepper by then no step of its part is taken, where it takes none since
-  part_none : (q oid : ℕ) (done left : List Sent) → start ≤ q + 254 → done ++ left ≡ sent_by turns → orders_in done ≡ Now.taken → (x : Since oid q done) → (n : TookNone oid hm.answered.from First hm.past) → AllStepNot oid x.since → (courses done oid).known.ends ≡ []
+  part_none : (q oid : ℕ) (done left : List Sent) → start ≤ q + 254 → done ++ left ≡ sent_by turns → orders_sent done ≡ Now.taken → (x : Since oid q done) → (n : TookNone oid hm.answered.from First hm.past) → AllStepNot oid x.since → (courses done oid).known.ends ≡ []
   part_none q oid done left soon cut taken x n none =
       let last = x.last in
       let turn_is = last.at in
@@ -546,15 +546,15 @@ module _ (m : Machine) (switches : List Switch) (pins : List (List Level)) (entr
       let whole : last.front ++ last.set ∷ (last.behind ++ left) ≡ sent_by n.early ++ parts.0 =
       sym (append_assoc last.front (last.set ∷ last.behind) left) ∙ ap (λ (y : List Sent). y ++ left) (sym last.are) ∙ cut ∙ ap sent_by flat ∙ parts.1 in
       let mid = placed_behind (length n.early) last.front last.set (last.behind ++ left) (sent_by n.early) parts.0 whole (until_by n.early) (omega (arith, turn_is, from_is, begin, long, soon)) in
-      let front_is : orders_in last.front ≡ queued_by n.early ++ orders_in mid.0 = ap orders_in mid.1 ∙ orders_append (sent_by n.early) mid.0 ∙ ap (λ (y : List Meant). y ++ orders_in mid.0) (queue_is n.early) in
-      let all : queued_by n.early ++ (orders_in mid.0 ++ last.set.order ∷ orders_in last.behind) ≡ queued_by n.early ++ (n.more ++ x.since) =
-      sym (append_assoc (queued_by n.early) (orders_in mid.0) (last.set.order ∷ orders_in last.behind)) ∙ ap (λ (y : List Meant). y ++ last.set.order ∷ orders_in last.behind) (sym front_is) ∙ sym (orders_append last.front (last.set ∷ last.behind))
-      ∙ ap orders_in (sym last.are) ∙ taken ∙ ap (λ (y : Core). y.taken) x.are_steps ∙ x.took ∙ ap (λ (y : List Meant). y ++ x.since) n.took ∙ append_assoc (queued_by n.early) n.more x.since in
-      let rest : orders_in mid.0 ++ last.set.order ∷ orders_in last.behind ≡ n.more ++ x.since = append_cancel_left (queued_by n.early) (orders_in mid.0 ++ last.set.order ∷ orders_in last.behind) (n.more ++ x.since) all in
-      let steps = step_parts oid (orders_in mid.0) (last.set.order ∷ orders_in last.behind) (subst (λ (y : List Meant). AllStepNot oid y) (sym rest) (step_both oid n.more x.since n.none none)) in
+      let front_is : orders_sent last.front ≡ queued_in_turns n.early ++ orders_sent mid.0 = ap orders_sent mid.1 ∙ orders_append (sent_by n.early) mid.0 ∙ ap (λ (y : List Meant). y ++ orders_sent mid.0) (queue_is n.early) in
+      let all : queued_in_turns n.early ++ (orders_sent mid.0 ++ last.set.order ∷ orders_sent last.behind) ≡ queued_in_turns n.early ++ (n.more ++ x.since) =
+      sym (append_assoc (queued_in_turns n.early) (orders_sent mid.0) (last.set.order ∷ orders_sent last.behind)) ∙ ap (λ (y : List Meant). y ++ last.set.order ∷ orders_sent last.behind) (sym front_is) ∙ sym (orders_append last.front (last.set ∷ last.behind))
+      ∙ ap orders_sent (sym last.are) ∙ taken ∙ ap (λ (y : Core). y.taken) x.are_steps ∙ x.took ∙ ap (λ (y : List Meant). y ++ x.since) n.took ∙ append_assoc (queued_in_turns n.early) n.more x.since in
+      let rest : orders_sent mid.0 ++ last.set.order ∷ orders_sent last.behind ≡ n.more ++ x.since = append_cancel_left (queued_in_turns n.early) (orders_sent mid.0 ++ last.set.order ∷ orders_sent last.behind) (n.more ++ x.since) all in
+      let steps = step_parts oid (orders_sent mid.0) (last.set.order ∷ orders_sent last.behind) (subst (λ (y : List Meant). AllStepNot oid y) (sym rest) (step_both oid n.more x.since n.none none)) in
       ap (λ (y : List Sent). (courses y oid).known.ends) last.are ∙ none_ends oid last.clock last.front last.set last.behind last.is last.none steps.1
 
-  section_settles : (q oid : ℕ) (done left : List Sent) → start ≤ q + 254 → q + 252 ≤ start → Now.board.controller.state ≡ Running → done ++ left ≡ sent_by turns → orders_in done ≡ Now.taken → LastSet oid q done
+  section_settles : (q oid : ℕ) (done left : List Sent) → start ≤ q + 254 → q + 252 ≤ start → Now.board.controller.state ≡ Running → done ++ left ≡ sent_by turns → orders_sent done ≡ Now.taken → LastSet oid q done
       → ((is_halted (board.stepper_at Now.board.controller oid) ≡ true) ⊎ ((courses done oid).known.ends ≡ [])) × ((steps : List Step) → StepsFindHalted oid Now steps)
   section_settles q oid done left soon late runs cut taken last =
       let x = since_of q oid done left soon late cut taken last in
@@ -563,7 +563,7 @@ module _ (m : Machine) (switches : List Switch) (pins : List (List Level)) (entr
       let ended = ended_finds oid x.mover (ran_steps x.steps Then on) in
       let Halts : Core → Type 0 = λ h. IsHalted (board.stepper_at h.board.controller oid) in
       let Finds : Core → Type 0 = λ h. (steps : List Step) → StepsFindHalted oid h steps in
-      let halted : IsHalted (board.stepper_at (run x.steps Then).board.controller oid) → is_halted (board.stepper_at Now.board.controller oid) ≡ true = λ is. halted_so (board.stepper_at Now.board.controller oid) (subst Halts (sym now_is) is) in (
+      let halted : IsHalted (board.stepper_at (run_world x.steps Then).board.controller oid) → is_halted (board.stepper_at Now.board.controller oid) ≡ true = λ is. halted_so (board.stepper_at Now.board.controller oid) (subst Halts (sym now_is) is) in (
         elim ended.0 [
           | inl is ↦ inl (halted (halted_stays oid x.steps Then x.since x.took x.sets is))
           | inr n ↦ elim (found_none oid x.steps Then x.since x.took x.sets (ended.1 x.steps) on) [
@@ -575,15 +575,15 @@ module _ (m : Machine) (switches : List Switch) (pins : List (List Level)) (entr
       )
 
   -- a command that is left is not of its set-up
-  none_left : (done front : List Sent) (s : Sent) (behind : List Sent) (oid clock : ℕ) → start ≤ s.turn + 254 → s.turn + 252 ≤ start → done ++ (front ++ s ∷ behind) ≡ sent_by turns → orders_in done ≡ Now.taken
+  none_left : (done front : List Sent) (s : Sent) (behind : List Sent) (oid clock : ℕ) → start ≤ s.turn + 254 → s.turn + 252 ≤ start → done ++ (front ++ s ∷ behind) ≡ sent_by turns → orders_sent done ≡ Now.taken
       → s.order.command ≡ cmd.ResetStepClock oid clock → ⊥
   none_left done front s behind oid clock soon late cut taken is =
       let t = takes_by oid (mover_of (done ++ front) s behind oid clock (append_assoc done front (s ∷ behind) ∙ cut) is soon late) in
       let mine : AreBoardTurns (clock_of (board_at m b)) First (hm.later ++ hm.past) = subst (λ (x : List BoardTurn). AreBoardTurns (clock_of (board_at m b)) First x) hm.are are in
       let later = taken_later (clock_of (board_at m b)) First hm.later hm.past mine in
       let flat : turns ≡ (hm.later ++ t.later) ++ t.past = hm.are ∙ ap (λ (x : List BoardTurn). hm.later ++ x) t.are ∙ sym (append_assoc hm.later t.later t.past) in
-      let took : orders_in done ≡ queued_by t.past ++ (t.more ++ later.0) =
-      taken ∙ ap (λ (x : List BoardTurn). (stands_after First x).core.taken) hm.are ∙ later.1 ∙ ap (λ (x : List Meant). x ++ later.0) t.took ∙ append_assoc (queued_by t.past) t.more later.0 in
+      let took : orders_sent done ≡ queued_in_turns t.past ++ (t.more ++ later.0) =
+      taken ∙ ap (λ (x : List BoardTurn). (stands_after First x).core.taken) hm.are ∙ later.1 ∙ ap (λ (x : List Meant). x ++ later.0) t.took ∙ append_assoc (queued_in_turns t.past) t.more later.0 in
       let from = left_from t.past (hm.later ++ t.later) done (front ++ s ∷ behind) (t.more ++ later.0) (cut ∙ ap sent_by flat) took in
       let low = none_from (length t.past) s front behind from in
       let queued = t.queued in
@@ -603,7 +603,7 @@ module _ (m : Machine) (switches : List Switch) (pins : List (List Level)) (entr
   abbrev Stands : ℕ → List Sent → Type 0
   Stands oid done = ((is_halted (board.stepper_at Here.board.controller oid) ≡ true) ⊎ ((courses done oid).known.ends ≡ [])) × ((steps : List Step) → StepsFindHalted oid Here steps)
 
-  stopped_stands : (oid : ℕ) (done left more : List Sent) (since : Option ℕ) → Here.board.controller.state ≡ Running → done ++ left ≡ sent_by turns → done ++ more ≡ front → orders_in done ≡ Here.taken → (courses done oid).since ≡ since
+  stopped_stands : (oid : ℕ) (done left more : List Sent) (since : Option ℕ) → Here.board.controller.state ≡ Running → done ++ left ≡ sent_by turns → done ++ more ≡ front → orders_sent done ≡ Here.taken → (courses done oid).since ≡ since
       → IsStopped stops (length turns) since → Stands oid done
   stopped_stands oid done left more None runs cut ahead taken e st = absurd st
   stopped_stands oid done left more (Some q) runs cut ahead taken e st = by_stop (stops q) refl st
@@ -624,7 +624,7 @@ module _ (m : Machine) (switches : List Switch) (pins : List (List Level)) (entr
           let x = homed q end low is f in
           section_settles m switches pins entries b x.0 end turns v are x.4 x.3 q oid done left x.1 x.2 runs cut taken last
 
-  left_stops : (done first : List Sent) (s : Sent) (behind : List Sent) (oid clock : ℕ) (o : Option ℕ) → done ++ (first ++ s ∷ behind) ≡ front → orders_in done ≡ Here.taken → s.order.command ≡ cmd.ResetStepClock oid clock → stops s.turn ≡ o
+  left_stops : (done first : List Sent) (s : Sent) (behind : List Sent) (oid clock : ℕ) (o : Option ℕ) → done ++ (first ++ s ∷ behind) ≡ front → orders_sent done ≡ Here.taken → s.order.command ≡ cmd.ResetStepClock oid clock → stops s.turn ≡ o
       → IsFrom (length turns) o → ⊥
   left_stops done first s behind oid clock None ahead taken is e st = st
   left_stops done first s behind oid clock (Some end) ahead taken is e st =

@@ -16,7 +16,7 @@ use Rattle.laws_board.specs.turns.Turns.{BoardTurn, stands_after}
 use Rattle.laws_board.specs.clocks.Runs.{IsInRun}
 use Rattle.laws_board.proofs.orders.Controlled.{few_on}
 use Rattle.laws_homing.specs.home_runs.Guards.{IsSole}
-use Rattle.laws_homing.specs.home_runs.Sections.{queued_by}
+use Rattle.laws_homing.specs.home_runs.Sections.{queued_in_turns}
 use Rattle.laws_homing.specs.home_runs.Stages.{no_stage}
 use Rattle.laws_homing.proofs.home_runs.Joining.{all_queued}
 use Rattle.laws_homing.proofs.home_runs.Staging.{commands_both, staged_after}
@@ -37,8 +37,8 @@ sole_after m switches pins entries b came turns v r runs =
     let o = ordered_after d pins b entries turns r.turns_are in
     let left = drop (length h.link.taken) h.queued in
     let rest : h.taken ++ left ≡ h.queued = ap (λ x. x ++ left) o.first ∙ take-append-drop (length h.link.taken) h.queued in
-    let all : Only j (commands_of (queued_by turns)) = queue_only j turns (run_only m switches pins entries b came turns v r) in
-    let queue : commands_of (queued_by turns) ≡ commands_of h.taken ++ commands_of left = ap commands_of (sym (rest ∙ all_queued d pins b entries turns r.turns_are)) ∙ commands_both h.taken left in
+    let all : Only j (commands_of (queued_in_turns turns)) = queue_only j turns (run_only m switches pins entries b came turns v r) in
+    let queue : commands_of (queued_in_turns turns) ≡ commands_of h.taken ++ commands_of left = ap commands_of (sym (rest ∙ all_queued d pins b entries turns r.turns_are)) ∙ commands_both h.taken left in
     let taken = (only_parts j (commands_of h.taken) (commands_of left) (subst (λ (l : List Cmd). Only j l) queue all)).0 in
     let many = staged.triggers in
     ((staged.staged runs).sole (grown 0 j no_stage (commands_of h.taken) taken refl).0, omega (arith, many))

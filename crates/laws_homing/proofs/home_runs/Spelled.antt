@@ -15,7 +15,7 @@ use Rattle.msg_code.specs.Table.{command, params_of, row_of}
 use Rattle.msg_code.specs.Text.{IsText, SpellsAll, params_text}
 use Rattle.msg_code.proofs.Sizes.{own_text}
 use Rattle.msg_code.proofs.Texts.{is_text, one_text}
-use Rattle.board_world.specs.World.{text_of}
+use Rattle.board_world.specs.World.{wire_text}
 use Rattle.laws_board.proofs.clocks.Uptimes.{own_row, row_back, same_row, small}
 
 -- the row of an answer, and how its parameters are spelled
@@ -32,7 +32,7 @@ cancel [] (q ∷ b) x y e f = absurd (cc)
 cancel (p ∷ a) [] x y e f = absurd (cc)
 cancel (p ∷ a) (q ∷ b) x y e f = cancel a b x y (cc) (cc)
 
-alike : (c told : Cmd) → IsText own_formats told (text_of c) → Alike c told
+alike : (c told : Cmd) → IsText own_formats told (wire_text c) → Alike c told
 alike c told t =
     let i = t.spelled in
     let id = own_id (row_of c) in
@@ -79,7 +79,7 @@ by_params ps x y qs j reason clock e s k l =
     (omega (arith, p, k), omega (arith, q, l))
 
 -- an answer that tells of a trigger is about this one, and tells that it can't trigger
-pub state_is : (a b r k j reason clock : ℕ) → a < 2 ^ 8 → b < 2 ^ 8 → IsText own_formats (cmd.TrsyncState j 0 reason clock) (text_of (cmd.TrsyncState a b r k)) → (a ≡ j) × (b ≡ 0)
+pub state_is : (a b r k j reason clock : ℕ) → a < 2 ^ 8 → b < 2 ^ 8 → IsText own_formats (cmd.TrsyncState j 0 reason clock) (wire_text (cmd.TrsyncState a b r k)) → (a ≡ j) × (b ≡ 0)
 state_is a b r k j reason clock l m t =
     let s = alike (cmd.TrsyncState a b r k) (cmd.TrsyncState j 0 reason clock) t in
     let n = two s.params s.rest a b (params_text (param.Number r ∷ param.Number k ∷ [])) (omega (arith, l)) (omega (arith, m)) s.spelled s.same in
@@ -89,18 +89,18 @@ state_is a b r k j reason clock l m t =
     (sym n.4 ∙ both.0, sym n.5 ∙ both.1)
 
 -- a command that has the bytes of another has its row
-pub same_kind : (c told : Cmd) → IsText own_formats told (text_of c) → row_of told ≡ row_of c
+pub same_kind : (c told : Cmd) → IsText own_formats told (wire_text c) → row_of told ≡ row_of c
 same_kind c told t = let s = alike c told t in ap row_of s.says ∙ row_back (row_of c) s.params
 
 whole_state : (a b r k x y z : ℕ) → x ≡ a → y ≡ b → z ≡ r → cmd.TrsyncState x y z k ≡ cmd.TrsyncState a b r k
 whole_state a b r k x y z e f g = cc
 
 -- the bytes of an answer that tells of a trigger, whose numbers fit, are its own
-pub own_state : (a b r k : ℕ) → a < 2 ^ 8 → b < 2 ^ 8 → r < 2 ^ 8 → k < 2 ^ 32 → IsText own_formats (cmd.TrsyncState a b r k) (text_of (cmd.TrsyncState a b r k))
+pub own_state : (a b r k : ℕ) → a < 2 ^ 8 → b < 2 ^ 8 → r < 2 ^ 8 → k < 2 ^ 32 → IsText own_formats (cmd.TrsyncState a b r k) (wire_text (cmd.TrsyncState a b r k))
 own_state a b r k la lb lr lk =
     let c = cmd.TrsyncState a b r k in
     let text = params_text (params_of c) in
-    is_text own_formats c (own_id row.TrsyncState) (spelling (own_id row.TrsyncState)) text (text_of c) (own_row row.TrsyncState)
+    is_text own_formats c (own_id row.TrsyncState) (spelling (own_id row.TrsyncState)) text (wire_text c) (own_row row.TrsyncState)
     (spelling_spells (own_id row.TrsyncState) (small row.TrsyncState))
     (record {
       first = spelling a;
@@ -123,9 +123,9 @@ own_state a b r k la lb lr lk =
     }) (own_text c) (whole_state a b r k (a % 2 ^ 8) (b % 2 ^ 8) (r % 2 ^ 8) (omega (arith, la)) (omega (arith, lb)) (omega (arith, lr)))
 
 -- and no other answer has them
-pub state_told : (a b r k oid can reason clock : ℕ) → a < 2 ^ 8 → b < 2 ^ 8 → r < 2 ^ 8 → k < 2 ^ 32 → IsText own_formats (cmd.TrsyncState oid can reason clock) (text_of (cmd.TrsyncState a b r k))
+pub state_told : (a b r k oid can reason clock : ℕ) → a < 2 ^ 8 → b < 2 ^ 8 → r < 2 ^ 8 → k < 2 ^ 32 → IsText own_formats (cmd.TrsyncState oid can reason clock) (wire_text (cmd.TrsyncState a b r k))
     → (oid ≡ a) × (can ≡ b) × (reason ≡ r) × (clock ≡ k)
 state_told a b r k oid can reason clock la lb lr lk t =
     let c = cmd.TrsyncState a b r k in
-    let same = one_text own_formats (cmd.TrsyncState oid can reason clock) c (text_of c) (text_of c) [] [] t (own_state a b r k la lb lr lk) refl in
+    let same = one_text own_formats (cmd.TrsyncState oid can reason clock) c (wire_text c) (wire_text c) [] [] t (own_state a b r k la lb lr lk) refl in
     same_state oid can reason clock a b r k same.1

@@ -21,8 +21,8 @@ use Rattle.msg_code.specs.declared.cmd.Cmd.TheVariants as cmd
 use Rattle.board_sim.specs.Board.{Controller, emptied, first_of, is_none_pending, is_shut, make_stepper, quiet, queue_step, refusal, reset, set_dir, slot_to, stepper_at, stop, takes_triple, with_stepper}
 use Rattle.board_sim.specs.Board as board
 use Rattle.board_sim.specs.Fair.{Meant, commands_of}
-use Rattle.board_sim.specs.Rig.{Rig, Slot, Passed, acts, acts_running, all_left, at_of, becomes, bind, earliest, expires_at_once, goes_on, halt, halts, happens_to, home, levels_of, make_endstop, make_trigger, pass, passes, passes_by, rests_to, runs_to, set_timeout, slot_at, start, takes, takes_all, trigger}
-use Rattle.board_sim.specs.Rig.{happens as rig_happens}
+use Rattle.board_sim.specs.Rig.{Rig, Slot, Passed, acts, acts_running, all_left, at_of, becomes, bind, earliest_moment, expires_at_once, goes_on, halt, halts, happens_to, home, levels_of, make_endstop, make_trigger, pass, passes, passes_by, rests_to, runs_to, set_timeout, slot_at, start_trigger, takes, takes_all, trigger}
+use Rattle.board_sim.specs.Rig.{happens_at as rig_happens}
 use Rattle.board_sim.specs.RigRuns.{IsThere, has}
 use Rattle.board_sim.proofs.Bound.{halts_all, halts_is, slot_range}
 use Rattle.board_sim.proofs.Enough.{none_at}
@@ -31,7 +31,7 @@ use Rattle.board_sim.proofs.RigShut.{all_left_by}
 use Rattle.board_sim.proofs.RigStates.{passes_state}
 use Rattle.board_world.specs.declared.event.Event.{Event}
 use Rattle.board_world.specs.declared.event.Event.TheVariants as event
-use Rattle.board_world.specs.World.{Core, Step, Do, Turn, happens, in_turn, run, start as start_core, takes_in}
+use Rattle.board_world.specs.World.{Core, Step, Do, Turn, after_event, in_turn, run_world, new_world as start_core, takes_in}
 use Rattle.link_work.specs.Stands.{first_state, orders}
 use Rattle.link_work.specs.Turn.{LinkState}
 use Rattle.link_work.proofs.Turns.{turns_are_steps}
@@ -285,7 +285,7 @@ end_places : (r : Rig) (oid pin : ℕ) (o : Option ℕ) → AsMany r.controller 
 end_places r oid pin None = refl
 end_places r oid pin (Some p) = refl
 
-start_places : (r : Rig) (oid : ℕ) (o : Option Slot) (clock every reason : ℕ) → AsMany r.controller (start r oid o clock every reason).controller
+start_places : (r : Rig) (oid : ℕ) (o : Option Slot) (clock every reason : ℕ) → AsMany r.controller (start_trigger r oid o clock every reason).controller
 start_places r oid None clock every reason = refl
 start_places r oid (Some s) clock every reason = becomes_places r oid s (trig.started r.controller.tick clock every reason s.trigger)
 
@@ -350,7 +350,7 @@ goes_steppers (Some at) r t rest e =
 pass_steppers : (n : ℕ) (r : Rig) (t : ℕ) → AsMany r.controller (pass n r t).rig.controller
 pass_steppers zero r t = refl
 pass_steppers (suc n) r t =
-    let next = earliest r t 0 r.triggers in
+    let next = earliest_moment r t 0 r.triggers in
     let first = (rig_happens r t (at_of next)).rig in
     goes_steppers next r t (pass n first t) (pass_steppers n first t)
 
@@ -416,7 +416,7 @@ took_in i j h ms li lj k = subst (λ (cs : List Cmd). StagedBy i j cs (takes_all
 none_in : (i j : ℕ) (h : Core) → StagedIn i j h → StagedBy i j (commands_of (h.taken ++ [])) h.board
 none_in i j h k = subst (λ (ms : List Meant). StagedBy i j (commands_of ms) h.board) (sym (append-nil h.taken)) k
 
-staged_by : (i j : ℕ) (h : Core) (e : Event) → i < 256 → j < 256 → StagedIn i j h → StagedIn i j (happens h e)
+staged_by : (i j : ℕ) (h : Core) (e : Event) → i < 256 → j < 256 → StagedIn i j h → StagedIn i j (after_event h e)
 staged_by i j h (event.Pass t) li lj k = subst (λ (ms : List Meant). StagedBy i j (commands_of ms) (passes h.board t).rig) (sym (append-nil h.taken)) (time_staged i j (commands_of h.taken) h.board t k)
 staged_by i j h event.Arrive li lj k = took_in i j h (takes_in h event.Arrive) li lj k
 staged_by i j h event.Repeat li lj k = took_in i j h (takes_in h event.Repeat) li lj k
@@ -429,9 +429,9 @@ staged_by i j h event.Garble li lj k = none_in i j h k
 staged_by i j h event.Reply li lj k = none_in i j h k
 staged_by i j h event.LoseReply li lj k = none_in i j h k
 
-pub staged_along : (i j : ℕ) (steps : List Step) (h : Core) → i < 256 → j < 256 → StagedIn i j h → StagedIn i j (run steps h)
+pub staged_along : (i j : ℕ) (steps : List Step) (h : Core) → i < 256 → j < 256 → StagedIn i j h → StagedIn i j (run_world steps h)
 staged_along i j [] h li lj k = k
-staged_along i j (Do e ∷ steps) h li lj k = staged_along i j steps (happens h e) li lj (staged_by i j h e li lj k)
+staged_along i j (Do e ∷ steps) h li lj k = staged_along i j steps (after_event h e) li lj (staged_by i j h e li lj k)
 staged_along i j (Turn turn ∷ steps) h li lj k = staged_along i j steps (in_turn h turn) li lj k
 
 -- a board to which nothing was told
@@ -459,7 +459,7 @@ staged_after b pins board entries (t ∷ before) i j li lj are =
     subst (λ (h : Core). StagedIn i j h) (sym steps.1) (staged_along i j steps.0 l.core li lj (staged_after b pins board entries before i j li lj are.1))
 
 -- a board that runs behind some turns ran before
-ran_event : (h : Core) (e : Event) → (happens h e).board.controller.state ≡ Running → h.board.controller.state ≡ Running
+ran_event : (h : Core) (e : Event) → (after_event h e).board.controller.state ≡ Running → h.board.controller.state ≡ Running
 ran_event h (event.Pass t) runs = sym (passes_state h.board t) ∙ runs
 ran_event h event.Arrive runs = ran_before h.board (commands_of (takes_in h event.Arrive)) runs
 ran_event h event.Repeat runs = ran_before h.board (commands_of (takes_in h event.Repeat)) runs
@@ -472,9 +472,9 @@ ran_event h event.Garble runs = runs
 ran_event h event.Reply runs = runs
 ran_event h event.LoseReply runs = runs
 
-pub ran_steps : (steps : List Step) (h : Core) → (run steps h).board.controller.state ≡ Running → h.board.controller.state ≡ Running
+pub ran_steps : (steps : List Step) (h : Core) → (run_world steps h).board.controller.state ≡ Running → h.board.controller.state ≡ Running
 ran_steps [] h runs = runs
-ran_steps (Do e ∷ steps) h runs = ran_event h e (ran_steps steps (happens h e) runs)
+ran_steps (Do e ∷ steps) h runs = ran_event h e (ran_steps steps (after_event h e) runs)
 ran_steps (Turn turn ∷ steps) h runs = ran_steps steps (in_turn h turn) runs
 
 pub ran_turns : (clock : BoardClock) (first : LinkState) (window past : List BoardTurn) → AreBoardTurns clock first (window ++ past) → (stands_after first (window ++ past)).core.board.controller.state ≡ Running

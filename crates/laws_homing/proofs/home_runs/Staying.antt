@@ -12,7 +12,7 @@ use Rattle.board_sim.proofs.RigCommands.{IsIn}
 use Rattle.board_sim.proofs.RigPlaces.{halted_is, is_halted}
 use Rattle.board_world.specs.declared.event.Event.{Event}
 use Rattle.board_world.specs.declared.event.Event.TheVariants as event
-use Rattle.board_world.specs.World.{Core, Step, Do, Turn, does, happens, in_turn, run, takes_in}
+use Rattle.board_world.specs.World.{Core, Step, Do, Turn, does, after_event, in_turn, run_world, takes_in}
 use Rattle.link_work.specs.Stands.{orders}
 use Rattle.link_work.specs.Turn.{LinkState}
 use Rattle.link_work.proofs.Turns.{turns_are_steps}
@@ -52,23 +52,23 @@ stay_by i h event.Reply n is = is
 stay_by i h event.LoseReply n is = is
 
 -- what steps take
-unfoldable pub steps_take : (steps : List Step) (h : Core) → (ms : List Meant) × ((run steps h).taken ≡ h.taken ++ ms)
+unfoldable pub steps_take : (steps : List Step) (h : Core) → (ms : List Meant) × ((run_world steps h).taken ≡ h.taken ++ ms)
 steps_take [] h = ([], sym (append-nil h.taken))
-steps_take (Do e ∷ steps) h = let rest = steps_take steps (happens h e) in (takes_in h e ++ rest.0, rest.1 ∙ append_assoc h.taken (takes_in h e) rest.0)
+steps_take (Do e ∷ steps) h = let rest = steps_take steps (after_event h e) in (takes_in h e ++ rest.0, rest.1 ∙ append_assoc h.taken (takes_in h e) rest.0)
 steps_take (Turn turn ∷ steps) h = steps_take steps (in_turn h turn)
 
-pub steps_stay : (i : ℕ) (steps : List Step) (h : Core) → AllSetNot i (steps_take steps h).0 → IsIn true i h.board.controller → IsIn true i (run steps h).board.controller
+pub steps_stay : (i : ℕ) (steps : List Step) (h : Core) → AllSetNot i (steps_take steps h).0 → IsIn true i h.board.controller → IsIn true i (run_world steps h).board.controller
 unfolding steps_take
 steps_stay i [] h n is = is
-steps_stay i (Do e ∷ steps) h n is = let both = not_parts i (takes_in h e) (steps_take steps (happens h e)).0 n in steps_stay i steps (happens h e) both.1 (stay_by i h e both.0 is)
+steps_stay i (Do e ∷ steps) h n is = let both = not_parts i (takes_in h e) (steps_take steps (after_event h e)).0 n in steps_stay i steps (after_event h e) both.1 (stay_by i h e both.0 is)
 steps_stay i (Turn turn ∷ steps) h n is = steps_stay i steps (in_turn h turn) n is
 
 -- over some steps, as far as what they take doesn't set the clock
-pub halted_stays : (i : ℕ) (steps : List Step) (h : Core) (ms : List Meant) → (run steps h).taken ≡ h.taken ++ ms → AllSetNot i ms → IsHalted (stepper_at h.board.controller i) → IsHalted (stepper_at (run steps h).board.controller i)
+pub halted_stays : (i : ℕ) (steps : List Step) (h : Core) (ms : List Meant) → (run_world steps h).taken ≡ h.taken ++ ms → AllSetNot i ms → IsHalted (stepper_at h.board.controller i) → IsHalted (stepper_at (run_world steps h).board.controller i)
 halted_stays i steps h ms e n is =
     let took = steps_take steps h in
     let same : took.0 ≡ ms = append_cancel_left h.taken took.0 ms (sym took.1 ∙ e) in
-    is_halted (stepper_at (run steps h).board.controller i)
+    is_halted (stepper_at (run_world steps h).board.controller i)
     (steps_stay i steps h (subst (λ (x : List Meant). AllSetNot i x) (sym same) n) (halted_is (stepper_at h.board.controller i) is))
 
 -- what a board takes over some turns

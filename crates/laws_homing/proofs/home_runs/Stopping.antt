@@ -13,10 +13,10 @@ use Rattle.msg_code.specs.declared.cmd.Cmd.{Cmd}
 use Rattle.msg_code.specs.declared.cmd.Cmd.TheVariants as cmd
 use Rattle.board_sim.specs.Fair.{Meant, commands_of}
 use Rattle.board_sim.specs.Rig.{Rig, Slot, all_left, pass, slot_at, takes, takes_all}
-use Rattle.board_sim.specs.RigRuns.{AllBefore, AreBehind, IsBehind, Passes, RigStep, Takes, all_made, rig_after, rig_after_all}
+use Rattle.board_sim.specs.RigRuns.{AllBefore, AreBehindSetUp, IsBehindSetUp, Passes, RigStep, Takes, all_made, rig_after, rig_after_all}
 use Rattle.board_world.specs.declared.event.Event.{Event}
 use Rattle.board_world.specs.declared.event.Event.TheVariants as event
-use Rattle.board_world.specs.World.{Core, Do, Step, Turn, does, happens, in_turn, run, takes_in}
+use Rattle.board_world.specs.World.{Core, Do, Step, Turn, does, after_event, in_turn, run_world, takes_in}
 use Rattle.link_work.specs.Stands.{orders}
 use Rattle.link_work.specs.Turn.{IsTurn, LinkState, Orders, after_board, after_host, after_replies, come, comes, host_steps}
 use Rattle.link_work.proofs.Sending.{run_append}
@@ -36,17 +36,17 @@ rig_in h e = map Takes (commands_of (takes_in h e))
 
 abbrev pub rig_steps : List Step → Core → List RigStep
 rig_steps [] h = []
-rig_steps (Do e ∷ steps) h = rig_in h e ++ rig_steps steps (happens h e)
+rig_steps (Do e ∷ steps) h = rig_in h e ++ rig_steps steps (after_event h e)
 rig_steps (Turn turn ∷ steps) h = rig_steps steps (in_turn h turn)
 
 abbrev pub took : List Step → Core → List Meant
 took [] h = []
-took (Do e ∷ steps) h = takes_in h e ++ took steps (happens h e)
+took (Do e ∷ steps) h = takes_in h e ++ took steps (after_event h e)
 took (Turn turn ∷ steps) h = took steps (in_turn h turn)
 
-pub took_is : (steps : List Step) (h : Core) → (run steps h).taken ≡ h.taken ++ took steps h
+pub took_is : (steps : List Step) (h : Core) → (run_world steps h).taken ≡ h.taken ++ took steps h
 took_is [] h = sym (append-nil h.taken)
-took_is (Do e ∷ steps) h = took_is steps (happens h e) ∙ append_assoc h.taken (takes_in h e) (took steps (happens h e))
+took_is (Do e ∷ steps) h = took_is steps (after_event h e) ∙ append_assoc h.taken (takes_in h e) (took steps (after_event h e))
 took_is (Turn turn ∷ steps) h = took_is steps (in_turn h turn)
 
 -- the board behind it, and its pulses
@@ -81,27 +81,27 @@ made_both (Passes n t ∷ xs) ys r =
     ap (λ (ps : List Pulse). (pass n r t).pulses ++ ps) (made_both xs ys (rig_after r (Passes n t)))
     ∙ sym (append_assoc (pass n r t).pulses (all_made xs (rig_after r (Passes n t))) (all_made ys (rig_after_all xs (rig_after r (Passes n t)))))
 
-pub steps_board : (steps : List Step) (h : Core) → (run steps h).board ≡ rig_after_all (rig_steps steps h) h.board
+pub steps_board : (steps : List Step) (h : Core) → (run_world steps h).board ≡ rig_after_all (rig_steps steps h) h.board
 steps_board [] h = refl
 steps_board (Do e ∷ steps) h =
-    let rest = rig_steps steps (happens h e) in
-    steps_board steps (happens h e) ∙ ap (rig_after_all rest) (event_board h e) ∙ sym (after_both (rig_in h e) rest h.board)
+    let rest = rig_steps steps (after_event h e) in
+    steps_board steps (after_event h e) ∙ ap (rig_after_all rest) (event_board h e) ∙ sym (after_both (rig_in h e) rest h.board)
 steps_board (Turn turn ∷ steps) h = steps_board steps (in_turn h turn)
 
-pub steps_made : (steps : List Step) (h : Core) → (run steps h).made ≡ h.made ++ all_made (rig_steps steps h) h.board
+pub steps_made : (steps : List Step) (h : Core) → (run_world steps h).made ≡ h.made ++ all_made (rig_steps steps h) h.board
 steps_made [] h = sym (append-nil h.made)
 steps_made (Do e ∷ steps) h =
-    let g = happens h e in
+    let g = after_event h e in
     let rest = rig_steps steps g in
     steps_made steps g ∙ append_assoc h.made (does h e).pulses (all_made rest g.board)
     ∙ ap (λ (ps : List Pulse). h.made ++ ps)
     (ap (λ (ps : List Pulse). ps ++ all_made rest g.board) (event_made h e) ∙ ap (λ (r : Rig). all_made (rig_in h e) h.board ++ all_made rest r) (event_board h e) ∙ sym (made_both (rig_in h e) rest h.board))
 steps_made (Turn turn ∷ steps) h = steps_made steps (in_turn h turn)
 
-pub rig_append : (xs ys : List Step) (h : Core) → rig_steps (xs ++ ys) h ≡ rig_steps xs h ++ rig_steps ys (run xs h)
+pub rig_append : (xs ys : List Step) (h : Core) → rig_steps (xs ++ ys) h ≡ rig_steps xs h ++ rig_steps ys (run_world xs h)
 rig_append [] ys h = refl
 rig_append (Do e ∷ xs) ys h =
-    ap (λ (l : List RigStep). rig_in h e ++ l) (rig_append xs ys (happens h e)) ∙ sym (append_assoc (rig_in h e) (rig_steps xs (happens h e)) (rig_steps ys (run xs (happens h e))))
+    ap (λ (l : List RigStep). rig_in h e ++ l) (rig_append xs ys (after_event h e)) ∙ sym (append_assoc (rig_in h e) (rig_steps xs (after_event h e)) (rig_steps ys (run_world xs (after_event h e))))
 rig_append (Turn turn ∷ xs) ys h = rig_append xs ys (in_turn h turn)
 
 -- while the board stands it only takes commands
@@ -115,41 +115,41 @@ takes_both xs ys = ap (map Takes) (commands_both xs ys) ∙ map-append Takes (co
 pub held_steps : (steps : List Step) (h : Core) → AllHold steps → rig_steps steps h ≡ map Takes (commands_of (took steps h))
 held_steps [] h k = refl
 held_steps (Do e ∷ steps) h k =
-    ap (λ (l : List RigStep). l ++ rig_steps steps (happens h e)) (held_in h e k.0) ∙ ap (λ (l : List RigStep). map Takes (commands_of (takes_in h e)) ++ l) (held_steps steps (happens h e) k.1)
-    ∙ sym (takes_both (takes_in h e) (took steps (happens h e)))
+    ap (λ (l : List RigStep). l ++ rig_steps steps (after_event h e)) (held_in h e k.0) ∙ ap (λ (l : List RigStep). map Takes (commands_of (takes_in h e)) ++ l) (held_steps steps (after_event h e) k.1)
+    ∙ sym (takes_both (takes_in h e) (took steps (after_event h e)))
 held_steps (Turn turn ∷ steps) h k = held_steps steps (in_turn h turn) k.1
 
 -- what is taken neither starts the trigger nor sets the clock
 abbrev pub EachBehind : ℕ → ℕ → List Meant → Type 0
 EachBehind i j [] = Unit {0}
-EachBehind i j (m ∷ ms) = IsBehind i j m.command × EachBehind i j ms
+EachBehind i j (m ∷ ms) = IsBehindSetUp i j m.command × EachBehind i j ms
 
 pub behind_parts : (i j : ℕ) (xs ys : List Meant) → EachBehind i j (xs ++ ys) → EachBehind i j xs × EachBehind i j ys
 behind_parts i j [] ys b = (tt, b)
 behind_parts i j (x ∷ xs) ys b = let parts = behind_parts i j xs ys b.1 in ((b.0, parts.0), parts.1)
 
-pub behind_both : (i j : ℕ) (xs ys : List RigStep) → AreBehind i j xs → AreBehind i j ys → AreBehind i j (xs ++ ys)
+pub behind_both : (i j : ℕ) (xs ys : List RigStep) → AreBehindSetUp i j xs → AreBehindSetUp i j ys → AreBehindSetUp i j (xs ++ ys)
 behind_both i j [] ys a b = b
 behind_both i j (Takes c ∷ xs) ys a b = (a.0, behind_both i j xs ys a.1 b)
 behind_both i j (Passes n t ∷ xs) ys a b = behind_both i j xs ys a b
 
-pub takes_behind : (i j : ℕ) (ms : List Meant) → EachBehind i j ms → AreBehind i j (map Takes (commands_of ms))
+pub takes_behind : (i j : ℕ) (ms : List Meant) → EachBehind i j ms → AreBehindSetUp i j (map Takes (commands_of ms))
 takes_behind i j [] b = tt
 takes_behind i j (m ∷ ms) b = (b.0, takes_behind i j ms b.1)
 
-time_behind : (i j n t : ℕ) (b : Bool) → AreBehind i j (cond b (Passes n t ∷ []) [])
+time_behind : (i j n t : ℕ) (b : Bool) → AreBehindSetUp i j (cond b (Passes n t ∷ []) [])
 time_behind i j n t true = tt
 time_behind i j n t false = tt
 
-event_behind : (i j : ℕ) (h : Core) (e : Event) → EachBehind i j (takes_in h e) → AreBehind i j (rig_in h e)
+event_behind : (i j : ℕ) (h : Core) (e : Event) → EachBehind i j (takes_in h e) → AreBehindSetUp i j (rig_in h e)
 event_behind i j h (event.Pass t) b = time_behind i j (all_left t h.board.triggers + 1) t (nat_le h.board.controller.tick t)
 event_behind i j h e b = takes_behind i j (takes_in h e) b
 
-steps_behind : (i j : ℕ) (steps : List Step) (h : Core) → EachBehind i j (took steps h) → AreBehind i j (rig_steps steps h)
+steps_behind : (i j : ℕ) (steps : List Step) (h : Core) → EachBehind i j (took steps h) → AreBehindSetUp i j (rig_steps steps h)
 steps_behind i j [] h b = tt
 steps_behind i j (Do e ∷ steps) h b =
-    let parts = behind_parts i j (takes_in h e) (took steps (happens h e)) b in
-    behind_both i j (rig_in h e) (rig_steps steps (happens h e)) (event_behind i j h e parts.0) (steps_behind i j steps (happens h e) parts.1)
+    let parts = behind_parts i j (takes_in h e) (took steps (after_event h e)) b in
+    behind_both i j (rig_in h e) (rig_steps steps (after_event h e)) (event_behind i j h e parts.0) (steps_behind i j steps (after_event h e) parts.1)
 steps_behind i j (Turn turn ∷ steps) h b = steps_behind i j steps (in_turn h turn) b
 
 -- steps that take nothing
@@ -159,7 +159,7 @@ TakesNone (Turn turn) = Unit {0}
 
 pub took_none : (steps : List Step) (h : Core) → AllOf TakesNone steps → took steps h ≡ []
 took_none [] h k = refl
-took_none (Do e ∷ steps) h k = ap (λ (ms : List Meant). ms ++ took steps (happens h e)) (k.0 h) ∙ took_none steps (happens h e) k.1
+took_none (Do e ∷ steps) h k = ap (λ (ms : List Meant). ms ++ took steps (after_event h e)) (k.0 h) ∙ took_none steps (after_event h e) k.1
 took_none (Turn turn ∷ steps) h k = took_none steps (in_turn h turn) k.1
 
 replies_none : (fate : Fate) → AllOf TakesNone (comes Up fate)
@@ -174,7 +174,7 @@ pub record TurnParts (l m : LinkState) : Type 0 where
   pub on : List Step
   pub holds : AllHold held
   pub none : AllOf TakesNone on
-  pub is : m.core ≡ run on (run held l.core)
+  pub is : m.core ≡ run_world on (run_world held l.core)
 
 parts_same : (clock : BoardClock) (turn : ℕ) (o : Orders) (resent : Bool) (l : LinkState) → TurnParts l (after_replies turn (after_board clock turn (after_host turn o resent l)))
 parts_same clock turn o resent l =
@@ -188,21 +188,21 @@ parts_same clock turn o resent l =
       on = pass ++ up;
       holds = all_append Holds (host_steps turn o resent) down (host_holds turn o resent) (come_holds Down turn l1.down.copies);
       none = (λ h. refl, all_come TakesNone Up replies_none turn l2.up.copies);
-      is = sym (ap (λ (h : Core). run up (run pass h)) (run_append (host_steps turn o resent) down l.core) ∙ ap (λ (h : Core). run up h) (sym (run_append down pass l1.core)));
+      is = sym (ap (λ (h : Core). run_world up (run_world pass h)) (run_append (host_steps turn o resent) down l.core) ∙ ap (λ (h : Core). run_world up h) (sym (run_append down pass l1.core)));
     }
 
 pub turn_parts : (clock : BoardClock) (turn : ℕ) (o : Orders) (l m : LinkState) → IsTurn clock turn o l m → TurnParts l m
 turn_parts clock turn o l m t = subst (λ (x : LinkState). TurnParts l x) (sym t.becomes) (parts_same clock turn o t.resent l)
 
 -- turns behind some others, as steps
-pub later_steps : (clock : BoardClock) (first : LinkState) (later past : List BoardTurn) → AreBoardTurns clock first (later ++ past) → (steps : List Step) × ((stands_after first (later ++ past)).core ≡ run steps (stands_after first past).core)
+pub later_steps : (clock : BoardClock) (first : LinkState) (later past : List BoardTurn) → AreBoardTurns clock first (later ++ past) → (steps : List Step) × ((stands_after first (later ++ past)).core ≡ run_world steps (stands_after first past).core)
 later_steps clock first [] past are = ([], refl)
 later_steps clock first (t ∷ later) past are =
     let before = later ++ past in
     let l = stands_after first before in
     let rest = later_steps clock first later past are.1 in
     let steps = turns_are_steps clock (length before) (orders t.control t.batch ∷ []) l t.after (t.after, are.0.0, refl) in
-    (rest.0 ++ steps.0, steps.1 ∙ ap (λ (h : Core). run steps.0 h) rest.1 ∙ sym (run_append rest.0 steps.0 (stands_after first past).core))
+    (rest.0 ++ steps.0, steps.1 ∙ ap (λ (h : Core). run_world steps.0 h) rest.1 ∙ sym (run_append rest.0 steps.0 (stands_after first past).core))
 
 -- a list that begins with another
 cons_is : {A : Type 0} (x y : A) (xs ys : List A) → x ∷ xs ≡ y ∷ ys → (x ≡ y) × (xs ≡ ys)
@@ -220,7 +220,7 @@ fits (x ∷ xs) new (y ∷ front) rest e l =
 abbrev pub HasWhereRuns : ℕ → ℕ → Rig → Type 0
 HasWhereRuns i j r = r.controller.state ≡ Running → HasBoth i j r
 
-stops_by : (r : Rig) (steps : List RigStep) (i j : ℕ) (s : Slot) → HasWhereRuns i j r → AreBehind i j steps → slot_at (rig_after_all (Takes (cmd.StepperStopOnTrigger i j) ∷ steps) r) j ≡ Some s → s.trigger.can ≡ false
+stops_by : (r : Rig) (steps : List RigStep) (i j : ℕ) (s : Slot) → HasWhereRuns i j r → AreBehindSetUp i j steps → slot_at (rig_after_all (Takes (cmd.StepperStopOnTrigger i j) ∷ steps) r) j ≡ Some s → s.trigger.can ≡ false
     → AllBefore i s.trigger.tick (all_made (Takes (cmd.StepperStopOnTrigger i j) ∷ steps) r)
 stops_by r steps i j s has apart at fired = elim (runs_or_shut r) [
   | inl runs ↦ halts_there r steps i j s (has runs) apart at fired
@@ -239,11 +239,11 @@ stops_in_turns clock first later t past i j front bind behind s are taken is her
     let rest = later_steps clock first later (t ∷ past) are in
     let mine = turns_at later are in
     let p = turn_parts clock (length past) (orders t.control t.batch) l t.after mine in
-    let g = run p.held h in
+    let g = run_world p.held h in
     let tail = p.on ++ rest.0 in
     let all = p.held ++ tail in
-    let last : (stands_after first (later ++ t ∷ past)).core ≡ run all h =
-    rest.1 ∙ ap (λ (x : Core). run rest.0 x) p.is ∙ sym (run_append p.on rest.0 g) ∙ sym (run_append p.held tail h) in
+    let last : (stands_after first (later ++ t ∷ past)).core ≡ run_world all h =
+    rest.1 ∙ ap (λ (x : Core). run_world rest.0 x) p.is ∙ sym (run_append p.on rest.0 g) ∙ sym (run_append p.held tail h) in
     let new = took p.held h in
     let new_is : g.taken ≡ h.taken ++ new = took_is p.held h in
     let same : t.after.core.taken ≡ g.taken = ap (λ (x : Core). x.taken) p.is ∙ took_is p.on g ∙ ap (λ (ms : List Meant). g.taken ++ ms) (took_none p.on g p.none) ∙ append-nil g.taken in

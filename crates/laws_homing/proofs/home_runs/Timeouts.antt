@@ -45,14 +45,14 @@ use Rattle.board_asking.specs.Machine.{trigger_of}
 use Rattle.host_reactor.specs.declared.ordered.Known.{Known}
 use Rattle.host_reactor.specs.declared.ordered.Phase.TheVariants.{Connecting}
 use Rattle.host_reactor.specs.Reactor.{Reacted, homing_commands, stop_command, stops}
-use Rattle.host_reactor.specs.Runs.{Came, known_by, last_turn}
+use Rattle.host_reactor.specs.Runs.{Came, known_by, last_reacted}
 use Rattle.laws_board.specs.turns.Turns.{AreBoardTurns, BoardTurn, stands_after}
 use Rattle.laws_board.specs.clocks.Runs.{IsInRun}
 use Rattle.laws_board.proofs.clocks.Clocked.{own_clocks}
 use Rattle.laws_board.proofs.clocks.Lines.{as_long, noted_phase, run_before, turn_of}
 use Rattle.laws_board.proofs.clocks.Turning.{Asks, BoardTurned, Ends, Runs}
 use Rattle.laws_homing.proofs.clear_boards.Clocking.{lines_up}
-use Rattle.laws_homing.specs.home_runs.Sections.{HomesFrom, queued_by}
+use Rattle.laws_homing.specs.home_runs.Sections.{HomesFrom, queued_in_turns}
 use Rattle.laws_homing.specs.home_runs.SetUps.{IsBoundIn, StopsAt}
 use Rattle.laws_homing.specs.home_runs.Timeouts.{BeginsBy, EndsWith, SendsTimeout, TakesInTime, TakesSent, known_in}
 use Rattle.laws_homing.proofs.clear_boards.Keeping.{hears_keep}
@@ -235,7 +235,7 @@ module _ (m : Machine) (switches : List Switch) (pins : List (List Level)) (entr
       let x = turn_of m switches pins entries b c before t turns r in
       let known = known_by m switches before in
       let now = known_in m switches c before in
-      let control = control_sent c before now x.a (last_turn m switches c before) t refl late
+      let control = control_sent c before now x.a (last_reacted m switches c before) t refl late
       (connecting_not now known (noted_phase m c.note known) n) x.turned in
       subst (λ (l : List Cmd). AreSent j (Sent (c ∷ before)) l) (sym (turn_commands t))
       (sent_both j (Sent (c ∷ before)) t.control.commands (commands_of (units_orders t.batch.units)) control
@@ -244,13 +244,13 @@ module _ (m : Machine) (switches : List Switch) (pins : List (List Level)) (entr
   -- what is queued in the section
   record QueuedSent (came : List Came) (later early : List BoardTurn) : Type 0 where
     new : List Meant
-    is : queued_by (later ++ early) ≡ queued_by early ++ new
+    is : queued_in_turns (later ++ early) ≡ queued_in_turns early ++ new
     sent : AreSent (trigger_of m b) (Sent came) (commands_of new)
 
   queued_sent : (start : ℕ) (ms : List Member) (came : List Came) (later early : List BoardTurn)
       → IsInRun m switches pins entries b came (later ++ early) → HomesFrom m switches from start ms came
       → length early ≡ from → QueuedSent came later early
-  queued_sent start ms came [] early r homes long = record { new = []; is = sym (append-nil (queued_by early)); sent = tt }
+  queued_sent start ms came [] early r homes long = record { new = []; is = sym (append-nil (queued_in_turns early)); sent = tt }
   queued_sent start ms [] (t ∷ later) early r homes long = absurd r.both
   queued_sent start ms (c ∷ before) (t ∷ later) early r homes long =
       let j = trigger_of m b in
@@ -262,7 +262,7 @@ module _ (m : Machine) (switches : List Switch) (pins : List (List Level)) (entr
       let new = queued_in (orders t.control t.batch) in
       record {
         new = past.new ++ new;
-        is = ap (λ (l : List Meant). l ++ new) past.is ∙ append_assoc (queued_by early) past.new new;
+        is = ap (λ (l : List Meant). l ++ new) past.is ∙ append_assoc (queued_in_turns early) past.new new;
         sent = subst (λ (l : List Cmd). AreSent j (Sent (c ∷ before)) l) (sym (commands_both past.new new))
             (sent_both j (Sent (c ∷ before)) (commands_of past.new) (commands_of new)
             (sent_more j (Sent before) (Sent (c ∷ before)) (commands_of past.new) (λ n x. inr x) past.sent)
@@ -271,7 +271,7 @@ module _ (m : Machine) (switches : List Switch) (pins : List (List Level)) (entr
 
   -- what is taken was queued
   taken_of : (turns : List BoardTurn) → AreBoardTurns (clock_of (board_at m b)) First turns
-      → (left : List Meant) × ((stands_after First turns).core.taken ++ left ≡ queued_by turns)
+      → (left : List Meant) × ((stands_after First turns).core.taken ++ left ≡ queued_in_turns turns)
   taken_of turns are =
       let d = board_at m b in
       let h = (stands_after First turns).core in
@@ -281,18 +281,18 @@ module _ (m : Machine) (switches : List Switch) (pins : List (List Level)) (entr
 
   reads_early : (own : ℕ → ℕ) (j most n : ℕ) (turns : List BoardTurn)
       → AreBoardTurns (clock_of (board_at m b)) First turns
-      → length (queued_by turns) ≤ n → ReadsAtMost own j most n First turns
+      → length (queued_in_turns turns) ≤ n → ReadsAtMost own j most n First turns
   reads_early own j most n [] are few = tt
   reads_early own j most n (t ∷ before) are few =
       let new = queued_in (orders t.control t.batch) in
-      let more = length-append (queued_by before) new in
+      let more = length-append (queued_in_turns before) new in
       let x = taken_of (t ∷ before) are in
       let whole = ap length x.1 in
       let parts = length-append t.after.core.taken x.0 in (
         λ front one behind e low far.
             let size = ap length e in
             let sum = length-append front (one ∷ behind) in
-            absurd (too_many (length front) (length behind) (length t.after.core.taken) (length x.0) n (length (queued_by (t ∷ before))) size sum parts whole few far),
+            absurd (too_many (length front) (length behind) (length t.after.core.taken) (length x.0) n (length (queued_in_turns (t ∷ before))) size sum parts whole few far),
         reads_early own j most n before are.1 (omega (arith, few, more)),
       )
     where
@@ -304,9 +304,9 @@ module _ (m : Machine) (switches : List Switch) (pins : List (List Level)) (entr
       → IsInRun m switches pins entries b came (later ++ early) → HomesFrom m switches from start ms came
       → length early ≡ from
       → ((tick : ℕ) → Sent came tick → tick ≤ most)
-      → TakesInTime own (trigger_of m b) (length (queued_by early)) (Sent came) First (later ++ early)
-      → ReadsAtMost own (trigger_of m b) most (length (queued_by early)) First (later ++ early)
-  reads own most start ms came [] early r homes long low soon = reads_early own (trigger_of m b) most (length (queued_by early)) early r.turns_are (omega arith)
+      → TakesInTime own (trigger_of m b) (length (queued_in_turns early)) (Sent came) First (later ++ early)
+      → ReadsAtMost own (trigger_of m b) most (length (queued_in_turns early)) First (later ++ early)
+  reads own most start ms came [] early r homes long low soon = reads_early own (trigger_of m b) most (length (queued_in_turns early)) early r.turns_are (omega arith)
   reads own most start ms [] (t ∷ later) early r homes long low soon = absurd r.both
   reads own most start ms (c ∷ before) (t ∷ later) early r homes long low soon =
       let j = trigger_of m b in
@@ -314,15 +314,15 @@ module _ (m : Machine) (switches : List Switch) (pins : List (List Level)) (entr
       let q = queued_sent start ms (c ∷ before) (t ∷ later) early r homes long in
       let x = taken_of (t ∷ turns) r.turns_are in (
         λ front one behind e some far.
-            let all : queued_by early ++ q.new ≡ front ++ one ∷ (behind ++ x.0) =
+            let all : queued_in_turns early ++ q.new ≡ front ++ one ∷ (behind ++ x.0) =
             sym q.is ∙ sym x.1 ∙ ap (λ (l : List Meant). l ++ x.0) e ∙ append_assoc front (one ∷ behind) x.0 in
-            let f = fits (queued_by early) q.new front (one ∷ (behind ++ x.0)) all far in
+            let f = fits (queued_in_turns early) q.new front (one ∷ (behind ++ x.0)) all far in
             let here = subst (λ (l : List Meant). AreSent j (Sent (c ∷ before)) (commands_of l)) f.2 q.sent in
             reads_low (own (length turns)) j most (Sent (c ∷ before)) one.command
             (sent_at j (Sent (c ∷ before)) f.0 one (behind ++ x.0) here) low
             (λ tick is sent. soon.0 front one behind tick e some far is sent),
         reads own most start ms before later early (run_before m switches pins entries b c before t turns r) homes.1 long
-            (λ tick sent. low tick (inr sent)) (weaker own (length (queued_by early)) turns (Sent before) (Sent (c ∷ before)) (λ tick sent. inr sent) soon.1),
+            (λ tick sent. low tick (inr sent)) (weaker own (length (queued_in_turns early)) turns (Sent before) (Sent (c ∷ before)) (λ tick sent. inr sent) soon.1),
       )
     where
       weaker : (own : ℕ → ℕ) (n : ℕ) (turns : List BoardTurn) (P Q : ℕ → Type 0) → ((tick : ℕ) → P tick → Q tick)
@@ -398,7 +398,7 @@ pub stops_under : (m : Machine) (switches : List Switch) (pins : List (List Leve
     → StopsAt m pins entries b s most (later ++ t ∷ (between ++ early)) (between ++ early)
 stops_under m switches pins entries b s came later t between early from start turn most ms v x soon within begins =
     let own = board_tick (clock_of (board_at m b)) in
-    let n = length (queued_by early) in
+    let n = length (queued_in_turns early) in
     let first = first_state (board_at m b) pins b entries in
     let same : (later ++ t ∷ between) ++ early ≡ later ++ t ∷ (between ++ early) = append_assoc later (t ∷ between) early in
     let In : List BoardTurn → Type 0 = λ l. TakesInTime own (trigger_of m b) n (λ tick. SendsTimeout m switches b (length early) tick came) first l in

@@ -12,12 +12,12 @@ use Rattle.msg_code.specs.declared.cmd.Cmd.{Cmd}
 use Rattle.msg_code.specs.declared.cmd.Cmd.TheVariants as cmd
 use Rattle.board_sim.specs.Fair.{Meant, commands_of}
 use Rattle.board_sim.specs.Rig.{Rig, all_left, pass, passes, takes}
-use Rattle.board_sim.specs.RigRuns.{AllBefore, AllSound, AreBehind, AreTimely, IsBehind, IsTimely, Passes, RigStep, Takes, all_made, rig_after, rig_after_all}
+use Rattle.board_sim.specs.RigRuns.{AllBefore, AllSound, AreBehindSetUp, AreTimely, IsBehindSetUp, IsTimely, Passes, RigStep, Takes, all_made, rig_after, rig_after_all}
 use Rattle.board_sim.proofs.RigStates.{all_tick}
 use Rattle.board_sim.proofs.Sound.{passes_sound, takes_sound}
 use Rattle.board_world.specs.declared.event.Event.{Event}
 use Rattle.board_world.specs.declared.event.Event.TheVariants as event
-use Rattle.board_world.specs.World.{Core, Do, Step, Turn, happens, in_turn, run, takes_in}
+use Rattle.board_world.specs.World.{Core, Do, Step, Turn, after_event, in_turn, run_world, takes_in}
 use Rattle.link_work.specs.Stands.{first_state, orders}
 use Rattle.link_work.specs.Turn.{LinkState}
 use Rattle.link_work.proofs.Sending.{run_append}
@@ -57,8 +57,8 @@ in_event h e = in_takes (commands_of (takes_in h e))
 in_steps : (steps : List Step) (h : Core) → commands_in (rig_steps steps h) ≡ commands_of (took steps h)
 in_steps [] h = refl
 in_steps (Do e ∷ steps) h =
-    in_both (rig_in h e) (rig_steps steps (happens h e)) ∙ ap (λ (x : List Cmd). x ++ commands_in (rig_steps steps (happens h e))) (in_event h e)
-    ∙ ap (λ (x : List Cmd). commands_of (takes_in h e) ++ x) (in_steps steps (happens h e)) ∙ sym (commands_both (takes_in h e) (took steps (happens h e)))
+    in_both (rig_in h e) (rig_steps steps (after_event h e)) ∙ ap (λ (x : List Cmd). x ++ commands_in (rig_steps steps (after_event h e))) (in_event h e)
+    ∙ ap (λ (x : List Cmd). commands_of (takes_in h e) ++ x) (in_steps steps (after_event h e)) ∙ sym (commands_both (takes_in h e) (took steps (after_event h e)))
 in_steps (Turn turn ∷ steps) h = in_steps steps (in_turn h turn)
 
 -- what comes, up to a command and behind it
@@ -89,13 +89,13 @@ split (Passes n t ∷ ss) front c behind e =
 -- commands that neither start the trigger nor set the clock
 abbrev EachSo : ℕ → ℕ → List Cmd → Type 0
 EachSo i j [] = Unit {0}
-EachSo i j (c ∷ cs) = IsBehind i j c × EachSo i j cs
+EachSo i j (c ∷ cs) = IsBehindSetUp i j c × EachSo i j cs
 
 so_each : (i j : ℕ) (ms : List Meant) → EachBehind i j ms → EachSo i j (commands_of ms)
 so_each i j [] b = tt
 so_each i j (m ∷ ms) b = (b.0, so_each i j ms b.1)
 
-behind_by : (i j : ℕ) (ss : List RigStep) → EachSo i j (commands_in ss) → AreBehind i j ss
+behind_by : (i j : ℕ) (ss : List RigStep) → EachSo i j (commands_in ss) → AreBehindSetUp i j ss
 behind_by i j [] b = tt
 behind_by i j (Takes c ∷ ss) b = (b.0, behind_by i j ss b.1)
 behind_by i j (Passes n t ∷ ss) b = behind_by i j ss b
@@ -127,7 +127,7 @@ event_whole h e = takes_whole (commands_of (takes_in h e)) h.board
 steps_whole : (steps : List Step) (h : Core) → AreWhole h.board (rig_steps steps h)
 steps_whole [] h = tt
 steps_whole (Do e ∷ steps) h =
-    whole_both (rig_in h e) (rig_steps steps (happens h e)) h.board (event_whole h e) (subst (λ (r : Rig). AreWhole r (rig_steps steps (happens h e))) (event_board h e) (steps_whole steps (happens h e)))
+    whole_both (rig_in h e) (rig_steps steps (after_event h e)) h.board (event_whole h e) (subst (λ (r : Rig). AreWhole r (rig_steps steps (after_event h e))) (event_board h e) (steps_whole steps (after_event h e)))
 steps_whole (Turn turn ∷ steps) h = steps_whole steps (in_turn h turn)
 
 whole_pass : (n t : ℕ) (r : Rig) → n ≡ all_left t r.triggers + 1 → r.controller.tick ≤ t → (passes r t).rig ≡ (pass n r t).rig
@@ -197,8 +197,8 @@ event_late h e n place j most r none = subst (λ (ms : List Meant). AreLate n pl
 none_late : (steps : List Step) (h : Core) (n place j most : ℕ) (r : Rig) → AllOf TakesNone steps → AreLate n place j most r (rig_steps steps h)
 none_late [] h n place j most r k = tt
 none_late (Do e ∷ steps) h n place j most r k =
-    late_both n place (place + length (commands_in (rig_in h e))) (rig_in h e) (rig_steps steps (happens h e)) j most r refl (event_late h e n place j most r (k.0 h))
-    (none_late steps (happens h e) n (place + length (commands_in (rig_in h e))) j most (rig_after_all (rig_in h e) r) k.1)
+    late_both n place (place + length (commands_in (rig_in h e))) (rig_in h e) (rig_steps steps (after_event h e)) j most r refl (event_late h e n place j most r (k.0 h))
+    (none_late steps (after_event h e) n (place + length (commands_in (rig_in h e))) j most (rig_after_all (rig_in h e) r) k.1)
 none_late (Turn turn ∷ steps) h n place j most r k = none_late steps (in_turn h turn) n place j most r k.1
 
 -- so many commands are taken in some steps
@@ -206,7 +206,7 @@ commands_many : (ms : List Meant) → length (commands_of ms) ≡ length ms
 commands_many [] = refl
 commands_many (m ∷ ms) = ap suc (commands_many ms)
 
-places : (steps : List Step) (h : Core) → length h.taken + length (commands_in (rig_steps steps h)) ≡ length (run steps h).taken
+places : (steps : List Step) (h : Core) → length h.taken + length (commands_in (rig_steps steps h)) ≡ length (run_world steps h).taken
 places steps h =
     let a = ap length (took_is steps h) in
     let b = length-append h.taken (took steps h) in
@@ -227,7 +227,7 @@ one_timely b pins place entries n j most t before are reads =
     let l = stands_after first before in
     let p = turn_parts clock (length before) (orders t.control t.batch) l t.after are.0.0 in
     let h = l.core in
-    let g = run p.held h in
+    let g = run_world p.held h in
     let new = took p.held h in
     let taken : t.after.core.taken ≡ h.taken ++ new =
     ap (λ (x : Core). x.taken) p.is ∙ took_is p.on g ∙ ap (λ (ms : List Meant). g.taken ++ ms) (took_none p.on g p.none) ∙ append-nil g.taken ∙ took_is p.held h in
@@ -239,9 +239,9 @@ one_timely b pins place entries n j most t before are reads =
           (none_late p.on g n (length g.taken) j most (rig_after_all (rig_steps p.held h) h.board) p.none)),
     )
 
-steps_late : (n j most : ℕ) (xs ys : List Step) (h : Core) → LateTurn n j most h xs → LateTurn n j most (run xs h) ys → LateTurn n j most h (xs ++ ys)
+steps_late : (n j most : ℕ) (xs ys : List Step) (h : Core) → LateTurn n j most h xs → LateTurn n j most (run_world xs h) ys → LateTurn n j most h (xs ++ ys)
 steps_late n j most xs ys h a b =
-    let g = run xs h in
+    let g = run_world xs h in
     subst (AreLate n (length h.taken) j most h.board) (sym (rig_append xs ys h))
     (late_both n (length h.taken) (length g.taken) (rig_steps xs h) (rig_steps ys g) j most h.board (places xs h) a
     (subst (λ (r : Rig). AreLate n (length g.taken) j most r (rig_steps ys g)) (steps_board xs h) b))
@@ -249,7 +249,7 @@ steps_late n j most xs ys h a b =
 -- the steps of some turns behind others
 record LaterSteps (first : LinkState) (n j most : ℕ) (later past : List BoardTurn) : Type 0 where
   steps : List Step
-  is : (stands_after first (later ++ past)).core ≡ run steps (stands_after first past).core
+  is : (stands_after first (later ++ past)).core ≡ run_world steps (stands_after first past).core
   timely : LateTurn n j most (stands_after first past).core steps
 
 later_timely : (b : BoardDef) (pins : List (List Level)) (place : ℕ) (entries : List Entry) (n j most : ℕ) (later past : List BoardTurn) → AreBoardTurns (clock_of b) (first_state b pins place entries) (later ++ past)
@@ -264,7 +264,7 @@ later_timely b pins place entries n j most (t ∷ later) past are reads =
     let one = x.0.held ++ x.0.on in
     record {
       steps = old.steps ++ one;
-      is = x.0.is ∙ sym (run_append x.0.held x.0.on h) ∙ ap (run one) old.is ∙ sym (run_append old.steps one base);
+      is = x.0.is ∙ sym (run_append x.0.held x.0.on h) ∙ ap (run_world one) old.is ∙ sym (run_append old.steps one base);
       timely = steps_late n j most old.steps one base old.timely (subst (λ (y : Core). LateTurn n j most y one) old.is x.1);
     }
 
@@ -275,7 +275,7 @@ far_enough n ss front far e = let l = ap length e in let k = commands_many front
 abbrev pub HasThen : ℕ → ℕ → List Meant → LinkState → Type 0
 HasThen i j front first = (ss : List RigStep) → AreWhole first.core.board ss → commands_in ss ≡ commands_of front → (rig_after_all ss first.core.board).controller.state ≡ Running → HasBoth i j (rig_after_all ss first.core.board)
 
-limits_by : (r : Rig) (between behind : List RigStep) (i j most c : ℕ) → (r.controller.state ≡ Running → HasBoth i j r) → AreBehind i j (between ++ behind) → AreTimely j most r (timed_and_bound i j c between ++ behind)
+limits_by : (r : Rig) (between behind : List RigStep) (i j most c : ℕ) → (r.controller.state ≡ Running → HasBoth i j r) → AreBehindSetUp i j (between ++ behind) → AreTimely j most r (timed_and_bound i j c between ++ behind)
     → AllBefore i most (all_made behind (rig_after_all (timed_and_bound i j c between) r))
 limits_by r between behind i j most c has apart timely = elim (runs_or_shut r) [
   | inl runs ↦ bound_in_time r between behind i j most c (has runs) apart timely
@@ -302,14 +302,14 @@ limits_in_turns b pins place entries later t past i j most n c front set between
     let h = (stands_after first past).core in
     let x = one_timely b pins place entries n j most t past mine my_reads in
     let p = x.0 in
-    let g = run p.held h in
+    let g = run_world p.held h in
     let m = t.after.core in
     let rest = later_timely b pins place entries n j most later (t ∷ past) are reads in
     let tail = p.on ++ rest.steps in
     let all = p.held ++ tail in
     let whole_list = front ++ set ∷ between in
-    let last : (stands_after first (later ++ t ∷ past)).core ≡ run all h =
-    rest.is ∙ ap (λ (y : Core). run rest.steps y) p.is ∙ sym (run_append p.on rest.steps g) ∙ sym (run_append p.held tail h) in
+    let last : (stands_after first (later ++ t ∷ past)).core ≡ run_world all h =
+    rest.is ∙ ap (λ (y : Core). run_world rest.steps y) p.is ∙ sym (run_append p.on rest.steps g) ∙ sym (run_append p.held tail h) in
     let new = took p.held h in
     let new_is : g.taken ≡ h.taken ++ new = took_is p.held h in
     let same : m.taken ≡ g.taken = ap (λ (y : Core). y.taken) p.is ∙ took_is p.on g ∙ ap (λ (ms : List Meant). g.taken ++ ms) (took_none p.on g p.none) ∙ append-nil g.taken in
@@ -373,7 +373,7 @@ limits_in_turns b pins place entries later t past i j most n c front set between
     reads_from (u ∷ later) reads = reads_from later reads.1
 
     whole_past : (past : List BoardTurn) → AreBoardTurns (clock_of b) (first_state b pins place entries) past → ReadsAtMost (board_tick (clock_of b)) j most n (first_state b pins place entries) past
-        → (steps : List Step) × ((stands_after (first_state b pins place entries) past).core ≡ run steps (first_state b pins place entries).core)
+        → (steps : List Step) × ((stands_after (first_state b pins place entries) past).core ≡ run_world steps (first_state b pins place entries).core)
         × LateTurn n j most (first_state b pins place entries).core steps
     whole_past past are reads =
         let first = first_state b pins place entries in

@@ -18,7 +18,7 @@ use Rattle.board_world.specs.declared.event.Event.{Event}
 use Rattle.board_world.specs.declared.event.Event.TheVariants as event
 use Rattle.board_world.specs.Orders.{plain, units_orders}
 use Rattle.board_world.specs.Stands.{IsAnswer, IsOrdered}
-use Rattle.board_world.specs.World.{Core, Step, Do, Turn, does, happens, in_turn, orders_of, run, takes_in}
+use Rattle.board_world.specs.World.{Core, Step, Do, Turn, does, after_event, in_turn, orders_of, run_world, takes_in}
 use Rattle.board_world.proofs.Runs.{ordered_by, ordered_turn}
 use Rattle.link_work.specs.Runs.{queued_in}
 use Rattle.link_work.specs.Stands.{orders}
@@ -28,7 +28,7 @@ use Rattle.link_work.proofs.Steps.{AllOf, all_append, all_come, all_resent, all_
 use Rattle.laws_board.specs.turns.Turns.{AreBoardTurns, BoardTurn, stands_after}
 use Rattle.laws_board.proofs.clocks.Links.{IsTurnAfter}
 use Rattle.laws_board.proofs.clocks.Replies.{up_come}
-use Rattle.laws_homing.specs.home_runs.Guards.{AreCalm, HasFired, IsQuiet, IsSole}
+use Rattle.laws_homing.specs.home_runs.Guards.{AreCalm, HasFired, HasNoTimeout, IsSole}
 use Rattle.laws_homing.specs.home_runs.Windows.{BringCalm, HasAnswer, IsFired, TellFired, SayFired}
 use Rattle.laws_homing.proofs.home_runs.Firing.{EachFires, Fires, StandsRead, calm_both, calm_each, calm_parts, fires_by, fires_next, left_by, next_by, says_by}
 use Rattle.laws_homing.proofs.home_runs.Guarding.{Next, fired_next, next_same, next_then}
@@ -49,7 +49,7 @@ record Goes (i j : ℕ) (h g : Core) : Type 0 where
   watch : Watch i j g
   next : Next i j h.board g.board
 
-goes_by : (i j : ℕ) (h : Core) (e : Event) → AreCalm i j (orders_of e) → Watch i j h → Goes i j h (happens h e)
+goes_by : (i j : ℕ) (h : Core) (e : Event) → AreCalm i j (orders_of e) → Watch i j h → Goes i j h (after_event h e)
 goes_by i j h e brings w =
     let o = ordered_by h e w.ordered in
     let l = left_by h e w.left o w.rest in
@@ -65,7 +65,7 @@ goes_by i j h e brings w =
         left = l.0;
         rest = l.2;
         calm = both.1;
-        fires = fires_by (IsQuiet j h.board) j q h e (λ s is. (w.ordered.sound j s is).idle) (says_by i j h e taken w.few w.sole) (fires_next i j h.board q h.link.up next w.fires);
+        fires = fires_by (HasNoTimeout j h.board) j q h e (λ s is. (w.ordered.sound j s is).idle) (says_by i j h e taken w.few w.sole) (fires_next i j h.board q h.link.up next w.fires);
       };
       next = next;
     }
@@ -78,12 +78,12 @@ abbrev BringsCalm : ℕ → ℕ → Step → Type 0
 BringsCalm i j (Do e) = AreCalm i j (orders_of e)
 BringsCalm i j (Turn turn) = Unit {0}
 
-goes_along : (i j : ℕ) (steps : List Step) (h : Core) → AllOf (BringsCalm i j) steps → Watch i j h → Goes i j h (run steps h)
+goes_along : (i j : ℕ) (steps : List Step) (h : Core) → AllOf (BringsCalm i j) steps → Watch i j h → Goes i j h (run_world steps h)
 goes_along i j [] h b w = record { watch = w; next = next_same i j h.board }
 goes_along i j (Do e ∷ steps) h b w =
     let one = goes_by i j h e b.0 w in
-    let rest = goes_along i j steps (happens h e) b.1 one.watch in
-    record { watch = rest.watch; next = next_then i j h.board (happens h e).board (run steps (happens h e)).board one.next rest.next }
+    let rest = goes_along i j steps (after_event h e) b.1 one.watch in
+    record { watch = rest.watch; next = next_then i j h.board (after_event h e).board (run_world steps (after_event h e)).board one.next rest.next }
 goes_along i j (Turn turn ∷ steps) h b w =
     let rest = goes_along i j steps (in_turn h turn) b.1 (watch_turn i j h turn w) in
     record { watch = rest.watch; next = rest.next }
@@ -117,9 +117,9 @@ turn_parts : (clock : BoardClock) (i j turn : ℕ) (o : Orders) (resent : Bool) 
 turn_parts clock i j turn o resent l l1 l2 l3 e1 e2 e3 calm w =
     let P : Step → Type 0 = BringsCalm i j in
     let up = come Up turn l2.up.copies in
-    let c1 : l1.core ≡ run (host_steps turn o resent) l.core = ap (λ (x : LinkState). x.core) e1 in
-    let c2 : l2.core ≡ run (board_steps clock turn l1.down.copies) l1.core = ap (λ (x : LinkState). x.core) e2 in
-    let c3 : l3.core ≡ run up l2.core = ap (λ (x : LinkState). x.core) e3 in
+    let c1 : l1.core ≡ run_world (host_steps turn o resent) l.core = ap (λ (x : LinkState). x.core) e1 in
+    let c2 : l2.core ≡ run_world (board_steps clock turn l1.down.copies) l1.core = ap (λ (x : LinkState). x.core) e2 in
+    let c3 : l3.core ≡ run_world up l2.core = ap (λ (x : LinkState). x.core) e3 in
     let g1 : Goes i j l.core l1.core = subst (λ (h : Core). Goes i j l.core h) (sym c1) (goes_along i j (host_steps turn o resent) l.core (host_calm i j turn o resent calm) w) in
     let down = all_append P (come Down turn l1.down.copies) (Do (event.Pass (board_tick clock (turn + 1))) ∷ []) (all_come P Down (down_calm i j) turn l1.down.copies) (tt, tt) in
     let g2 : Goes i j l1.core l2.core = subst (λ (h : Core). Goes i j l1.core h) (sym c2) (goes_along i j (board_steps clock turn l1.down.copies) l1.core down g1.watch) in

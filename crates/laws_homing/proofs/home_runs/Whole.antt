@@ -28,7 +28,7 @@ use Rattle.laws_board.specs.clocks.Runs.{IsInRun}
 use Rattle.laws_board.proofs.clocks.Configured.{all_configured, some_configured}
 use Rattle.laws_board.proofs.clocks.Made.{made_once, times_both}
 use Rattle.laws_homing.specs.home_runs.Guards.{AreCalm, IsCalm}
-use Rattle.laws_homing.specs.home_runs.Sections.{SetNone, queued_by}
+use Rattle.laws_homing.specs.home_runs.Sections.{SetNone, queued_in_turns}
 use Rattle.laws_homing.specs.home_runs.Stages.{Stage, lost_stage, no_stage, stage_from, stage_of}
 use Rattle.laws_homing.proofs.home_runs.Firing.{calm_both, calm_each}
 use Rattle.laws_homing.proofs.home_runs.Saying.{EachCalm}
@@ -301,30 +301,30 @@ config_has m b =
     inr (subst (λ (l : List Cmd). Has j l) (sym (map-append setup_command steppers tail)) (has_behind j (map setup_command steppers) (map setup_command tail) (inl refl)))
 
 -- over turns
-pub queue_only : (j : ℕ) (turns : List BoardTurn) → Only j (commands_in turns) → Only j (commands_of (queued_by turns))
+pub queue_only : (j : ℕ) (turns : List BoardTurn) → Only j (commands_in turns) → Only j (commands_of (queued_in_turns turns))
 queue_only j [] k = tt
 queue_only j (t ∷ before) k =
     let both = only_parts j (commands_in before) t.control.commands k in
-    subst (λ (l : List Cmd). Only j l) (sym (commands_both (queued_by before) (queued_in (orders t.control t.batch))))
-    (only_both j (commands_of (queued_by before)) (commands_of (queued_in (orders t.control t.batch))) (queue_only j before both.0)
+    subst (λ (l : List Cmd). Only j l) (sym (commands_both (queued_in_turns before) (queued_in (orders t.control t.batch))))
+    (only_both j (commands_of (queued_in_turns before)) (commands_of (queued_in (orders t.control t.batch))) (queue_only j before both.0)
     (subst (λ (l : List Cmd). Only j l) (sym (turn_commands t)) (only_both j t.control.commands (commands_of (units_orders t.batch.units)) both.1 (units_only j t.batch.units))))
 
-pub queue_has : (j : ℕ) (turns : List BoardTurn) → Has j (commands_in turns) → Has j (commands_of (queued_by turns))
+pub queue_has : (j : ℕ) (turns : List BoardTurn) → Has j (commands_in turns) → Has j (commands_of (queued_in_turns turns))
 queue_has j [] k = absurd k
 queue_has j (t ∷ before) k =
-    let front = commands_of (queued_by before) in
+    let front = commands_of (queued_in_turns before) in
     let new = commands_of (queued_in (orders t.control t.batch)) in
-    subst (λ (l : List Cmd). Has j l) (sym (commands_both (queued_by before) (queued_in (orders t.control t.batch)))) (elim (has_either j (commands_in before) t.control.commands k) [
+    subst (λ (l : List Cmd). Has j l) (sym (commands_both (queued_in_turns before) (queued_in (orders t.control t.batch)))) (elim (has_either j (commands_in before) t.control.commands k) [
       | inl old ↦ has_front j front new (queue_has j before old)
       | inr now ↦ has_behind j front new (subst (λ (l : List Cmd). Has j l) (sym (turn_commands t)) (has_front j t.control.commands (commands_of (units_orders t.batch.units)) now))
     ])
 
-queue_made : (i : ℕ) (turns : List BoardTurn) → times_made i (commands_in turns) ≤ times_made i (commands_of (queued_by turns))
+queue_made : (i : ℕ) (turns : List BoardTurn) → times_made i (commands_in turns) ≤ times_made i (commands_of (queued_in_turns turns))
 queue_made i [] = omega arith
 queue_made i (t ∷ before) =
     let new = commands_of (queued_in (orders t.control t.batch)) in
     let a = times_both i (commands_in before) t.control.commands in
-    let b = ap (times_made i) (commands_both (queued_by before) (queued_in (orders t.control t.batch))) ∙ times_both i (commands_of (queued_by before)) new in
+    let b = ap (times_made i) (commands_both (queued_in_turns before) (queued_in (orders t.control t.batch))) ∙ times_both i (commands_of (queued_in_turns before)) new in
     let c = ap (times_made i) (turn_commands t) ∙ times_both i t.control.commands (commands_of (units_orders t.batch.units)) in
     let d = queue_made i before in
     omega (arith, a, b, c, d)
@@ -338,21 +338,21 @@ run_only m switches pins entries b came turns v r =
     filter_only j (commands_in turns) (only_parts j (filter configures (commands_in turns)) some.0 (subst (λ (l : List Cmd). Only j l) (sym some.1) (config_only m b))).0
 
 pub run_ready : (m : Machine) (switches : List Switch) (pins : List (List Level)) (entries : List Entry) (b : ℕ) (came : List Came) (turns : List BoardTurn) (s : ℕ) → IsValidMachine m → IsInRun m switches pins entries b came turns
-    → ((known_by m switches came).phase ≡ Connecting → ⊥) → s < length m.steppers → (stepper_at m s).board ≡ b → Ready (stage_from (stepper_at m s).oid (trigger_of m b) no_stage (commands_of (queued_by turns)))
+    → ((known_by m switches came).phase ≡ Connecting → ⊥) → s < length m.steppers → (stepper_at m s).board ≡ b → Ready (stage_from (stepper_at m s).oid (trigger_of m b) no_stage (commands_of (queued_in_turns turns)))
 run_ready m switches pins entries b came turns s v r n l e =
     let i = (stepper_at m s).oid in
     let j = trigger_of m b in
     let all = all_configured m switches pins entries b came turns v r n in
-    let g = grown i j no_stage (commands_of (queued_by turns)) (queue_only j turns (run_only m switches pins entries b came turns v r)) refl in
+    let g = grown i j no_stage (commands_of (queued_in_turns turns)) (queue_only j turns (run_only m switches pins entries b came turns v r)) refl in
     let made = made_once m switches pins entries b came turns v r n s l e in
     let has = queue_has j turns (filter_has j (commands_in turns) (subst (λ (l : List Cmd). Has j l) (sym all) (config_has m b))) in
     record { sole = g.0; made = g.1 (inr (omega (arith, made, queue_made i turns))); there = g.2 (inr has) }
 
 -- the stage behind a turn
 pub stage_turn : (i j : ℕ) (t : BoardTurn) (before : List BoardTurn)
-    → stage_from i j no_stage (commands_of (queued_by (t ∷ before))) ≡ stage_from i j (stage_from i j no_stage (commands_of (queued_by before))) (commands_of (queued_in (orders t.control t.batch)))
+    → stage_from i j no_stage (commands_of (queued_in_turns (t ∷ before))) ≡ stage_from i j (stage_from i j no_stage (commands_of (queued_in_turns before))) (commands_of (queued_in (orders t.control t.batch)))
 stage_turn i j t before =
-    ap (stage_from i j no_stage) (commands_both (queued_by before) (queued_in (orders t.control t.batch))) ∙ stage_append i j no_stage (commands_of (queued_by before)) (commands_of (queued_in (orders t.control t.batch)))
+    ap (stage_from i j no_stage) (commands_both (queued_in_turns before) (queued_in (orders t.control t.batch))) ∙ stage_append i j no_stage (commands_of (queued_in_turns before)) (commands_of (queued_in (orders t.control t.batch)))
 
 -- what the turn of a round makes
 pub binds_turn : (i j : ℕ) (t : BoardTurn) → Binds i j t.control.commands → SetNone i t.batch.units → Binds i j (commands_of (queued_in (orders t.control t.batch)))

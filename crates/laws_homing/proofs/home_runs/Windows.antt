@@ -14,7 +14,7 @@ use Rattle.board_sim.specs.RigRuns.{IsHalted}
 use Rattle.board_world.specs.declared.event.Event.{Event}
 use Rattle.board_world.specs.declared.event.Event.TheVariants as event
 use Rattle.board_world.specs.Stands.{IsOrdered}
-use Rattle.board_world.specs.World.{Core, Step, Do, Turn, does, happens, in_turn, run, takes_in}
+use Rattle.board_world.specs.World.{Core, Step, Do, Turn, does, after_event, in_turn, run_world, takes_in}
 use Rattle.board_world.proofs.Runs.{ordered, start_ordered}
 use Rattle.link_work.specs.Stands.{first_state, orders}
 use Rattle.link_work.specs.Turn.{LinkState}
@@ -47,9 +47,9 @@ does_places h event.Garble = refl
 does_places h event.Reply = refl
 does_places h event.LoseReply = refl
 
-run_places : (steps : List Step) (h : Core) → length (run steps h).board.triggers ≡ length h.board.triggers
+run_places : (steps : List Step) (h : Core) → length (run_world steps h).board.triggers ≡ length h.board.triggers
 run_places [] h = refl
-run_places (Do e ∷ steps) h = run_places steps (happens h e) ∙ does_places h e
+run_places (Do e ∷ steps) h = run_places steps (after_event h e) ∙ does_places h e
 run_places (Turn turn ∷ steps) h = run_places steps (in_turn h turn)
 
 -- a link over turns

@@ -24,7 +24,7 @@ use Rattle.axis_homing.specs.declared.homing.Homing.{Homing}
 use Rattle.axis_homing.specs.Homing.{answer_in, goes_on_homing, hears_all, homing_after, homing_of, homing_with, member_where, members_from, moving_on}
 use Rattle.axis_homing.specs.Rising.{members_of}
 use Rattle.host_reactor.specs.declared.ordered.Known.{Known}
-use Rattle.host_reactor.specs.Notes.{noted, told, told_all}
+use Rattle.host_reactor.specs.Notes.{noted, known_behind, told_all}
 use Rattle.host_reactor.specs.Reactor.{Reacted}
 use Rattle.host_reactor.specs.Runs.{Came, GoesOn, known_by}
 use Rattle.laws_board.proofs.clocks.Turning.{goes}
@@ -105,7 +105,7 @@ begun_of m section (Home axis) turn last moving =
     begun_if m (may_be (map unseen ms) turn last) section axis turn last ms
     ((λ b x. all_read m (axis_at m axis) moving b 0 m.boards x), λ low. one_reads m (axis_at m axis) moving 0 m.boards (omega arith) (omega (arith, low)))
 
-told_of : (m : Machine) (r : Known) (n : NoteNews) → OfAxis m r.homing → OfAxis m (told m r n).homing
+told_of : (m : Machine) (r : Known) (n : NoteNews) → OfAxis m r.homing → OfAxis m (known_behind m r n).homing
 told_of m r (news.Start section kind turn last moving) k = begun_of m section kind turn last moving
 told_of m r (news.Done section turn) k = k
 told_of m r (news.Read x sections) k = k
@@ -113,7 +113,7 @@ told_of m r (news.Line board line from) k = k
 
 all_of : (m : Machine) (ns : List NoteNews) (r : Known) → OfAxis m r.homing → OfAxis m (told_all m ns r).homing
 all_of m [] r k = k
-all_of m (n ∷ ns) r k = all_of m ns (told m r n) (told_of m r n k)
+all_of m (n ∷ ns) r k = all_of m ns (known_behind m r n) (told_of m r n k)
 
 noted_of : (m : Machine) (note : Option Note) (r : Known) → OfAxis m r.homing → OfAxis m (noted m note r).homing
 noted_of m None r k = k

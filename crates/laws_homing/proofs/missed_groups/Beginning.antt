@@ -21,7 +21,7 @@ use Rattle.board_trig.specs.declared.trigger.Trigger.{Trigger}
 use Rattle.board_trig.specs.Kept.{MovesOn}
 use Rattle.board_trig.specs.Trigger as trig
 use Rattle.board_sim.specs.Board.{stepper_at}
-use Rattle.board_sim.specs.Rig.{Rig, Slot, acts, acts_running, becomes, bind, expires_at_once, set_timeout, slot_at, start, takes, takes_all}
+use Rattle.board_sim.specs.Rig.{Rig, Slot, acts, acts_running, becomes, bind, expires_at_once, set_timeout, slot_at, start_trigger, takes, takes_all}
 use Rattle.board_sim.proofs.Bound.{slot_range}
 use Rattle.trigger_group.specs.declared.order.Ctl.{Ctl}
 use Rattle.trigger_group.specs.declared.order.Order.{Order}
@@ -31,7 +31,7 @@ use Rattle.trigger_group.specs.declared.seen.Seen.{Seen}
 use Rattle.trigger_group.specs.Group.{orders_to, round_of, steppers, stop}
 use Rattle.axis_homing.specs.Homing.{commands_to, low, order_command}
 use Rattle.laws_homing.specs.clear_boards.Alive.{RelayNone}
-use Rattle.laws_homing.specs.clear_boards.Turned.{AreBehind, IsBehind, Relays}
+use Rattle.laws_homing.specs.clear_boards.Turned.{AreSentBehind, IsSentBehind, Relays}
 use Rattle.laws_homing.specs.missed_groups.Minds.{Hits, Minds}
 use Rattle.laws_homing.proofs.missed_groups.Minding.{Minded, times_minded}
 
@@ -74,7 +74,7 @@ module _ (oid : ℕ) (Q : Type 0) where
       → ((y : Sampling) → s.trigger.sampling ≡ Some y → y.reason ≡ 1) → Blank (acts r (cmd.TrsyncStart oid clock every 2)).rig
   starts_slot r clock every s there told none moves reads =
       let t = trig.started r.controller.tick clock every 2 s.trigger in
-      let By : Option Slot → Type 0 = λ o. Blank (start r oid o clock every 2) in
+      let By : Option Slot → Type 0 = λ o. Blank (start_trigger r oid o clock every 2) in
       subst By (sym there)
       (inr (minded_set Never r (becomes r oid s t) s (record s { trigger = t }) there refl refl
       (record { told = told; moves = moves; idle = λ e. absurd (cc); blind = λ e. absurd (cc); expire = refl; reads = reads; to = λ can x h. none x h; of = λ can x h. absurd h; fired = λ e. absurd (cc) })))
@@ -143,7 +143,7 @@ module _ (oid : ℕ) (Q : Type 0) where
   same_blank r c reason tick first (inr k) = inr (record { slot = k.slot; is = k.is; minds = k.minds })
 
   -- what else a board is sent
-  other_minded : (T : ℕ → Type 0) (r : Rig) (c : Cmd) → ((clock : ℕ) → IsBehind oid clock c) → (Relays c → ⊥) → Minded oid T Q r → Minded oid T Q (acts r c).rig
+  other_minded : (T : ℕ → Type 0) (r : Rig) (c : Cmd) → ((clock : ℕ) → IsSentBehind oid clock c) → (Relays c → ⊥) → Minded oid T Q r → Minded oid T Q (acts r c).rig
   other_minded T r (cmd.TrsyncSetTimeout o at) k none h = absurd (let zero_is = (k 0).1 in let one = (k 1).1 in omega (arith, zero_is, one))
   other_minded T r (cmd.TrsyncTrigger o reason) k none h = absurd (none tt)
   other_minded T r (cmd.ConfigTrsync o) k none h = absurd (k 0)
@@ -153,13 +153,13 @@ module _ (oid : ℕ) (Q : Type 0) where
   other_minded T r (cmd.EndstopHome o at sample count rest value t reason) k none h = absurd (k 0)
   other_minded T r c k none h = record { slot = h.slot; is = h.is; minds = h.minds }
 
-  pub others_minded : (T : ℕ → Type 0) (r : Rig) (cs : List Cmd) → ((clock : ℕ) → AreBehind oid clock cs) → RelayNone cs → Minded oid T Q r → Minded oid T Q (takes_all r cs).rig
+  pub others_minded : (T : ℕ → Type 0) (r : Rig) (cs : List Cmd) → ((clock : ℕ) → AreSentBehind oid clock cs) → RelayNone cs → Minded oid T Q r → Minded oid T Q (takes_all r cs).rig
   others_minded T r [] k none h = h
   others_minded T r (c ∷ cs) k none h =
       others_minded T (takes r c).rig cs (λ clock. (k clock).1) none.1
       (taken (Minded oid T Q) r c (other_minded T r c (λ clock. (k clock).0) none.0 h) (λ reason tick first. record { slot = h.slot; is = h.is; minds = h.minds }))
 
-  other_rests : (r : Rig) (c : Cmd) → ((clock : ℕ) → IsBehind oid clock c) → (Relays c → ⊥) → RestsOf oid r → RestsOf oid (acts r c).rig
+  other_rests : (r : Rig) (c : Cmd) → ((clock : ℕ) → IsSentBehind oid clock c) → (Relays c → ⊥) → RestsOf oid r → RestsOf oid (acts r c).rig
   other_rests r (cmd.TrsyncSetTimeout o at) k none h = absurd (let zero_is = (k 0).1 in let one = (k 1).1 in omega (arith, zero_is, one))
   other_rests r (cmd.TrsyncTrigger o reason) k none h = absurd (none tt)
   other_rests r (cmd.ConfigTrsync o) k none h = absurd (k 0)
@@ -169,7 +169,7 @@ module _ (oid : ℕ) (Q : Type 0) where
   other_rests r (cmd.EndstopHome o at sample count rest value t reason) k none h = absurd (k 0)
   other_rests r c k none h = record { slot = h.slot; is = h.is; off = h.off }
 
-  pub others_blank : (r : Rig) (cs : List Cmd) → ((clock : ℕ) → AreBehind oid clock cs) → RelayNone cs → Blank r → Blank (takes_all r cs).rig
+  pub others_blank : (r : Rig) (cs : List Cmd) → ((clock : ℕ) → AreSentBehind oid clock cs) → RelayNone cs → Blank r → Blank (takes_all r cs).rig
   others_blank r [] k none h = h
   others_blank r (c ∷ cs) k none h =
       others_blank (takes r c).rig cs (λ clock. (k clock).1) none.1
@@ -178,7 +178,7 @@ module _ (oid : ℕ) (Q : Type 0) where
 -- the orders of the turn in which a section starts a board's trigger
 module _ (m : Machine) (clocks : Clocks) (b start : ℕ) (axis : AxisDef) (Q : Type 0) where
   abbrev Commands : List Ctl → List Cmd
-  Commands ctls = commands_to m clocks b start axis ctls
+  Commands ctls = commands_to m clocks b start_trigger axis ctls
 
   abbrev BlankAt : Rig → Type 0
   BlankAt r = Blank (trigger_of m b) Q r
@@ -206,18 +206,18 @@ module _ (m : Machine) (clocks : Clocks) (b start : ℕ) (axis : AxisDef) (Q : T
   starts_first timeout [] = tt
   starts_first timeout (x ∷ xs) = first_both (orders_to (Starts timeout) x) (round_of (Starts timeout) xs) (tt, (tt, stops_first x (take 8 (steppers x)))) (starts_first timeout xs)
 
-  first_one : (what : Order) (r : Rig) → IsFirst what → BlankAt r → BlankAt (acts r (order_command m clocks b start axis what)).rig
+  first_one : (what : Order) (r : Rig) → IsFirst what → BlankAt r → BlankAt (acts r (order_command m clocks b start_trigger axis what)).rig
   first_one (order.Stop i) r k (inl h) = inl (binds_rests (trigger_of m b) Q r (machine.stepper_at m i).oid h)
   first_one (order.Stop i) r k (inr h) = inr (binds_minded (trigger_of m b) Q Never r (machine.stepper_at m i).oid h)
-  first_one order.Start r k h = starts (trigger_of m b) Q r (low (turn_tick clocks start)) ((board_at m b).freq * 5 / 1_000) h
+  first_one order.Start r k h = starts (trigger_of m b) Q r (low (turn_tick clocks start_trigger)) ((board_at m b).freq * 5 / 1_000) h
   first_one (order.Timeout turn) r k h = times (trigger_of m b) Q r (low (turn_tick clocks turn)) h
   first_one order.Home r k h = absurd k
   first_one (order.Reset i) r k h = absurd k
   first_one order.Trigger r k h = absurd k
 
-  first_to : (here : Bool) (what : Order) (rest : List Cmd) (r : Rig) → IsFirst what → ((q : Rig) → BlankAt q → BlankAt (takes_all q rest).rig) → BlankAt r → BlankAt (takes_all r ((if here then order_command m clocks b start axis what ∷ [] else []) ++ rest)).rig
+  first_to : (here : Bool) (what : Order) (rest : List Cmd) (r : Rig) → IsFirst what → ((q : Rig) → BlankAt q → BlankAt (takes_all q rest).rig) → BlankAt r → BlankAt (takes_all r ((if here then order_command m clocks b start_trigger axis what ∷ [] else []) ++ rest)).rig
   first_to true what rest r k more h =
-      let c = order_command m clocks b start axis what in
+      let c = order_command m clocks b start_trigger axis what in
       more (takes r c).rig (taken (trigger_of m b) Q BlankAt r c (first_one what r k h) (λ reason tick first. same_blank (trigger_of m b) Q r c reason tick first h))
   first_to false what rest r k more h = more r h
 

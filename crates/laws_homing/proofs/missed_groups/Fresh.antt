@@ -32,7 +32,7 @@ use Rattle.laws_board.proofs.sections.Clocks.{ticks_rise}
 use Rattle.trigger_group.specs.declared.order.Member.{Member}
 use Rattle.trigger_group.specs.declared.seen.Fired.{Fired}
 use Rattle.trigger_group.specs.declared.seen.Seen.{Seen}
-use Rattle.trigger_group.specs.Group.{GroupState, after, all_fired, any_fired_by, fired_by, has_fired, phase, relay_begins}
+use Rattle.trigger_group.specs.Group.{GroupState, turned_group, all_fired, any_fired_by, fired_by, has_fired, phase, relay_begins}
 use Rattle.axis_homing.specs.declared.homing.Homing.{Homing}
 use Rattle.axis_homing.specs.Homing.{hears_all}
 use Rattle.host_reactor.specs.declared.ordered.Phase.TheVariants.{Connecting}
@@ -48,7 +48,7 @@ use Rattle.laws_homing.specs.clear_boards.Clocking.{IsCounted}
 use Rattle.laws_homing.specs.clear_boards.Firing.{AllSmall, AreSmall, IsSmall, TellOff}
 use Rattle.laws_homing.specs.clear_boards.Hearing.{AllFiredIn, FiredOn, FiringNone, IsFiredIn, NoneOn}
 use Rattle.laws_homing.specs.clear_boards.Limited.{limit_of}
-use Rattle.laws_homing.specs.clear_boards.Turned.{AreBehind, RelaysOne, SetsNone, SetsOne}
+use Rattle.laws_homing.specs.clear_boards.Turned.{AreSentBehind, RelaysOne, SetsNone, SetsOne}
 use Rattle.laws_homing.proofs.clear_boards.Answering.{told_to_commands}
 use Rattle.laws_homing.proofs.clear_boards.Bridging.{among_front, firing_among, off_found}
 use Rattle.laws_homing.proofs.clear_boards.Clocking.{lines_up, report_counts}
@@ -59,7 +59,7 @@ use Rattle.laws_homing.proofs.clear_boards.Telling.{told_at_once}
 use Rattle.laws_homing.proofs.clear_boards.Triggering.{Gone, Keen, turn_so}
 use Rattle.laws_homing.proofs.clear_boards.Turned.{above, next_all}
 use Rattle.link_work.specs.Answers.{IsAmong}
-use Rattle.laws_homing.specs.clear_groups.Safe.{IsHeld, IsSafe, IsWatched}
+use Rattle.laws_homing.specs.clear_groups.Safe.{IsGroupHeld, IsSafe, IsWatched}
 use Rattle.laws_homing.proofs.clear_boards.Rests.{clear_over}
 use Rattle.laws_homing.proofs.clear_groups.Sections.{rests_section}
 use Rattle.laws_homing.specs.clear_groups.Sections.{IsAlike, IsClearSection, IsFollowed, IsPlain, IsRestingSection, rig_at, turns_of}
@@ -261,7 +261,7 @@ module _ (m : Machine) (v : IsValidMachine m) (switches : List Switch) (pins : �
   abbrev Own : ℕ → ℕ → ℕ
   Own b = λ k. board_tick (clock_of (board_at m b)) k
 
-  same_members : (after G K).members ≡ G.members
+  same_members : (turned_group G K).members ≡ G.members
   same_members = stepping.same_members m v switches pins entries none lines ready from start last till members followed 0 0 c d past j js s early low_so far reach h is
 
   are_members : map (λ (x : Seen). x.member) G.members ≡ members
@@ -339,7 +339,7 @@ module _ (m : Machine) (v : IsValidMachine m) (switches : List Switch) (pins : �
               let up = lines_up (lines b) start n l in
               omega (arith, up, same)
 
-          by : IsHeld m lines start last members K G Rigs → ((x : ℕ) → u.trigger.timeout ≡ Some x → Base ≤ x) × (SetsOne (Commands b) → (Now < nearest Now Clock) × (Base ≤ nearest Now Clock))
+          by : IsGroupHeld m lines start last members K G Rigs → ((x : ℕ) → u.trigger.timeout ≡ Some x → Base ≤ x) × (SetsOne (Commands b) → (Now < nearest Now Clock) × (Base ≤ nearest Now Clock))
           by (inl k) =
               let order = (followed b on).goes in
               let ends = safe.ends in
@@ -350,7 +350,7 @@ module _ (m : Machine) (v : IsValidMachine m) (switches : List Switch) (pins : �
           by (inr (inr k)) =
               let begins = safe.begins in
               let grown = (groups.grown m switches pins entries lines ready from start last till members followed c d past j js Rested early low_so far reach h is safe).1 in
-              let sizes : (start + 1 ≤ G.sent) × (K + 2 ≤ (after G K).sent) = elim k.1 [
+              let sizes : (start + 1 ≤ G.sent) × (K + 2 ≤ (turned_group G K).sent) = elim k.1 [
                 | inl pre ↦ (let a = pre.0 in let b_so = pre.1 in (omega (arith, b_so, begins), omega (arith, a, b_so, grown)))
                 | inr go ↦ (let a = go.0 in let b_so = go.1 in (omega (arith, a, b_so, begins), omega (arith, b_so, grown)))
               ] in
@@ -358,7 +358,7 @@ module _ (m : Machine) (v : IsValidMachine m) (switches : List Switch) (pins : �
               let one = sizes.0 in
               (limit_low G.sent (omega (arith, one)) ((renewed 0).limited Oid u there), λ sets. watched (k.2 b on).1 sizes.0 sizes.1 grown)
             where
-              watched : IsWatched m (lines b) b K start last G.sent G.members (Rigs b) → (start + 1 ≤ G.sent) → (K + 2 ≤ (after G K).sent) → (G.sent ≤ (after G K).sent) → (Now < nearest Now Clock) × (Base ≤ nearest Now Clock)
+              watched : IsWatched m (lines b) b K start last G.sent G.members (Rigs b) → (start + 1 ≤ G.sent) → (K + 2 ≤ (turned_group G K).sent) → (G.sent ≤ (turned_group G K).sent) → (Now < nearest Now Clock) × (Base ≤ nearest Now Clock)
               watched (inr gone) first next grown = absurd (live gone.0)
               watched (inl w) first next grown =
                   let f = followed b on in
@@ -368,7 +368,7 @@ module _ (m : Machine) (v : IsValidMachine m) (switches : List Switch) (pins : �
                   let plain = stepping.plain m v switches pins entries none lines ready from start last till members followed 0 0 c d past j js s early low_so far reach h is b on in
                   let few = groups.few m switches pins entries lines ready from start last till members followed c d past j js Rested early low_so far reach h is b on in
                   let in_range = groups.in_range m switches pins entries lines ready from start last till members followed c d past j js Rested early low_so far reach h is b on in
-                  let to = (after G K).sent in
+                  let to = (turned_group G K).sent in
                   let ahead = boards.ahead_of m b (pins b) entries (j b) (turns_of b js) (clear_over (board_at m b) (pins b) b entries (j b) (turns_of b js) none plain.run.turns_are plain.limits) plain.run.turns_are plain.none_shut.0 few in_range (lines b) ready start last till to f (omega (arith, low_so, size)) (omega (arith, reach, size)) (omega (arith, next, size)) most (omega (arith, near, size)) in
                   let clock = groups.clock_is m switches pins entries lines ready from start last till members followed c d past j js Rested early low_so far reach h is b on near in
                   let is_so : nearest Now Clock ≡ lines_tick (lines b) (to * turn_ns) = ap (nearest Now) clock ∙ ahead.is in
@@ -386,7 +386,7 @@ module _ (m : Machine) (v : IsValidMachine m) (switches : List Switch) (pins : �
           let calm = stepping.calm_meant (above cs) Oid Clock (queued_in (orders (j b).control (j b).batch)) (omega arith) k.behind in
           told_stands (board_at m b) (pins b) b entries (j b) [] (turns_of b js) (above cs) Oid oid reason clock plain.run.turns_are watched (calm, tt) (λ u there. (small b on Oid u there).reason) told
 
-      behind_so : AreBehind Oid Clock (Commands b)
+      behind_so : AreSentBehind Oid Clock (Commands b)
       behind_so = (sent_is safe.begins).behind
 
       taken : Later b ≡ (passes (takes_all (Rigs b) (Commands b)).rig Until).rig

@@ -86,21 +86,21 @@ module _ (m : Machine) (clocks : Clocks) (b start : ℕ) (axis : AxisDef) (Q : T
 
   abbrev pub Sampled : Sampling
   Sampled = record {
-    at = trig.first_from now (nearest now (low (turn_tick clocks start))) (trig.rest_of G);
+    at = trig.first_from now (nearest now (low (turn_tick clocks start))) (trig.least_rest G);
     sample = G.sample_ticks;
     count = 4;
-    rest = trig.rest_of G;
+    rest = trig.least_rest G;
     value = G.pin_value == 1;
     reason = 1;
   }
 
   pub sampled_is : Sampled ≡ readings_from m b axis base
   sampled_is =
-      let rest : trig.rest_of G ≡ (board_at m b).freq / 10_000 = rest_is ((board_at m b).freq / 10_000) some in
-      let at : trig.first_from now (nearest now (low (turn_tick clocks start))) (trig.rest_of G) ≡ base =
-      ap (λ (n : ℕ). trig.first_from now n (trig.rest_of G)) at_base ∙ first_at now base (trig.rest_of G) low_base (omega (arith, rest, some)) in
+      let rest : trig.least_rest G ≡ (board_at m b).freq / 10_000 = rest_is ((board_at m b).freq / 10_000) some in
+      let at : trig.first_from now (nearest now (low (turn_tick clocks start))) (trig.least_rest G) ≡ base =
+      ap (λ (n : ℕ). trig.first_from now n (trig.least_rest G)) at_base ∙ first_at now base (trig.least_rest G) low_base (omega (arith, rest, some)) in
       let Made : ℕ → ℕ → Bool → Sampling = λ a r v. (record { at = a; sample = (board_at m b).freq * 15 / 1_000_000; count = 4; rest = r; value = v; reason = 1 }) in
-      ap (λ (a : ℕ). Made a (trig.rest_of G) (G.pin_value == 1)) at ∙ ap (λ (r : ℕ). Made base r (G.pin_value == 1)) rest ∙ ap (λ (v : Bool). Made base ((board_at m b).freq / 10_000) v) (flag_is axis.pressed)
+      ap (λ (a : ℕ). Made a (trig.least_rest G) (G.pin_value == 1)) at ∙ ap (λ (r : ℕ). Made base r (G.pin_value == 1)) rest ∙ ap (λ (v : Bool). Made base ((board_at m b).freq / 10_000) v) (flag_is axis.pressed)
 
   -- an endstop that stands
   abbrev Stands : Rig → Type 0
@@ -154,7 +154,7 @@ module _ (m : Machine) (clocks : Clocks) (b start : ℕ) (axis : AxisDef) (Q : T
       no_both false e f = cc
 
       reason_of : (n : ℕ) (y : Sampling) → trig.first_sampling n G ≡ Some y → y.reason ≡ 1
-      reason_of n y e = ap (λ (z : Sampling). z.reason) (sym (some_is (record { at = trig.first_from n (nearest n G.clock) (trig.rest_of G); sample = G.sample_ticks; count = 4; rest = trig.rest_of G; value = G.pin_value == 1; reason = 1 }) y e))
+      reason_of n y e = ap (λ (z : Sampling). z.reason) (sym (some_is (record { at = trig.first_from n (nearest n G.clock) (trig.least_rest G); sample = G.sample_ticks; count = 4; rest = trig.least_rest G; value = G.pin_value == 1; reason = 1 }) y e))
 
   -- a stepper that is bound
   binds : (U : ℕ → Type 0) (r : Rig) (i : ℕ) → AbleOf U r → AbleOf U (acts r (cmd.StepperStopOnTrigger i Oid)).rig

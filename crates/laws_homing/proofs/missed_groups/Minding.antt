@@ -16,7 +16,7 @@ use Rattle.msg_code.specs.declared.cmd.Cmd.TheVariants as cmd
 use Rattle.board_sim.specs.Rig.{Rig, Slot, acts, passes, slot_at, takes_all}
 use Rattle.board_sim.proofs.Bound.{one_slot}
 use Rattle.board_sim.proofs.Halting.{quiet_moves}
-use Rattle.laws_homing.specs.clear_boards.Turned.{AreBehind, IsBehind, Relays, RelaysOne}
+use Rattle.laws_homing.specs.clear_boards.Turned.{AreSentBehind, IsSentBehind, Relays, RelaysOne}
 use Rattle.laws_board.proofs.clocks.Answers.{Each}
 use Rattle.laws_homing.proofs.clear_boards.Slots.{Beside, Follows, Lasts, MakesNone, OfEach, all_beside, no_both, passes_beside, passes_each, running_beside, running_each, takes_each, with_trigger}
 use Rattle.laws_homing.specs.missed_groups.Minds.{Hits, Minds}
@@ -153,7 +153,7 @@ module _ (oid : ℕ) (T : ℕ → Type 0) (Q : Type 0) where
   -- some of these commands are taken at a tick
   module _ (clock tick : ℕ) (cs : List Cmd) where
     abbrev Fit : ℕ → Cmd → Type 0
-    Fit now c = IsBehind oid clock c × (Relays c → RelaysOne cs) × (now ≡ tick)
+    Fit now c = IsSentBehind oid clock c × (Relays c → RelaysOne cs) × (now ≡ tick)
 
     abbrev Soon : List (List Level) → ℕ → Slot → Type 0
     Soon pins i s = i ≡ oid → Minds T Q pins s × (s.trigger.can ≡ true → ((x : ℕ) → T x → tick ≤ x) × (RelaysOne cs → Q))
@@ -177,7 +177,7 @@ module _ (oid : ℕ) (T : ℕ → Type 0) (Q : Type 0) where
       homes = λ pins now i s endstop pin g fit k. absurd fit.0;
     }
 
-    fit_each : (ds : List Cmd) → (RelaysOne ds → RelaysOne cs) → AreBehind oid clock ds → Each (Fit tick) ds
+    fit_each : (ds : List Cmd) → (RelaysOne ds → RelaysOne cs) → AreSentBehind oid clock ds → Each (Fit tick) ds
     fit_each [] of k = tt
     fit_each (d ∷ ds) of k = ((k.0, (λ z. of (inl z)), refl), fit_each ds (λ z. of (inr z)) k.1)
 
@@ -195,11 +195,11 @@ module _ (oid : ℕ) (T : ℕ → Type 0) (Q : Type 0) where
       let all = running_each (Soon clock tick cs) (Fit clock tick cs) (follows_minded clock tick cs) Running r c ((refl, refl), (λ z. absurd z), refl) soon in
       each_minded (Unit {0}) r (acts r c).rig (running_beside Running r c) d (λ i s at own. (all i s at own).0)
 
-  all_minded : (clock : ℕ) (r : Rig) (cs : List Cmd) → AreBehind oid clock cs → From cs r → D r → D (takes_all r cs).rig
+  all_minded : (clock : ℕ) (r : Rig) (cs : List Cmd) → AreSentBehind oid clock cs → From cs r → D r → D (takes_all r cs).rig
   all_minded clock r cs k from d =
       let tick = r.controller.tick in
       let all = takes_each (Soon clock tick cs) (Fit clock tick cs) (follows_minded clock tick cs) r cs (fit_each clock tick cs cs (λ z. z) k) (soon_each clock r cs d (from d.slot d.is)) in
       each_minded (Each MakesNone cs) r (takes_all r cs).rig (all_beside r cs) d (λ i s at own. (all i s at own).0)
 
-  pub turn_minded : (clock until : ℕ) (r : Rig) (cs : List Cmd) → AreBehind oid clock cs → From cs r → D r → D (passes (takes_all r cs).rig until).rig
+  pub turn_minded : (clock until : ℕ) (r : Rig) (cs : List Cmd) → AreSentBehind oid clock cs → From cs r → D r → D (passes (takes_all r cs).rig until).rig
   turn_minded clock until r cs k from d = passes_minded until (takes_all r cs).rig (all_minded clock r cs k from d)

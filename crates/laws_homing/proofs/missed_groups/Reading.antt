@@ -31,7 +31,7 @@ use Rattle.laws_homing.specs.home_runs.Told.{IsMember}
 use Rattle.laws_homing.specs.home_runs.Windows.{HasAnswer}
 use Rattle.laws_homing.specs.missed_groups.Ticks.{IsReader}
 use Rattle.laws_homing.specs.switch_runs.Reports.{IsReport}
-use Rattle.laws_homing.specs.fired_runs.Since.{AreRead, ReadsSwitchTrue, ReadsTrue, WasFiredAt}
+use Rattle.laws_homing.specs.fired_runs.Since.{AreSoInTurns, ReadsSwitchTrue, ReadsTrue, WasFiredAt}
 use Rattle.laws_homing.specs.clear_groups.Resting.{BeginsAlone}
 use Rattle.laws_homing.specs.clear_groups.Runs.{AreSetUp, IsClearRun}
 use Rattle.laws_homing.specs.clear_groups.Safe.{IsSafe}
@@ -212,7 +212,7 @@ module _ (m : Machine) (v : IsValidMachine m) (switches : List Switch) (pins : �
 
   -- so in all its turns
   pub runs_read : (c : Came) (before : List Came) (all : List (ℕ → BoardTurn)) → IsClearRun m switches pins entries lines ready till c before all → length before + 276 ≤ till → (b : ℕ) → b < length m.boards
-      → AreRead (ReadsTrue m switches b) (c ∷ before) (turns_of b all) × AreRead (ReadsSwitchTrue m switches b) (c ∷ before) (turns_of b all)
+      → AreSoInTurns (ReadsTrue m switches b) (c ∷ before) (turns_of b all) × AreSoInTurns (ReadsSwitchTrue m switches b) (c ∷ before) (turns_of b all)
   runs_read c before [] r reach b low = (tt, tt)
   runs_read c [] (j ∷ js) r reach b low = absurd (let size = r.long in omega (arith, size))
   runs_read c (d ∷ past) (j ∷ js) r reach b low =

@@ -26,11 +26,11 @@ use Rattle.laws_homing.proofs.home_runs.Grouped.{members_states}
 use Rattle.laws_homing.specs.clear_boards.Firing.{AllSmall}
 use Rattle.laws_homing.proofs.clear_boards.Keeping.{hears_keep}
 use Rattle.laws_homing.proofs.clear_boards.Standing.{sound_at}
-use Rattle.laws_homing.specs.clear_groups.Quiet.{IsQuiet}
+use Rattle.laws_homing.specs.clear_groups.Quiet.{ReadsNoSwitch}
 use Rattle.laws_homing.specs.clear_groups.Resting.{BeginsAlone}
 use Rattle.laws_homing.specs.clear_groups.Runs.{AreSetUp, IsClearRun, IsSetUp}
-use Rattle.laws_homing.specs.clear_groups.Safe.{IsHeld, IsRenewed, IsSafe, IsSafeAt, IsSafeIn}
-use Rattle.laws_homing.specs.clear_groups.Sections.{IsClearSection, IsFollowed, IsPlain, rest_of, rig_at, turns_of}
+use Rattle.laws_homing.specs.clear_groups.Safe.{IsGroupHeld, IsRenewed, IsSafe, IsSafeAt, IsSafeIn}
+use Rattle.laws_homing.specs.clear_groups.Sections.{IsClearSection, IsFollowed, IsPlain, earlier_turns, rig_at, turns_of}
 use Rattle.laws_homing.specs.clear_groups.SetUp.{HoldsOf, IsPrepared}
 use Rattle.laws_homing.proofs.clear_groups.Beginning as beginning
 use Rattle.laws_homing.proofs.clear_groups.Begun as begun
@@ -58,7 +58,7 @@ MindsIn m switches pins entries lines start last members c before all =
 abbrev MindsAt : (m : Machine) (switches : List Switch) (pins : ℕ → List (List Level)) (entries : List Entry) (lines : ℕ → Clocks) (start last : ℕ) (members : List Member) (at : ℕ) → List Came → List (ℕ → BoardTurn) → Type 0
 MindsAt m switches pins entries lines start last members at [] all = Unit {0}
 MindsAt m switches pins entries lines start last members at (c ∷ before) all =
-    (length before ≡ at → MindsIn m switches pins entries lines start last members c before all) × MindsAt m switches pins entries lines start last members at before (rest_of all)
+    (length before ≡ at → MindsIn m switches pins entries lines start last members c before all) × MindsAt m switches pins entries lines start last members at before (earlier_turns all)
 
 -- over the turns of a section
 module _ (m : Machine) (v : IsValidMachine m) (switches : List Switch) (pins : ℕ → List (List Level)) (entries : List Entry) (none : entries ≡ []) (lines : ℕ → Clocks) (ready from start last till at : ℕ) (members : List Member)
@@ -106,7 +106,7 @@ module _ (m : Machine) (v : IsValidMachine m) (switches : List Switch) (pins : �
           let one_is = ((renewed 1).held (trigger_of m b) u there).expiry off two in
           omega (arith, zero_is, one_is)
 
-      by : IsHeld m lines start last members turn g rigs → u.trigger.tick ≡ lines_tick (lines b) ((last + 1) * turn_ns)
+      by : IsGroupHeld m lines start last members turn g rigs → u.trigger.tick ≡ lines_tick (lines b) ((last + 1) * turn_ns)
       by (inl k) = elim (k.1 b on) [ inl renewed ↦ absurd (never (last + 1) renewed) | inr limited ↦ (limited.0.held (trigger_of m b) u there).expiry off two ]
       by (inr (inl k)) = absurd (never g.sent (k b on).0)
       by (inr (inr k)) = absurd (never g.sent (k.2 b on).0)
@@ -176,7 +176,7 @@ module _ (m : Machine) (v : IsValidMachine m) (switches : List Switch) (pins : �
   -- the boards whose set-up it is rest before it
   rests_all : (start : ℕ) (c d e : Came) (past : List Came) (i j : ℕ → BoardTurn) (js : List (ℕ → BoardTurn)) (x : IsSetUp m switches pins entries (lines start) ready till start c d e past i j js) → start ≡ length past + 251 → (b : ℕ)
       → ((k : ℕ) → board_tick (clock_of (board_at m b)) k ≤ board_tick (clock_of (board_at m b)) (k + 1)) → IsPlain m switches (pins b) entries b past (turns_of b js) → BeginsAlone m switches (e ∷ past)
-      → IsQuiet (rig_at m pins entries js b) → RestsOf (trigger_of m b) (rig_at m pins entries js b)
+      → ReadsNoSwitch (rig_at m pins entries js b) → RestsOf (trigger_of m b) (rig_at m pins entries js b)
   rests_all start c d e past i j js x at b rise known alone quiet =
       let since = x.section.homes.1.1.0 x.early in
       let h = x.new.0 in
@@ -190,11 +190,11 @@ module _ (m : Machine) (v : IsValidMachine m) (switches : List Switch) (pins : �
   module _ (from start : ℕ) (members : List Member) (begun_so : from + 251 ≤ start) where
     minds_none : (at last : ℕ) (came : List Came) (all : List (ℕ → BoardTurn)) → length came ≤ at → MindsAt m switches pins entries (lines start) start last members at came all
     minds_none at last [] all l = tt
-    minds_none at last (c ∷ before) all l = ((λ e. absurd (omega (arith, e, l))), minds_none at last before (rest_of all) (omega (arith, l)))
+    minds_none at last (c ∷ before) all l = ((λ e. absurd (omega (arith, e, l))), minds_none at last before (earlier_turns all) (omega (arith, l)))
 
     safe_none : (at last : ℕ) (came : List Came) (all : List (ℕ → BoardTurn)) → length came ≤ at → IsSafeAt m switches pins entries (lines start) start last members at came all
     safe_none at last [] all l = tt
-    safe_none at last (c ∷ before) all l = ((λ e. absurd (omega (arith, e, l))), safe_none at last before (rest_of all) (omega (arith, l)))
+    safe_none at last (c ∷ before) all l = ((λ e. absurd (omega (arith, e, l))), safe_none at last before (earlier_turns all) (omega (arith, l)))
 
     record Found (came : List Came) (all : List (ℕ → BoardTurn)) : Type 0 where
       last : ℕ
@@ -220,7 +220,7 @@ module _ (m : Machine) (v : IsValidMachine m) (switches : List Switch) (pins : �
         (λ b on. rises m switches pins entries none lines ready till v from start members begun_so b (x.section.plain b on).run.board) in
         let mid : (b : ℕ) → IsMember b x.members → IsPlain m switches (pins b) entries b (e ∷ past) (turns_of b (j ∷ js)) = (λ b on. turn_before m switches (pins b) entries b d (e ∷ past) (i b) (turns_of b (j ∷ js)) (rise b on) (x.section.plain b on)) in
         let first : (b : ℕ) → IsMember b x.members → IsPlain m switches (pins b) entries b past (turns_of b js) = (λ b on. turn_before m switches (pins b) entries b e past (j b) (turns_of b js) (rise b on) (mid b on)) in
-        let quiet : (b : ℕ) → IsMember b x.members → IsQuiet (rig_at m pins entries js b) = (λ b on. (quiet_all m switches pins entries none lines ready till v b (rise b on) d (e ∷ past) (j ∷ js) (omega (arith, size)) (mid b on) alone.1 set_up.1 (omega (arith, reach))).1) in
+        let quiet : (b : ℕ) → IsMember b x.members → ReadsNoSwitch (rig_at m pins entries js b) = (λ b on. (quiet_all m switches pins entries none lines ready till v b (rise b on) d (e ∷ past) (j ∷ js) (omega (arith, size)) (mid b on) alone.1 set_up.1 (omega (arith, reach))).1) in
         let prepared : (b : ℕ) → IsMember b x.members → HoldsOf (trigger_of m b) (λ ps y. IsPrepared (lines_tick (lines start b) (start * turn_ns)) ps y) (rig_at m pins entries js b) =
         (λ b on. prepared_all m switches pins entries none lines ready till v start c d e past i j js x (omega (arith, at)) b (rise b on) (first b on) alone.1 (quiet b on)) in
         let rests : (b : ℕ) → IsMember b x.members → RestsOf (trigger_of m b) (rig_at m pins entries js b) = (λ b on. rests_all start c d e past i j js x (omega (arith, at)) b (rise b on) (first b on) alone.1 (quiet b on)) in

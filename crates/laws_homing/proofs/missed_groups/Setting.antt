@@ -33,7 +33,7 @@ use Rattle.laws_homing.specs.home_runs.Guards.{HasFired}
 use Rattle.laws_homing.specs.home_runs.Told.{IsMember}
 use Rattle.laws_homing.proofs.home_runs.Guarding.{fired_next, passes_next}
 use Rattle.laws_homing.specs.clear_boards.Alive.{RelayNone}
-use Rattle.laws_homing.specs.clear_boards.Turned.{AreBehind}
+use Rattle.laws_homing.specs.clear_boards.Turned.{AreSentBehind}
 use Rattle.laws_homing.proofs.clear_boards.Clocking.{timeout_ahead}
 use Rattle.laws_homing.proofs.clear_boards.Standing.{runs_through, tick_is}
 use Rattle.laws_homing.proofs.clear_boards.Taking.{takes_in_turn}
@@ -83,7 +83,7 @@ able_minded oid T Q r alive a = record { slot = a.slot; is = a.is; minds = a.min
     by false e = absurd (alive (record { slot = a.slot; is = a.is; fired = e }))
 
 -- a board behind some orders and commands that are behind a set-up can trigger only where it could
-alive_before : (oid until : ℕ) (r : Rig) (cs : List Cmd) → ((clock : ℕ) → AreBehind oid clock cs) → (HasFired oid (passes (takes_all r cs).rig until).rig → ⊥) → HasFired oid r → ⊥
+alive_before : (oid until : ℕ) (r : Rig) (cs : List Cmd) → ((clock : ℕ) → AreSentBehind oid clock cs) → (HasFired oid (passes (takes_all r cs).rig until).rig → ⊥) → HasFired oid r → ⊥
 alive_before oid until r cs behind alive off =
     let q = (takes_all r cs).rig in
     alive (fired_next (above cs) oid q (passes q until).rig (passes_next (above cs) oid q until) (fired_next (above cs) oid r q (next_all oid 0 r cs (behind 0)) off))
@@ -183,7 +183,7 @@ module _ (m : Machine) (v : IsValidMachine m) (switches : List Switch) (pins : �
 
     -- what it minds behind the orders, and behind the turn
     module _ (T : ℕ → Type 0) where
-      finishes : (tail A : List Cmd) → Cs_second ≡ A ++ tail → ((clock : ℕ) → AreBehind Oid clock tail) → RelayNone tail
+      finishes : (tail A : List Cmd) → Cs_second ≡ A ++ tail → ((clock : ℕ) → AreSentBehind Oid clock tail) → RelayNone tail
           → ((takes_all (rig_at m pins entries (j ∷ js) b) A).rig.controller.state ≡ Running → Able Oid T Q (takes_all (rig_at m pins entries (j ∷ js) b) A).rig) → Outcome T
       finishes tail A cut behind calm able =
           let r = rig_at m pins entries (j ∷ js) b in

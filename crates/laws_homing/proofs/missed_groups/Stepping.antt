@@ -36,7 +36,7 @@ use Rattle.trigger_group.specs.declared.round.Phase.{Phase}
 use Rattle.trigger_group.specs.declared.round.Phase.TheVariants.{Goes, Rests, Sends}
 use Rattle.trigger_group.specs.declared.seen.Fired.{Fired}
 use Rattle.trigger_group.specs.declared.seen.Seen.{Seen}
-use Rattle.trigger_group.specs.Group.{GroupState, after, after_in, all_fired, any_fired_by, fired_by, phase, relay_begins, relay_from, relay_in}
+use Rattle.trigger_group.specs.Group.{GroupState, turned_group, after_in, all_fired, any_fired_by, fired_by, phase, relay_begins, relay_from, relay_in}
 use Rattle.trigger_group.proofs.Knows.{after_members}
 use Rattle.axis_homing.specs.declared.homing.Homing.{Homing}
 use Rattle.axis_homing.specs.Homing.{answer_in, hears_all, low}
@@ -49,13 +49,13 @@ use Rattle.laws_homing.specs.clear_boards.Firing.{AllSmall}
 use Rattle.laws_homing.specs.clear_boards.Limited.{limit_of}
 use Rattle.laws_homing.specs.clear_boards.Modes.{Hears}
 use Rattle.laws_homing.specs.clear_boards.Ordered.{IsOrdered}
-use Rattle.laws_homing.specs.clear_boards.Turned.{AreBehind, RelaysOne}
+use Rattle.laws_homing.specs.clear_boards.Turned.{AreSentBehind, RelaysOne}
 use Rattle.laws_homing.proofs.clear_boards.Keeping.{hears_keep}
 use Rattle.laws_homing.proofs.clear_boards.Ordered.{turn_ordered}
 use Rattle.laws_homing.proofs.clear_boards.Standing.{sound_at, tick_is}
 use Rattle.laws_homing.proofs.clear_boards.Taking.{clear_at, takes_in_turn}
 use Rattle.laws_homing.proofs.clear_boards.Turned.{above, calm_one, next_all}
-use Rattle.laws_homing.specs.clear_groups.Safe.{IsHeld, IsSafe}
+use Rattle.laws_homing.specs.clear_groups.Safe.{IsGroupHeld, IsSafe}
 use Rattle.laws_homing.specs.clear_groups.Sections.{IsClearSection, IsFollowed, IsPlain, rig_at, turns_of}
 use Rattle.laws_homing.proofs.clear_groups.Known.{behind_turn, homing_next, of_known, open_group}
 use Rattle.laws_homing.proofs.clear_groups.Orders.{IsSent, sent_from}
@@ -122,7 +122,7 @@ relay_after (Sends round) g turn k e = inl e
 relay_after Rests g turn k e = inl e
 relay_after Goes g turn k e = relay_goes (all_fired g.members) g turn k (sym (relay_of_if (all_fired g.members) g _) ∙ e)
 
-pub calm_meant : (i oid clock : ℕ) (ms : List Meant) → above (commands_of ms) ≤ i → AreBehind oid clock (commands_of ms) → AreCalm i oid ms
+pub calm_meant : (i oid clock : ℕ) (ms : List Meant) → above (commands_of ms) ≤ i → AreSentBehind oid clock (commands_of ms) → AreCalm i oid ms
 calm_meant i oid clock [] less k = tt
 calm_meant i oid clock (x ∷ ms) less k = (calm_one i oid clock x.command (omega (arith, less)) k.0, calm_meant i oid clock ms (omega (arith, less)) k.1)
 
@@ -186,10 +186,10 @@ module _ (m : Machine) (v : IsValidMachine m) (switches : List Switch) (pins : �
   pub next_of : (Behind.start ≡ start) × (Behind.group.start ≡ start) × (members_of Behind.group ≡ members)
   next_of = of_known start members (noted m c.note (known_by m switches (d ∷ past))).homing Behind (s.homes.0 (omega (arith, early))).1 next_known.0
 
-  pub hears : Hears (after G K) N
+  pub hears : Hears (turned_group G K) N
   hears = hears_keep All c.states Behind
 
-  pub same_members : (after G K).members ≡ G.members
+  pub same_members : (turned_group G K).members ≡ G.members
   same_members = after_members G K
 
   pub are_members : members_of G ≡ members
@@ -226,7 +226,7 @@ module _ (m : Machine) (v : IsValidMachine m) (switches : List Switch) (pins : �
     sent e = sent_from m Lines b h K G (Commands b) ordered (omega (arith, e, far)) (unended e)
 
     abbrev pub Clock : ℕ
-    Clock = low (turn_tick Lines (after G K).sent)
+    Clock = low (turn_tick Lines (turned_group G K).sent)
 
     pub taken : Later b ≡ (passes (takes_all (Rigs b) (Commands b)).rig (Own b (length (turns_of b js) + 1))).rig
     taken = takes_in_turn (board_at m b) (pins b) b entries (j b) (turns_of b js) none plain.run.turns_are plain.limits
@@ -270,7 +270,7 @@ module _ (m : Machine) (v : IsValidMachine m) (switches : List Switch) (pins : �
     pub off_late : IsSafe m lines start last members K G Rigs → last + 5 ≤ K → (u : Slot) → slot_at (Rigs b) (trigger_of m b) ≡ Some u → u.trigger.can ≡ true → ⊥
     off_late safe late u there can = by safe.held
       where
-        by : IsHeld m lines start last members K G Rigs → ⊥
+        by : IsGroupHeld m lines start last members K G Rigs → ⊥
         by (inl k) =
             let limit = lines_tick (lines b) ((last + 1) * turn_ns) in
             let timed : u.trigger.timeout ≡ limit_of u.trigger.can limit → u.trigger.timeout ≡ Some limit = λ e. e ∙ ap (λ (z : Bool). limit_of z limit) can in

@@ -13,7 +13,7 @@ use Rattle.msg_code.specs.declared.talk.News.{News}
 use Rattle.msg_code.specs.declared.talk.State.{State}
 use Rattle.trigger_group.specs.declared.seen.Fired.{Fired}
 use Rattle.trigger_group.specs.declared.seen.Seen.{Seen}
-use Rattle.trigger_group.specs.Group.{GroupState, came, first, hears, hears_from, later}
+use Rattle.trigger_group.specs.Group.{GroupState, came, first_fired, member_hears, hears_from, later}
 use Rattle.axis_homing.specs.Homing.{came_at, hears_answer, hears_news, hears_state, hears_states}
 use Rattle.host_reactor.specs.Runs.{state_at}
 use Rattle.session_work.specs.Rows.{item}
@@ -41,18 +41,18 @@ each_more W V own (x ∷ xs) more h = ((λ f e. more x.member.board f (h.0.0 f e
 abbrev now_of : ℕ → ℕ → ℕ → Fired
 now_of reason at when = record { reason = reason; tick = at; turn = when }
 
-first_so : (W : ℕ → Fired → Type 0) (b : ℕ) (now : Fired) (o : Option Fired) → W b now → ((f : Fired) → o ≡ Some f → W b f) → (f : Fired) → Some (first o now) ≡ Some f → W b f
+first_so : (W : ℕ → Fired → Type 0) (b : ℕ) (now : Fired) (o : Option Fired) → W b now → ((f : Fired) → o ≡ Some f → W b f) → (f : Fired) → Some (first_fired o now) ≡ Some f → W b f
 first_so W b now None new given f e = let same : now ≡ f = cc in subst (W b) same new
 first_so W b now (Some old) new given f e = given f e
 
 can_one : (W : ℕ → Fired → Type 0) (own reason at when : ℕ) (x : Seen) (can : Bool) → (can ≡ false → W x.member.board (now_of reason at when)) → One W own x
-    → One W own (cond can (record x { heard = Some (later x.heard when) }) (record x { fired = Some (first x.fired (now_of reason at when)) }))
+    → One W own (cond can (record x { heard = Some (later x.heard when) }) (record x { fired = Some (first_fired x.fired (now_of reason at when)) }))
 can_one W own reason at when x true new given = given
 can_one W own reason at when x false new given = (first_so W x.member.board (now_of reason at when) x.fired (new refl) given.0, given.1)
 
 from_one : (W : ℕ → Fired → Type 0) (own b : ℕ) (s : TrigState) (at when : ℕ) (x : Seen) → (s.can ≡ false → W b (now_of s.reason at when)) → One W own x → One W own (hears_from b s at when x)
 from_one W own b s at when x new given =
-    let At : Bool → Type 0 = λ z. One W own (cond z (hears s at when x) x) in
+    let At : Bool → Type 0 = λ z. One W own (cond z (member_hears s at when x) x) in
     elim (eqb_tells x.member.board b) [
       | inl p ↦ subst At (sym p.0) (can_one W own s.reason at when x s.can (λ e. subst (λ (i : ℕ). W i (now_of s.reason at when)) (sym p.1) (new e)) given)
       | inr p ↦ subst At (sym p.0) given
@@ -166,15 +166,15 @@ KnownIn last [] = ⊥
 KnownIn last (x ∷ xs) = ((f : Fired) × (x.fired ≡ Some f) × (f.turn ≤ last) × ((f.reason ≡ 1) ⊎ (f.reason ≡ 2))) ⊎ KnownIn last xs
 
 -- what is known stays known
-fired_stays : (last : ℕ) (s : TrigState) (at when : ℕ) (x : Seen) (can : Bool) → (f : Fired) → x.fired ≡ Some f → (cond can (record x { heard = Some (later x.heard when) }) (record x { fired = Some (first x.fired (now_of s.reason at when)) })).fired ≡ Some f
+fired_stays : (last : ℕ) (s : TrigState) (at when : ℕ) (x : Seen) (can : Bool) → (f : Fired) → x.fired ≡ Some f → (cond can (record x { heard = Some (later x.heard when) }) (record x { fired = Some (first_fired x.fired (now_of s.reason at when)) })).fired ≡ Some f
 fired_stays last s at when x true f e = e
-fired_stays last s at when x false f e = ap (λ (o : Option Fired). Some (first o (now_of s.reason at when))) e
+fired_stays last s at when x false f e = ap (λ (o : Option Fired). Some (first_fired o (now_of s.reason at when))) e
 
 from_stays : (last b : ℕ) (s : TrigState) (at when : ℕ) (xs : List Seen) → KnownIn last xs → KnownIn last (map (hears_from b s at when) xs)
 from_stays last b s at when [] k = k
 from_stays last b s at when (x ∷ xs) (inl k) = inl (k.0, by (x.member.board == b), k.2, k.3)
   where
-    by : (here : Bool) → (cond here (hears s at when x) x).fired ≡ Some k.0
+    by : (here : Bool) → (cond here (member_hears s at when x) x).fired ≡ Some k.0
     by true = fired_stays last s at when x s.can k.0 k.1
     by false = k.1
 from_stays last b s at when (x ∷ xs) (inr k) = inr (from_stays last b s at when xs k)

@@ -10,7 +10,7 @@ use Rattle.board_sim.specs.Fair.{Meant, commands_of}
 use Rattle.board_sim.specs.Rig.{Rig, passes, takes_all}
 use Rattle.board_world.specs.declared.event.Event.{Event}
 use Rattle.board_world.specs.declared.event.Event.TheVariants as event
-use Rattle.board_world.specs.World.{Core, Step, Do, Turn, does, happens, in_turn, run, takes_in}
+use Rattle.board_world.specs.World.{Core, Step, Do, Turn, does, after_event, in_turn, run_world, takes_in}
 use Rattle.link_work.specs.Stands.{orders}
 use Rattle.link_work.specs.Turn.{LinkState, after_board, after_host, come, comes, host_steps}
 use Rattle.link_work.proofs.Sending.{run_append}
@@ -34,13 +34,13 @@ held_one h event.Repeat k = refl
 held_one h event.Reply k = refl
 held_one h event.LoseReply k = refl
 
-held_board : (steps : List Step) (h : Core) → AllHold steps → (run steps h).board ≡ (takes_all h.board (commands_of (steps_take steps h).0)).rig
+held_board : (steps : List Step) (h : Core) → AllHold steps → (run_world steps h).board ≡ (takes_all h.board (commands_of (steps_take steps h).0)).rig
 unfolding steps_take
 held_board [] h k = refl
 held_board (Do e ∷ steps) h k =
     let first = takes_in h e in
-    let rest = (steps_take steps (happens h e)).0 in
-    held_board steps (happens h e) k.1 ∙ ap (λ (r : Rig). (takes_all r (commands_of rest)).rig) (held_one h e k.0)
+    let rest = (steps_take steps (after_event h e)).0 in
+    held_board steps (after_event h e) k.1 ∙ ap (λ (r : Rig). (takes_all r (commands_of rest)).rig) (held_one h e k.0)
     ∙ sym (takes_both h.board (commands_of first) (commands_of rest)) ∙ ap (λ (cs : List Cmd). (takes_all h.board cs).rig) (sym (commands_both first rest))
 held_board (Turn turn ∷ steps) h k = held_board steps (in_turn h turn) k.1
 
@@ -56,10 +56,10 @@ up_replies Last = (tt, (tt, tt))
 up_replies Stays = (tt, (tt, (tt, tt)))
 up_replies Garbled = (tt, tt)
 
-replied : (steps : List Step) (h : Core) → AllOf Replies steps → ((run steps h).board ≡ h.board) × ((run steps h).taken ≡ h.taken)
+replied : (steps : List Step) (h : Core) → AllOf Replies steps → ((run_world steps h).board ≡ h.board) × ((run_world steps h).taken ≡ h.taken)
 replied [] h k = (refl, refl)
-replied (Do event.Reply ∷ steps) h k = let rest = replied steps (happens h event.Reply) k.1 in (rest.0, rest.1 ∙ append-nil h.taken)
-replied (Do event.LoseReply ∷ steps) h k = let rest = replied steps (happens h event.LoseReply) k.1 in (rest.0, rest.1 ∙ append-nil h.taken)
+replied (Do event.Reply ∷ steps) h k = let rest = replied steps (after_event h event.Reply) k.1 in (rest.0, rest.1 ∙ append-nil h.taken)
+replied (Do event.LoseReply ∷ steps) h k = let rest = replied steps (after_event h event.LoseReply) k.1 in (rest.0, rest.1 ∙ append-nil h.taken)
 replied (s ∷ steps) h k = absurd k.0
 
 -- a turn
@@ -81,11 +81,11 @@ turned clock first t before are =
     let pass : List Step = Do (event.Pass (board_tick clock (turn + 1))) ∷ [] in
     let up = come Up turn l2.up.copies in
     let front = host ++ down in
-    let mid = run front l.core in
-    let core : t.after.core ≡ run up (run pass mid) =
-    ap (λ (x : LinkState). x.core) is.becomes ∙ ap (λ (h : Core). run up h) (run_append down pass l1.core) ∙ ap (λ (h : Core). run up (run pass h)) (sym (run_append host down l.core)) in
+    let mid = run_world front l.core in
+    let core : t.after.core ≡ run_world up (run_world pass mid) =
+    ap (λ (x : LinkState). x.core) is.becomes ∙ ap (λ (h : Core). run_world up h) (run_append down pass l1.core) ∙ ap (λ (h : Core). run_world up (run_world pass h)) (sym (run_append host down l.core)) in
     let took = steps_take front l.core in
-    let replies = replied up (run pass mid) (all_come Replies Up up_replies turn l2.up.copies) in
+    let replies = replied up (run_world pass mid) (all_come Replies Up up_replies turn l2.up.copies) in
     let held = held_board front l.core (all_append Holds host down (host_holds turn o is.resent) (come_holds Down turn l1.down.copies)) in
     record {
       took = took.0;

@@ -27,7 +27,7 @@ use Rattle.host_reactor.specs.Runs.{Came, known_by}
 use Rattle.laws_board.specs.turns.Turns.{AreBoardTurns, BoardTurn, stands_after}
 use Rattle.laws_board.specs.clocks.Runs.{IsInRun}
 use Rattle.laws_board.proofs.clocks.Lines.{as_long, noted_phase, run_before}
-use Rattle.laws_homing.specs.home_runs.Sections.{HomesFrom, IsOf, queued_by}
+use Rattle.laws_homing.specs.home_runs.Sections.{HomesFrom, IsOf, queued_in_turns}
 use Rattle.laws_homing.specs.home_runs.Told.{IsMember}
 use Rattle.laws_homing.proofs.home_runs.Joining.{all_queued}
 use Rattle.laws_homing.proofs.home_runs.Staying.{taken_later}
@@ -37,7 +37,7 @@ use Rattle.laws_homing.proofs.clear_groups.Resting.{some_same}
 use Rattle.laws_homing.specs.missed_groups.Ticks.{IsReader}
 use Rattle.laws_homing.specs.switch_runs.Taken.{AreBlind}
 use Rattle.laws_homing.proofs.switch_runs.Exact.{front_part}
-use Rattle.laws_homing.specs.fired_runs.Since.{AreBehind, AreRead, AreReadTrue, BeginsApart, IsAtRest, IsFiredAt, ReadsSwitchTrue, ReadsTrue}
+use Rattle.laws_homing.specs.fired_runs.Since.{AreNotAhead, AreSoInTurns, AreReadTrue, BeginsApart, IsAtRest, IsFiredAt, ReadsSwitchTrue, ReadsTrue}
 use Rattle.laws_homing.proofs.fired_runs.Blind.{blind_parts}
 use Rattle.laws_homing.proofs.fired_runs.Old.{OldAt, clash, tame_both}
 use Rattle.laws_homing.proofs.fired_runs.Once.{Split, turn_split}
@@ -121,7 +121,7 @@ module _ (m : Machine) (v : IsValidMachine m) (switches : List Switch) (pins : L
 
   -- of the members' boards one whose trigger can't trigger, as a section is known
   module _ (d : Came) (past : List Came) (turns : List BoardTurn) (r : Run past turns) (apart : BeginsApart m switches (d ∷ past)) (reads : AreReadTrue m switches b past (rest_of m v switches pins entries b turns))
-      (sees : AreRead (ReadsSwitchTrue m switches b) past (rest_of m v switches pins entries b turns)) (behind : AreBehind m switches b past) (h : Homing) (is : (noted m d.note (known_by m switches past)).homing ≡ Some h) (member : IsMember b (members_of h.group)) (to : ℕ)
+      (sees : AreSoInTurns (ReadsSwitchTrue m switches b) past (rest_of m v switches pins entries b turns)) (behind : AreNotAhead m switches b past) (h : Homing) (is : (noted m d.note (known_by m switches past)).homing ≡ Some h) (member : IsMember b (members_of h.group)) (to : ℕ)
       (high : h.start + 5 ≤ to) (meek : MeekIn (IsReader b (members_of h.group)) (h.start - 251) to turns) (reason tick : ℕ) (l x : List BoardTurn) (same : turns ≡ l ++ x) (f : IsFiredAt Oid reason tick (Board x)) (late : Own (h.start - 1) ≤ tick) where
     abbrev Ms : List Member
     Ms = members_of h.group
@@ -203,15 +203,15 @@ module _ (m : Machine) (v : IsValidMachine m) (switches : List Switch) (pins : L
     known : (g : Homing) × ((noted m turn.c.note (known_by m switches turn.before)).homing ≡ Some g) × (g.start ≡ h.start) × (g.group.start ≡ h.start) × (members_of g.group ≡ Ms)
     known = of_some h.start Ms (noted m turn.c.note (known_by m switches turn.before)).homing there.1
 
-    early_reads : AreRead (ReadsTrue m switches b) turn.before (rest_of m v switches pins entries b Early)
+    early_reads : AreSoInTurns (ReadsTrue m switches b) turn.before (rest_of m v switches pins entries b Early)
     early_reads =
         earlier_reads m v switches pins entries b (ReadsTrue m switches b) turn.c turn.before Early run_early
-        (turn.reads (subst (λ (z : List BoardTurn). AreRead (ReadsTrue m switches b) past (rest_of m v switches pins entries b z)) whole reads))
+        (turn.reads (subst (λ (z : List BoardTurn). AreSoInTurns (ReadsTrue m switches b) past (rest_of m v switches pins entries b z)) whole reads))
 
-    early_sees : AreRead (ReadsSwitchTrue m switches b) turn.before (rest_of m v switches pins entries b Early)
+    early_sees : AreSoInTurns (ReadsSwitchTrue m switches b) turn.before (rest_of m v switches pins entries b Early)
     early_sees =
         earlier_reads m v switches pins entries b (ReadsSwitchTrue m switches b) turn.c turn.before Early run_early
-        (turn.sees (subst (λ (z : List BoardTurn). AreRead (ReadsSwitchTrue m switches b) past (rest_of m v switches pins entries b z)) whole sees))
+        (turn.sees (subst (λ (z : List BoardTurn). AreSoInTurns (ReadsSwitchTrue m switches b) past (rest_of m v switches pins entries b z)) whole sees))
 
     rest : IsAtRest Oid First Early
     rest =
@@ -220,7 +220,7 @@ module _ (m : Machine) (v : IsValidMachine m) (switches : List Switch) (pins : L
         let same_long = turn_long in
         rest_before m v switches pins entries b turn.c turn.before Early known.0 run_early (turn.apart apart.1) early_reads (turn.behind behind).1 known.1 (omega (arith, at, begins, same_long))
 
-    unread : ((s : Slot) → slot_at (Board Early) Oid ≡ Some s → s.trigger.sampling ≡ None) × ((left : List Meant) × (Taken Early ++ left ≡ queued_by Early) × AreBlind left)
+    unread : ((s : Slot) → slot_at (Board Early) Oid ≡ Some s → s.trigger.sampling ≡ None) × ((left : List Meant) × (Taken Early ++ left ≡ queued_in_turns Early) × AreBlind left)
     unread =
         let at = starts.long in
         let begins = known.2 in
@@ -289,7 +289,7 @@ module _ (m : Machine) (v : IsValidMachine m) (switches : List Switch) (pins : L
     -- of the turns up to one the board takes what is queued from that turn on
     record Reached (P : Cmd → Type 0) (y : List BoardTurn) : Type 0 where
       left : List Meant
-      is_left : Taken y ++ left ≡ queued_by y
+      is_left : Taken y ++ left ≡ queued_in_turns y
       stage : Stage Z Most Late Oid some P left (Board y)
 
     ticks : (z : List BoardTurn) → AreBoardTurns (clock_of (board_at m b)) First z → (Board z).controller.tick ≡ Own (length z)
@@ -313,7 +313,7 @@ module _ (m : Machine) (v : IsValidMachine m) (switches : List Switch) (pins : L
         let all_meek = so_queue (IsMeek Z) later Early (in_are (IsMeek Z) (h.start - 251) to later Early (omega (arith, at)) (omega (arith, size, low)) meek_y) in
         let q = queue_later w (Order ∷ Early) in
         let queue_is : queue.0 ≡ New ++ q.0 =
-        append_cancel_left (queued_by Early) queue.0 (New ++ q.0) (sym queue.1 ∙ ap queued_by own ∙ q.1 ∙ append_assoc (queued_by Early) New q.0) in
+        append_cancel_left (queued_in_turns Early) queue.0 (New ++ q.0) (sym queue.1 ∙ ap queued_in_turns own ∙ q.1 ∙ append_assoc (queued_in_turns Early) New q.0) in
         let front = rest.left ++ split.front in
         let more = split.more ++ q.0 in
         let coming : took.0 ++ left.0 ≡ front ++ split.begin ∷ more =
@@ -326,7 +326,7 @@ module _ (m : Machine) (v : IsValidMachine m) (switches : List Switch) (pins : L
         let end = turns_staged Z Most Late Oid some (IsMeek Z) (clock_of (board_at m b)) First later Early took.0 left.0 ticks are (λ a t e is_cut ms k_so. (all_mild Z ms k_so, inr k_so)) took.1 (inl waits) in
         record {
           left = left.0;
-          is_left = subst (λ (z : List BoardTurn). Taken z ++ left.0 ≡ queued_by z) own left.1;
+          is_left = subst (λ (z : List BoardTurn). Taken z ++ left.0 ≡ queued_in_turns z) own left.1;
           stage = subst (λ (z : List BoardTurn). Stage Z Most Late Oid some (IsMeek Z) left.0 (Board z)) own end;
         }
 

@@ -37,7 +37,7 @@ use Rattle.laws_board.specs.turns.Turns.{AreBoardTurns, BoardTurn, stands_after}
 use Rattle.laws_board.specs.clocks.Runs.{IsInRun}
 use Rattle.laws_board.proofs.clocks.Lines.{as_long, run_before}
 use Rattle.laws_board.proofs.sections.Lists.{cons_same, cuts}
-use Rattle.laws_homing.specs.home_runs.Sections.{HomesFrom, IsOf, queued_by}
+use Rattle.laws_homing.specs.home_runs.Sections.{HomesFrom, IsOf, queued_in_turns}
 use Rattle.laws_homing.proofs.home_runs.Staging.{commands_both, ran_turns}
 use Rattle.laws_homing.proofs.home_runs.Staying.{taken_later}
 use Rattle.laws_homing.proofs.home_runs.Whole.{Only, queue_only, run_only}
@@ -58,7 +58,7 @@ use Rattle.laws_homing.proofs.switch_runs.Telling.{fit_each, fit_parts}
 use Rattle.laws_homing.specs.clear_groups.Resting.{EachTame}
 use Rattle.laws_homing.proofs.clear_groups.Resting.{some_same, taken_tame}
 use Rattle.laws_homing.proofs.clear_groups.Starting.{starts_either}
-use Rattle.laws_homing.specs.fired_runs.Since.{AreBehind, AreRead, BeginsApart, IsFiredAt, ReadsSwitchTrue, ReadsTrue}
+use Rattle.laws_homing.specs.fired_runs.Since.{AreNotAhead, AreSoInTurns, BeginsApart, IsFiredAt, ReadsSwitchTrue, ReadsTrue}
 use Rattle.laws_homing.proofs.fired_runs.Blind.{blind_parts}
 use Rattle.laws_homing.proofs.fired_runs.Old.{clash, tame_both, tame_parts}
 use Rattle.laws_homing.proofs.fired_runs.Rested.{earlier_reads, grows, left_of, queue_later, rest_of, run_at}
@@ -110,9 +110,9 @@ module _ (m : Machine) (v : IsValidMachine m) (switches : List Switch) (pins : L
     pub run : Run (c ∷ before) (order ∷ early)
     pub homes : (from s : ℕ) (ms : List Member) → HomesFrom m switches from s ms came → HomesFrom m switches from s ms (c ∷ before)
     pub apart : BeginsApart m switches came → BeginsApart m switches (c ∷ before)
-    pub behind : AreBehind m switches b came → AreBehind m switches b (c ∷ before)
-    pub reads : AreRead (ReadsTrue m switches b) came (rest_of m v switches pins entries b turns) → AreRead (ReadsTrue m switches b) (c ∷ before) early
-    pub sees : AreRead (ReadsSwitchTrue m switches b) came (rest_of m v switches pins entries b turns) → AreRead (ReadsSwitchTrue m switches b) (c ∷ before) early
+    pub behind : AreNotAhead m switches b came → AreNotAhead m switches b (c ∷ before)
+    pub reads : AreSoInTurns (ReadsTrue m switches b) came (rest_of m v switches pins entries b turns) → AreSoInTurns (ReadsTrue m switches b) (c ∷ before) early
+    pub sees : AreSoInTurns (ReadsSwitchTrue m switches b) came (rest_of m v switches pins entries b turns) → AreSoInTurns (ReadsSwitchTrue m switches b) (c ∷ before) early
     pub knew : KnewSo m switches b (length early) start axis lines came → KnowsSo m switches b start axis lines c before
 
   knew_low : (at start axis : ℕ) (lines : Clocks) (came : List Came) → KnewSo m switches b at start axis lines came → at < length came
@@ -220,7 +220,7 @@ module _ (m : Machine) (v : IsValidMachine m) (switches : List Switch) (pins : L
 
     command : T.home.command ≡ Home
     command =
-        home_is m switches pins entries b order_run.c order_run.before T.up T.order T.early knows.homing order_run.run open_it knows.known T.front T.home T.rest (ap queued_by (sym T.ordered_in) ∙ T.queue) T.ordered T.reads
+        home_is m switches pins entries b order_run.c order_run.before T.up T.order T.early knows.homing order_run.run open_it knows.known T.front T.home T.rest (ap queued_in_turns (sym T.ordered_in) ∙ T.queue) T.ordered T.reads
         ∙ ap (λ (s : ℕ). HomeOf m b There s knows.homing.axis) knows.start_is ∙ ap (λ (i : ℕ). HomeOf m b There start i) knows.axis_is ∙ ap (λ (l : Clocks). HomeOf m b l start axis) (sym knows.lines_are)
 
     tames : EachTame (commands_of (T.front ++ T.home ∷ T.rest))
@@ -228,7 +228,7 @@ module _ (m : Machine) (v : IsValidMachine m) (switches : List Switch) (pins : L
         let later = T.up ++ T.order ∷ [] in
         let are : turns ≡ later ++ T.early = T.ordered_in ∙ sym (append_assoc T.up (T.order ∷ []) T.early) in
         let q = queue_later later T.early in
-        let same : q.0 ≡ T.front ++ T.home ∷ T.rest = append_cancel_left (queued_by T.early) q.0 (T.front ++ T.home ∷ T.rest) (sym q.1 ∙ ap queued_by (sym are) ∙ T.queue) in
+        let same : q.0 ≡ T.front ++ T.home ∷ T.rest = append_cancel_left (queued_in_turns T.early) q.0 (T.front ++ T.home ∷ T.rest) (sym q.1 ∙ ap queued_in_turns (sym are) ∙ T.queue) in
         subst (λ (z : List Meant). EachTame (commands_of z)) same
         (tame_since start ms T.early later before (subst (Run before) are r) T.set_up (subst (λ (n : ℕ). HomesFrom m switches n start ms before) (sym at_early) homes))
 
@@ -244,25 +244,25 @@ module _ (m : Machine) (v : IsValidMachine m) (switches : List Switch) (pins : L
     taken : Taken (T.took ∷ Mid) ≡ Taken Mid ++ Took
     taken = (turned (clock_of (board_at m b)) First T.took Mid run_took.1.turns_are).taken
 
-    behind : (q : List Meant) × (queued_by turns ≡ Taken (T.took ∷ Mid) ++ q)
+    behind : (q : List Meant) × (queued_in_turns turns ≡ Taken (T.took ∷ Mid) ++ q)
     behind =
         let left = left_of m v switches pins entries b (T.took ∷ Mid) run_took.1.turns_are in
         let q = queue_later T.later (T.took ∷ Mid) in
-        (left.0 ++ q.0, ap queued_by T.taken_in ∙ q.1 ∙ ap (λ (z : List Meant). z ++ q.0) (sym left.1) ∙ append_assoc (Taken (T.took ∷ Mid)) left.0 q.0)
+        (left.0 ++ q.0, ap queued_in_turns T.taken_in ∙ q.1 ∙ ap (λ (z : List Meant). z ++ q.0) (sym left.1) ∙ append_assoc (Taken (T.took ∷ Mid)) left.0 q.0)
 
     -- what it took in that turn before the command and behind it
     record Parts : Type 0 where
       front : List Meant
       rest : List Meant
       took : Took ≡ front ++ T.home ∷ rest
-      was : Taken Mid ++ front ≡ queued_by T.early ++ T.front
+      was : Taken Mid ++ front ≡ queued_in_turns T.early ++ T.front
       more : T.rest ≡ rest ++ behind.0
 
     parts : Parts
     parts =
-        let first = queued_by T.early ++ T.front in
+        let first = queued_in_turns T.early ++ T.front in
         let e : Taken Mid ++ (Took ++ behind.0) ≡ first ++ T.home ∷ T.rest =
-        sym (append_assoc (Taken Mid) Took behind.0) ∙ ap (λ (z : List Meant). z ++ behind.0) (sym taken) ∙ sym behind.1 ∙ T.queue ∙ sym (append_assoc (queued_by T.early) T.front (T.home ∷ T.rest)) in
+        sym (append_assoc (Taken Mid) Took behind.0) ∙ ap (λ (z : List Meant). z ++ behind.0) (sym taken) ∙ sym behind.1 ∙ T.queue ∙ sym (append_assoc (queued_in_turns T.early) T.front (T.home ∷ T.rest)) in
         let not_yet = T.not_yet in
         let done = T.taken in
         let size = ap length taken ∙ length-append (Taken Mid) Took in
@@ -318,8 +318,8 @@ module _ (m : Machine) (v : IsValidMachine m) (switches : List Switch) (pins : L
     whole : Whole E pins End Oid (stands_after First Mid).core
     whole = whole_after E (board_at m b) pins b entries Mid End Oid run_mid.1.turns_are (endstop_small m b (axis_at m axis) v) (bring_fit m switches pins entries b (λ now. AnyTick) run_mid.0 Mid run_mid.1 (λ x any. tt))
 
-    whole_queue : queued_by turns ≡ (Taken Mid ++ parts.front) ++ (T.home ∷ T.rest)
-    whole_queue = T.queue ∙ sym (append_assoc (queued_by T.early) T.front (T.home ∷ T.rest)) ∙ ap (λ (z : List Meant). z ++ T.home ∷ T.rest) (sym parts.was)
+    whole_queue : queued_in_turns turns ≡ (Taken Mid ++ parts.front) ++ (T.home ∷ T.rest)
+    whole_queue = T.queue ∙ sym (append_assoc (queued_in_turns T.early) T.front (T.home ∷ T.rest)) ∙ ap (λ (z : List Meant). z ++ T.home ∷ T.rest) (sym parts.was)
 
     fit_front : AreFit E Any pins parts.front
     fit_front =
@@ -335,8 +335,8 @@ module _ (m : Machine) (v : IsValidMachine m) (switches : List Switch) (pins : L
         let Sole : List Meant → Type 0 = λ ms. Only Oid (commands_of ms) in
         let only : Sole (Taken Mid ++ parts.front) = (only_parts Oid (Taken Mid ++ parts.front) (T.home ∷ T.rest) (subst Sole whole_queue (queue_only Oid turns (run_only m switches pins entries b before turns v r)))).0 in
         let Makes : List Cmd → Type 0 = λ cs. MakesEndstop End cs in
-        let early = makes_front End (commands_of (queued_by T.early)) (commands_of T.front) (run_makes m switches pins entries b axis order_run.before T.early v run_early open_it low_axis on) in
-        let made : Makes (commands_of (Taken Mid ++ parts.front)) = subst Makes (sym (commands_both (queued_by T.early) T.front) ∙ ap commands_of (sym parts.was)) early in
+        let early = makes_front End (commands_of (queued_in_turns T.early)) (commands_of T.front) (run_makes m switches pins entries b axis order_run.before T.early v run_early open_it low_axis on) in
+        let made : Makes (commands_of (Taken Mid ++ parts.front)) = subst Makes (sym (commands_both (queued_in_turns T.early) T.front) ∙ ap commands_of (sym parts.was)) early in
         elim ((took_standing End Oid (Taken Mid) parts.front (Board Mid) whole.1 runs_there only).made made) [
           | inl h ↦ h.1 ∙ ap (λ (n : ℕ). Some n) (pin_of (Oid + 1) Pin h.0 (endstop_pins m b) (true_there.ends End h.0 h.1))
           | inr bad ↦ absurd bad
@@ -369,7 +369,7 @@ module _ (m : Machine) (v : IsValidMachine m) (switches : List Switch) (pins : L
         let q = queue_later l x in
         let same : got.0 ++ (left.0 ++ q.0) ≡ behind.0 =
         append_cancel_left (Taken (T.took ∷ Mid)) (got.0 ++ (left.0 ++ q.0)) behind.0
-        (sym (append_assoc (Taken (T.took ∷ Mid)) got.0 (left.0 ++ q.0)) ∙ ap (λ (z : List Meant). z ++ (left.0 ++ q.0)) (sym got.1) ∙ sym (append_assoc (Taken x) left.0 q.0) ∙ ap (λ (z : List Meant). z ++ q.0) left.1 ∙ sym q.1 ∙ ap queued_by (sym cut) ∙ behind.1) in
+        (sym (append_assoc (Taken (T.took ∷ Mid)) got.0 (left.0 ++ q.0)) ∙ ap (λ (z : List Meant). z ++ (left.0 ++ q.0)) (sym got.1) ∙ sym (append_assoc (Taken x) left.0 q.0) ∙ ap (λ (z : List Meant). z ++ q.0) left.1 ∙ sym q.1 ∙ ap queued_in_turns (sym cut) ∙ behind.1) in
         let tame = (tame_parts got.0 (left.0 ++ q.0) (subst (λ (z : List Meant). EachTame (commands_of z)) (sym same) rests.0.1)).0 in
         let blind = (blind_parts got.0 (left.0 ++ q.0) (subst AreBlind (sym same) rests.1.1)).0 in
         turns_ends tick Oid (clock_of (board_at m b)) First d (T.took ∷ Mid) got.0 sounds run_x.1.turns_are got.1 tame blind ends_taken

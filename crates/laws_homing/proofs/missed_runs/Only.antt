@@ -29,14 +29,14 @@ use Rattle.host_reactor.specs.declared.ordered.Known.{Known}
 use Rattle.host_reactor.specs.declared.ordered.Phase.TheVariants.{Connecting}
 use Rattle.host_reactor.specs.Notes.{noted}
 use Rattle.host_reactor.specs.Reactor.{Reacted, homing_commands, stop_command, stops}
-use Rattle.host_reactor.specs.Runs.{Came, known_by, last_turn}
+use Rattle.host_reactor.specs.Runs.{Came, known_by, last_reacted}
 use Rattle.laws_board.specs.turns.Turns.{BoardTurn}
 use Rattle.laws_board.specs.clocks.Runs.{IsInRun}
 use Rattle.laws_board.proofs.clocks.Answers.{Each, each_both}
 use Rattle.laws_board.proofs.clocks.Lines.{noted_phase, turn_of}
 use Rattle.laws_board.proofs.clocks.Turning.{Asks, BoardTurned, Ends, Runs}
 use Rattle.laws_board.proofs.sections.Lists.{cons_same, cuts}
-use Rattle.laws_homing.specs.home_runs.Sections.{queued_by}
+use Rattle.laws_homing.specs.home_runs.Sections.{queued_in_turns}
 use Rattle.laws_homing.specs.switch_runs.Taken.{AreBlind, IsBlind}
 use Rattle.laws_homing.proofs.switch_runs.Ordering.{lines_at}
 use Rattle.laws_homing.proofs.fired_runs.Rested.{queue_later}
@@ -118,7 +118,7 @@ turn_are m switches pins entries b c before t turns h r open_it is =
     let n = noted m c.note known in
     let home = HomeOf m b (clocks_at n.clocks b) h.start h.axis in
     are_both home (map plain t.control.commands) (units_orders t.batch.units)
-    (plain_are home t.control.commands (control_is m b (length before) n c.states x.a (last_turn m switches c before) t.control h (λ p. open_it (sym (noted_phase m c.note known) ∙ p)) is x.turned)) (blind_are home (units_orders t.batch.units) (units_blind t.batch.units))
+    (plain_are home t.control.commands (control_is m b (length before) n c.states x.a (last_reacted m switches c before) t.control h (λ p. open_it (sym (noted_phase m c.note known) ∙ p)) is x.turned)) (blind_are home (units_orders t.batch.units) (units_blind t.batch.units))
 
 one_of : (home : Cmd) (ms front : List Meant) (x : Meant) (rest : List Meant) → AllAre home ms → ms ≡ front ++ x ∷ rest → (IsBlind x.command → ⊥) → x.command ≡ home
 one_of home ms front x rest all e reads = by front (subst (AllAre home) e all)
@@ -130,15 +130,15 @@ one_of home ms front x rest all e reads = by front (subst (AllAre home) e all)
 -- so the command that begins readings, of those that were queued in a turn and behind it
 pub home_is : (m : Machine) (switches : List Switch) (pins : List (List Level)) (entries : List Entry) (b : ℕ) (c : Came) (before : List Came) (up : List BoardTurn) (t : BoardTurn) (turns : List BoardTurn) (h : Homing)
     → IsInRun m switches pins entries b (c ∷ before) (t ∷ turns) → ((known_by m switches before).phase ≡ Connecting → ⊥) → (noted m c.note (known_by m switches before)).homing ≡ Some h
-    → (front : List Meant) (home : Meant) (rest : List Meant) → queued_by (up ++ t ∷ turns) ≡ queued_by turns ++ (front ++ home ∷ rest) → length (queued_by turns ++ front) < length (queued_by (t ∷ turns)) → (IsBlind home.command → ⊥)
+    → (front : List Meant) (home : Meant) (rest : List Meant) → queued_in_turns (up ++ t ∷ turns) ≡ queued_in_turns turns ++ (front ++ home ∷ rest) → length (queued_in_turns turns ++ front) < length (queued_in_turns (t ∷ turns)) → (IsBlind home.command → ⊥)
     → home.command ≡ HomeOf m b (clocks_at (noted m c.note (known_by m switches before)).clocks b) h.start h.axis
 home_is m switches pins entries b c before up t turns h r open_it is front home rest queue ordered reads =
     let new = queued_in (orders t.control t.batch) in
     let more = queue_later up (t ∷ turns) in
     let both : new ++ more.0 ≡ front ++ home ∷ rest =
-    append_cancel_left (queued_by turns) (new ++ more.0) (front ++ home ∷ rest) (sym (append_assoc (queued_by turns) new more.0) ∙ sym more.1 ∙ queue) in
-    let long = length-append (queued_by turns) front in
-    let longer = length-append (queued_by turns) new in
+    append_cancel_left (queued_in_turns turns) (new ++ more.0) (front ++ home ∷ rest) (sym (append_assoc (queued_in_turns turns) new more.0) ∙ sym more.1 ∙ queue) in
+    let long = length-append (queued_in_turns turns) front in
+    let longer = length-append (queued_in_turns turns) new in
     elim (cuts new more.0 front (home ∷ rest) both) [
       | inl p ↦ absurd (let size = ap length p.1 ∙ length-append new p.0 in omega (arith, size, long, longer, ordered))
       | inr p ↦

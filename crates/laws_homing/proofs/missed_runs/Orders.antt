@@ -34,7 +34,7 @@ use Rattle.trigger_group.specs.declared.round.Round.{Round}
 use Rattle.trigger_group.specs.declared.round.Round.TheVariants.{Homes, Relays, Resets, Starts, Timeouts}
 use Rattle.trigger_group.specs.declared.seen.Fired.{Fired}
 use Rattle.trigger_group.specs.declared.seen.Seen.{Seen}
-use Rattle.trigger_group.specs.Group.{GroupState, all_fired, first_timeout, goes, limit, orders as group_orders, orders_in, orders_to, phase, relay_in, relays_in, reset, round_of, steppers, stop, to_board, unless_fired}
+use Rattle.trigger_group.specs.Group.{GroupState, all_fired, first_timeout, goes, limit, orders as group_orders, orders_of_group, orders_to, phase, relay_in, relays_in, reset, round_of, steppers, stop, to_board, unless_fired}
 use Rattle.axis_homing.specs.declared.homing.Homing.{Homing}
 use Rattle.axis_homing.specs.Homing.{answer_in, by_answer, command_to, commands_to, hears_all, homing_turn, order_command}
 use Rattle.axis_homing.specs.Rising.{members_of}
@@ -42,7 +42,7 @@ use Rattle.host_reactor.specs.declared.ordered.Known.{Known}
 use Rattle.host_reactor.specs.declared.ordered.Phase.TheVariants.{Connecting}
 use Rattle.host_reactor.specs.Notes.{noted}
 use Rattle.host_reactor.specs.Reactor.{Reacted, homing_commands, stop_command, stops}
-use Rattle.host_reactor.specs.Runs.{Came, known_by, last_turn}
+use Rattle.host_reactor.specs.Runs.{Came, known_by, last_reacted}
 use Rattle.laws_board.specs.turns.Turns.{BoardTurn}
 use Rattle.laws_board.specs.clocks.Runs.{IsInRun}
 use Rattle.laws_board.proofs.clocks.Answers.{Each, each_both}
@@ -127,7 +127,7 @@ module _ (O : Order → Type 0) (C : Cmd → Type 0) (b : ℕ) (frees : (c : Cmd
       (ctls_if (nat_lt g.sent (limit g)) (round_of (Timeouts (limit g)) g.members) (λ e. round_are (Timeouts (limit g)) g.members f (k.0 e)))
       (ctls_if (relays_in (relay_in g turn) turn) (round_of Relays g.members) (λ e. round_are Relays g.members f (k.1 e)))
 
-  in_are : (p : Phase) (g : GroupState) (turn : ℕ) → (IsReader b (members_of g) → O order.Home) → PhaseOf g turn p → CtlsOf (orders_in p g turn)
+  in_are : (p : Phase) (g : GroupState) (turn : ℕ) → (IsReader b (members_of g) → O order.Home) → PhaseOf g turn p → CtlsOf (orders_of_group p g turn)
   in_are (Sends round) g turn f q = round_are round g.members f q
   in_are Goes g turn f q = ctls_unless (all_fired g.members) (goes g turn) (goes_are g turn f q)
   in_are Rests g turn f q = tt
@@ -223,7 +223,7 @@ module _ (O : Order → Type 0) (C : Cmd → Type 0) (b : ℕ) (frees : (c : Cmd
       let known = known_by m switches before in
       let n = noted m c.note known in
       so_both C (map plain t.control.commands) (units_orders t.batch.units)
-      (plain_are t.control.commands (control_is m (length before) n c.states x.a (last_turn m switches c before) t.control h (λ p. open_it (sym (noted_phase m c.note known) ∙ p)) is x.turned s)) (units_are t.batch.units)
+      (plain_are t.control.commands (control_is m (length before) n c.states x.a (last_reacted m switches c before) t.control h (λ p. open_it (sym (noted_phase m c.note known) ∙ p)) is x.turned s)) (units_are t.batch.units)
 
 -- readings are asked for where Z is so, and it is told to trigger where R is so
 module _ (Z R : Type 0) (b : ℕ) where

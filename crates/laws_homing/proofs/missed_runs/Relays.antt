@@ -17,7 +17,7 @@ use Rattle.trigger_group.specs.declared.order.End.TheVariants as end
 use Rattle.trigger_group.specs.declared.order.Member.{Member}
 use Rattle.trigger_group.specs.declared.seen.Fired.{Fired}
 use Rattle.trigger_group.specs.declared.seen.Seen.{Seen}
-use Rattle.trigger_group.specs.Group.{GroupState, after, any_fired_by, phase, relay_begins, relay_from, relay_in, relays_in}
+use Rattle.trigger_group.specs.Group.{GroupState, turned_group, any_fired_by, phase, relay_begins, relay_from, relay_in, relays_in}
 use Rattle.trigger_group.specs.Kept.{BoardsRise}
 use Rattle.trigger_group.proofs.Knows.{after_last, after_members}
 use Rattle.axis_homing.specs.declared.homing.Homing.{Homing}
@@ -47,7 +47,7 @@ use Rattle.laws_homing.proofs.missed_groups.Answering.{both_parts, missed}
 use Rattle.laws_homing.proofs.missed_groups.Axes.{of_axis}
 use Rattle.laws_homing.proofs.missed_groups.Stepping.{either_part, le_so, relay_after}
 use Rattle.laws_homing.specs.switch_runs.Reports.{WasReported}
-use Rattle.laws_homing.specs.fired_runs.Since.{AreBehind, AreRead, BeginsApart, ReadsAsTold, ReadsSwitchTrue, ReadsTrue, WasFiredAt}
+use Rattle.laws_homing.specs.fired_runs.Since.{AreNotAhead, AreSoInTurns, BeginsApart, ReadsAsTold, ReadsSwitchTrue, ReadsTrue, WasFiredAt}
 use Rattle.laws_homing.proofs.fired_runs.Reported.{Each, all_told}
 use Rattle.laws_homing.proofs.fired_runs.Rested.{answered_over, earlier_reads, goes_to, none_stays, rest_of, same_members, was_at}
 use Rattle.laws_homing.proofs.fired_runs.Sight.{is_member}
@@ -60,12 +60,12 @@ use Rattle.laws_homing.proofs.missed_runs.Stays.{Has, IsCause, has_none, has_or_
 use Rattle.laws_homing.proofs.missed_runs.Truth.{Truth, told_true}
 
 -- what is read wholly true is read true, and of the endstop's board by readings
-wholly_true : (m : Machine) (switches : List Switch) (b : ℕ) (came : List Came) (turns : List BoardTurn) → AreRead (ReadsAsTold m switches b) came turns → AreRead (ReadsTrue m switches b) came turns
+wholly_true : (m : Machine) (switches : List Switch) (b : ℕ) (came : List Came) (turns : List BoardTurn) → AreSoInTurns (ReadsAsTold m switches b) came turns → AreSoInTurns (ReadsTrue m switches b) came turns
 wholly_true m switches b [] turns k = tt
 wholly_true m switches b (c ∷ before) [] k = tt
 wholly_true m switches b (c ∷ before) (t ∷ earlier) k = ((λ h f is member x. (f.reason, k.0 h f is member x)), wholly_true m switches b before earlier k.1)
 
-wholly_sees : (m : Machine) (switches : List Switch) (b : ℕ) (came : List Came) (turns : List BoardTurn) → AreRead (ReadsAsTold m switches b) came turns → AreRead (ReadsSwitchTrue m switches b) came turns
+wholly_sees : (m : Machine) (switches : List Switch) (b : ℕ) (came : List Came) (turns : List BoardTurn) → AreSoInTurns (ReadsAsTold m switches b) came turns → AreSoInTurns (ReadsSwitchTrue m switches b) came turns
 wholly_sees m switches b [] turns k = tt
 wholly_sees m switches b (c ∷ before) [] k = tt
 wholly_sees m switches b (c ∷ before) (t ∷ earlier) k = (
@@ -94,12 +94,12 @@ module _ (m : Machine) (v : IsValidMachine m) (switches : List Switch) (pins : �
   -- what is asked of a board up to some turns
   record Ready (b : ℕ) (came : List Came) (turns : List BoardTurn) : Type 0 where
     run : IsInRun m switches (pins b) entries b came turns
-    reads : AreRead (ReadsAsTold m switches b) came (rest_of m v switches (pins b) entries b turns)
-    behind : AreBehind m switches b came
+    reads : AreSoInTurns (ReadsAsTold m switches b) came (rest_of m v switches (pins b) entries b turns)
+    behind : AreNotAhead m switches b came
     kept : AreKept (clocks_at clocks b)
     keeps_up : (turn : ℕ) → start ≤ turn → turn ≤ top + 275 → LinesKeepUp (clock_of (board_at m b)) (clocks_at clocks b) turn
 
-  made : (b : ℕ) (came : List Came) (turns : List BoardTurn) → IsInRun m switches (pins b) entries b came turns → AreRead (ReadsAsTold m switches b) came (rest_of m v switches (pins b) entries b turns) → AreBehind m switches b came
+  made : (b : ℕ) (came : List Came) (turns : List BoardTurn) → IsInRun m switches (pins b) entries b came turns → AreSoInTurns (ReadsAsTold m switches b) came (rest_of m v switches (pins b) entries b turns) → AreNotAhead m switches b came
       → AreKept (clocks_at clocks b) → ((turn : ℕ) → start ≤ turn → turn ≤ top + 275 → LinesKeepUp (clock_of (board_at m b)) (clocks_at clocks b) turn) → Ready b came turns
   made b came turns run reads behind kept keeps_up = record { run = run; reads = reads; behind = behind; kept = kept; keeps_up = keeps_up }
 
@@ -167,8 +167,8 @@ module _ (m : Machine) (v : IsValidMachine m) (switches : List Switch) (pins : �
       ]
 
   -- once its boards' states have come
-  module _ (d : Came) (past : List Came) (turns : Turns) (upto : length past ≤ top) (ready_all : AllReady past turns) (came : (b : ℕ) → b < length m.boards → state_at b d.states ≡ latest_state (turns b)) (reads : (b : ℕ) → b < length m.boards → AreRead (ReadsAsTold m switches b) (d ∷ past) (turns b))
-      (behind : (b : ℕ) → b < length m.boards → AreBehind m switches b (d ∷ past)) (apart : BeginsApart m switches (d ∷ past)) (knows : KnowsLately m switches clocks (d ∷ past)) (connected : ArePastConnecting m switches ready (d ∷ past)) (h : Homing)
+  module _ (d : Came) (past : List Came) (turns : Turns) (upto : length past ≤ top) (ready_all : AllReady past turns) (came : (b : ℕ) → b < length m.boards → state_at b d.states ≡ latest_state (turns b)) (reads : (b : ℕ) → b < length m.boards → AreSoInTurns (ReadsAsTold m switches b) (d ∷ past) (turns b))
+      (behind : (b : ℕ) → b < length m.boards → AreNotAhead m switches b (d ∷ past)) (apart : BeginsApart m switches (d ∷ past)) (knows : KnowsLately m switches clocks (d ∷ past)) (connected : ArePastConnecting m switches ready (d ∷ past)) (h : Homing)
       (is : (noted m d.note (known_by m switches past)).homing ≡ Some h) (own : Own_section h) (k : Holds past h turns) where
     abbrev G : GroupState
     G = (hears_all (noted m d.note (known_by m switches past)).clocks d.states h).group
@@ -286,7 +286,7 @@ module _ (m : Machine) (v : IsValidMachine m) (switches : List Switch) (pins : �
       ];
     }
       where
-        relay_next : any_fired_by last G.members ≡ false → Calm past h.group turns → (x : ℕ) → (after G K).relay ≡ Some x → (x < length (d ∷ past)) × (last + 5 ≤ x)
+        relay_next : any_fired_by last G.members ≡ false → Calm past h.group turns → (x : ℕ) → (turned_group G K).relay ≡ Some x → (x < length (d ∷ past)) × (last + 5 ≤ x)
         relay_next none calm x e = elim (relay_after (phase G.start G.last K) G K x e) [
           | inl old ↦ (let y = calm.0 x (sym (hears_keep (noted m d.note (known_by m switches past)).clocks d.states h).relay ∙ old) in let low = y.0 in let late = y.1 in (omega (arith, low), late))
           | inr new ↦ (let same = new.0 in let late = begun_late none new.1 in (omega (arith, same), omega (arith, same, late)))

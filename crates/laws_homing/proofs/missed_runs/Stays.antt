@@ -13,7 +13,7 @@ use Rattle.msg_code.specs.declared.talk.State.{State}
 use Rattle.trigger_group.specs.declared.order.Member.{Member}
 use Rattle.trigger_group.specs.declared.seen.Fired.{Fired}
 use Rattle.trigger_group.specs.declared.seen.Seen.{Seen}
-use Rattle.trigger_group.specs.Group.{GroupState, any_fired_by, came, expired, fired_by, first, first_expired, first_switched, has_fired, all_fired, hears, hears_from, later, switched}
+use Rattle.trigger_group.specs.Group.{GroupState, any_fired_by, came, expired, fired_by, first_fired, first_expired, first_switched, has_fired, all_fired, member_hears, hears_from, later, switched}
 use Rattle.trigger_group.specs.Kept.{BoardsRise}
 use Rattle.axis_homing.specs.Homing.{came_at, hears_answer, hears_news, hears_state, hears_states}
 use Rattle.laws_homing.specs.home_runs.Told.{IsMember}
@@ -34,12 +34,12 @@ module _ (P : Member → Fired → Type 0) where
   from_one : (b : ℕ) (s : TrigState) (at when : ℕ) (x : Seen) → (f : Fired) × (x.fired ≡ Some f) × P x.member f → (f : Fired) × ((hears_from b s at when x).fired ≡ Some f) × P (hears_from b s at when x).member f
   from_one b s at when x k = by (x.member.board == b)
     where
-      told : (can : Bool) → let y : Seen = cond can (record x { heard = Some (later x.heard when) }) (record x { fired = Some (first x.fired (record { reason = s.reason; tick = at; turn = when })) }) in
+      told : (can : Bool) → let y : Seen = cond can (record x { heard = Some (later x.heard when) }) (record x { fired = Some (first_fired x.fired (record { reason = s.reason; tick = at; turn = when })) }) in
           (f : Fired) × (y.fired ≡ Some f) × P y.member f
       told true = k
-      told false = (k.0, ap (λ (o : Option Fired). Some (first o (record { reason = s.reason; tick = at; turn = when }))) k.1, k.2)
+      told false = (k.0, ap (λ (o : Option Fired). Some (first_fired o (record { reason = s.reason; tick = at; turn = when }))) k.1, k.2)
 
-      by : (here : Bool) → let y : Seen = cond here (hears s at when x) x in (f : Fired) × (y.fired ≡ Some f) × P y.member f
+      by : (here : Bool) → let y : Seen = cond here (member_hears s at when x) x in (f : Fired) × (y.fired ≡ Some f) × P y.member f
       by true = told s.can
       by false = k
 

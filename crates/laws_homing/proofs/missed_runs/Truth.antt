@@ -31,7 +31,7 @@ use Rattle.laws_homing.specs.home_parts.Answers.{ArePastConnecting}
 use Rattle.laws_homing.specs.home_parts.Known.{KnowsLately}
 use Rattle.laws_homing.proofs.home_parts.Held.{clocks_by, kept_by, tick_known}
 use Rattle.laws_homing.specs.switch_runs.Reports.{IsReport, WasReported}
-use Rattle.laws_homing.specs.fired_runs.Since.{AreBehind, AreRead, ReadsAsTold, WasFiredAt}
+use Rattle.laws_homing.specs.fired_runs.Since.{AreNotAhead, AreSoInTurns, ReadsAsTold, WasFiredAt}
 use Rattle.laws_homing.proofs.fired_runs.Reported.{sole_state, turn_if}
 use Rattle.laws_homing.proofs.fired_runs.Rested.{Read, grows, read_now, rises, run_at, was_at}
 use Rattle.laws_homing.proofs.fired_runs.Under.{under_after}
@@ -57,7 +57,7 @@ module _ (m : Machine) (v : IsValidMachine m) (switches : List Switch) (pins : L
 
   module _ (from : ℕ) (ms : List Member) (low : from < start) (f : Fired) (after_ready : ready < start) (ordered : start ≤ last) (member : IsMember b ms) where
     told_now : (c : Came) (before : List Came) (turns : List BoardTurn) → length before ≤ top → IsInRun m switches pins entries b before turns → state_at b c.states ≡ latest_state turns → HomesFrom m switches from start ms (c ∷ before)
-        → AreRead (ReadsAsTold m switches b) (c ∷ before) turns → AreBehind m switches b (c ∷ before) → KnowsLately m switches clocks (c ∷ before) → ArePastConnecting m switches ready (c ∷ before) → IsReport m switches b start f c before → Truth f turns
+        → AreSoInTurns (ReadsAsTold m switches b) (c ∷ before) turns → AreNotAhead m switches b (c ∷ before) → KnowsLately m switches clocks (c ∷ before) → ArePastConnecting m switches ready (c ∷ before) → IsReport m switches b start f c before → Truth f turns
     told_now c before [] upto r latest homes reads behind knows past x = absurd (let came = x.came in cc)
     told_now c before (t ∷ earlier) upto r latest homes reads behind knows past x =
         let turns = t ∷ earlier in
@@ -123,7 +123,7 @@ module _ (m : Machine) (v : IsValidMachine m) (switches : List Switch) (pins : L
         }
 
     pub told_true : (c : Came) (before : List Came) (turns : List BoardTurn) → length before ≤ top → IsInRun m switches pins entries b before turns → state_at b c.states ≡ latest_state turns → HomesFrom m switches from start ms (c ∷ before)
-        → AreRead (ReadsAsTold m switches b) (c ∷ before) turns → AreBehind m switches b (c ∷ before) → KnowsLately m switches clocks (c ∷ before) → ArePastConnecting m switches ready (c ∷ before) → WasReported m switches b start f (c ∷ before) → Truth f turns
+        → AreSoInTurns (ReadsAsTold m switches b) (c ∷ before) turns → AreNotAhead m switches b (c ∷ before) → KnowsLately m switches clocks (c ∷ before) → ArePastConnecting m switches ready (c ∷ before) → WasReported m switches b start f (c ∷ before) → Truth f turns
     told_true c before turns upto r latest homes reads behind knows past (inl now) = told_now c before turns upto r latest homes reads behind knows past now
     told_true c [] turns upto r latest homes reads behind knows past (inr old) = absurd old
     told_true c (d ∷ before) [] upto r latest homes reads behind knows past (inr old) = absurd r.both

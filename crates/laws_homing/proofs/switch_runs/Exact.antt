@@ -27,7 +27,7 @@ use Rattle.laws_homing.specs.missed_groups.Ticks.{IsSwitchTick}
 use Rattle.laws_homing.proofs.missed_groups.Homing.{Sampled, sampled_is}
 use Rattle.laws_homing.specs.switch_runs.Reading.{IsComplete}
 use Rattle.laws_homing.specs.switch_runs.Taken.{TookHome}
-use Rattle.laws_homing.specs.home_runs.Sections.{TakesSetUp, queued_by}
+use Rattle.laws_homing.specs.home_runs.Sections.{TakesSetUp, queued_in_turns}
 use Rattle.laws_homing.proofs.home_runs.Staying.{taken_later}
 use Rattle.laws_homing.proofs.home_runs.Windows.{begun}
 use Rattle.laws_homing.proofs.fired_runs.Rested.{queue_later}
@@ -99,8 +99,8 @@ took_early clock first start turn turns are s k = elim (leb_tells (turn + 1) sta
         let set_up = k.set_up in
         let e = front_part k.up (k.order ∷ k.early) (s.window ++ s.late) s.past (sym k.ordered_in ∙ s.are ∙ sym (append_assoc s.window s.late s.past)) (omega (arith, queued, set_up)) in
         let more = queue_later e.0 (k.order ∷ k.early) in
-        let n_past = ap (λ (z : List BoardTurn). length (queued_by z)) e.1 ∙ ap length more.1 ∙ length-append (queued_by (k.order ∷ k.early)) more.0 in
-        let n_took = sym (length-append (queued_by s.past) s.more) ∙ ap length s.took in
+        let n_past = ap (λ (z : List BoardTurn). length (queued_in_turns z)) e.1 ∙ ap length more.1 ∙ length-append (queued_in_turns (k.order ∷ k.early)) more.0 in
+        let n_took = sym (length-append (queued_in_turns s.past) s.more) ∙ ap length s.took in
         let n_new = ap (λ (z : List BoardTurn). length (stands_after first z).core.taken) d.1 ∙ ap length grown.1 ∙ length-append (stands_after first old).core.taken grown.0 in
         let ordered = k.ordered in
         let not_yet = k.not_yet in

@@ -26,7 +26,7 @@ use Rattle.laws_board.proofs.clocks.Answers.{Each, each_both}
 use Rattle.laws_homing.proofs.clear_boards.Held.{ended_reason, sampled_reason, switch_reason}
 use Rattle.laws_homing.proofs.clear_boards.Slots.{Beside, Follows, Lasts, MakesNone, Next, OfEach, Tells, clock_small, levels_at, running_both, says_both, set_beside, set_each, with_trigger}
 use Rattle.laws_homing.specs.switch_runs.Taken.{IsBlind}
-use Rattle.laws_homing.specs.switch_runs.Reading.{IsComplete, IsFit, TellsOf}
+use Rattle.laws_homing.specs.switch_runs.Reading.{IsComplete, IsFitReading, TellsOf}
 use Rattle.laws_homing.proofs.home_runs.Saying.{IsOther, bit_none, bit_small, board_tells}
 
 -- an answer's numbers fit, and where it tells that readings triggered a trigger it tells of such a tick
@@ -126,7 +126,7 @@ lasts_true F G until soon = record {
 }
 
 -- what a command makes of it, but for those that begin readings
-follows_true : (E : ℕ → (ℕ → Type 0)) (F G : ℕ → Type 0) (H : ℕ → (ℕ → Type 0)) (pins : List (List Level)) → Follows (True_one F G) (λ now c. IsFit E H pins c × IsBlind c)
+follows_true : (E : ℕ → (ℕ → Type 0)) (F G : ℕ → Type 0) (H : ℕ → (ℕ → Type 0)) (pins : List (List Level)) → Follows (True_one F G) (λ now c. IsFitReading E H pins c × IsBlind c)
 follows_true E F G H pins = record {
   made = λ ps now oid fit.
       record { reason = omega arith; expire = omega arith; other = λ one. absurd (omega (arith, one)); fired = λ e one. absurd (omega (arith, one)); sampled = λ y e. absurd (cc); ended = λ e. refl };
@@ -158,7 +158,7 @@ each_true E F G pins r q all beside new = record {
 
 -- the readings that a command begins are for its reason
 pub begun_reason : (b : Bool) (now : ℕ) (g : Homing) (y : Sampling)
-    → (if b then None else Some (record { at = trig.first_from now (nearest now g.clock) (trig.rest_of g); sample = g.sample_ticks; count = g.sample_count; rest = trig.rest_of g; value = g.pin_value == 1; reason = g.reason })) ≡ Some y → g.reason ≡ y.reason
+    → (if b then None else Some (record { at = trig.first_from now (nearest now g.clock) (trig.least_rest g); sample = g.sample_ticks; count = g.sample_count; rest = trig.least_rest g; value = g.pin_value == 1; reason = g.reason })) ≡ Some y → g.reason ≡ y.reason
 begun_reason true now g y e = absurd (cc)
 begun_reason false now g y e = cc
 
@@ -219,12 +219,12 @@ endstop_true E F G pins r oid pin None is all = record {
 }
 endstop_true E F G pins r oid pin (Some p) is all = all
 
-kept_true : (o : BoardState) (E : ℕ → (ℕ → Type 0)) (F G : ℕ → Type 0) (H : ℕ → (ℕ → Type 0)) (pins : List (List Level)) (r : Rig) (c : Cmd) → (Unit {0} → MakesNone c) → IsBlind c → IsFit E H pins c → AllTrue E F G pins r → AllTrue E F G pins (acts_running o r c).rig × Each (Says F) (acts_running o r c).answers
+kept_true : (o : BoardState) (E : ℕ → (ℕ → Type 0)) (F G : ℕ → Type 0) (H : ℕ → (ℕ → Type 0)) (pins : List (List Level)) (r : Rig) (c : Cmd) → (Unit {0} → MakesNone c) → IsBlind c → IsFitReading E H pins c → AllTrue E F G pins r → AllTrue E F G pins (acts_running o r c).rig × Each (Says F) (acts_running o r c).answers
 kept_true o E F G H pins r c none blind fit all =
-    let both = running_both (True_one F G) 256 (Says F) (tells_true F G) (λ now a. IsFit E H pins a × IsBlind a) (follows_true E F G H pins) o r c all.few (fit, blind) (true_each E F G pins r all) in
+    let both = running_both (True_one F G) 256 (Says F) (tells_true F G) (λ now a. IsFitReading E H pins a × IsBlind a) (follows_true E F G H pins) o r c all.few (fit, blind) (true_each E F G pins r all) in
     (each_true E F G pins r (acts_running o r c).rig all (both.1.0, both.1.1, (λ m. both.1.2 (none m)), both.1.3) both.0, both.2)
 
-running_true : (o : BoardState) (E : ℕ → (ℕ → Type 0)) (F G : ℕ → Type 0) (H : ℕ → (ℕ → Type 0)) (pins : List (List Level)) (r : Rig) (c : Cmd) → ((x : ℕ) → H r.controller.tick x → G x) → IsFit E H pins c → AllTrue E F G pins r → AllTrue E F G pins (acts_running o r c).rig × Each (Says F) (acts_running o r c).answers
+running_true : (o : BoardState) (E : ℕ → (ℕ → Type 0)) (F G : ℕ → Type 0) (H : ℕ → (ℕ → Type 0)) (pins : List (List Level)) (r : Rig) (c : Cmd) → ((x : ℕ) → H r.controller.tick x → G x) → IsFitReading E H pins c → AllTrue E F G pins r → AllTrue E F G pins (acts_running o r c).rig × Each (Says F) (acts_running o r c).answers
 running_true (Shut reason at first) E F G H pins r c to fit all =
     (record { pins_are = all.pins_are; few = all.few; slots = all.slots; ends = all.ends }, others_say F (board_takes r.controller c).answers (board_tells r.controller c))
 running_true Running E F G H pins r (cmd.ConfigEndstop oid pin pull) to fit all = (endstop_true E F G pins r oid pin (slice_index_or r.endstops oid None) fit all, tt)
@@ -235,7 +235,7 @@ running_true Running E F G H pins r (cmd.EndstopHome oid clock sample count rest
 running_true Running E F G H pins r c to fit all = kept_true Running E F G H pins r c (λ m. tt) tt fit all
 
 -- commands that are fit at the board's tick keep it so, and what it answers of its triggers is so
-pub takes_true : (E : ℕ → (ℕ → Type 0)) (F G : ℕ → Type 0) (H : ℕ → (ℕ → Type 0)) (pins : List (List Level)) (r : Rig) (cs : List Cmd) → ((x : ℕ) → H r.controller.tick x → G x) → Each (IsFit E H pins) cs → AllTrue E F G pins r → AllTrue E F G pins (takes_all r cs).rig × Each (Says F) (takes_all r cs).answers
+pub takes_true : (E : ℕ → (ℕ → Type 0)) (F G : ℕ → Type 0) (H : ℕ → (ℕ → Type 0)) (pins : List (List Level)) (r : Rig) (cs : List Cmd) → ((x : ℕ) → H r.controller.tick x → G x) → Each (IsFitReading E H pins) cs → AllTrue E F G pins r → AllTrue E F G pins (takes_all r cs).rig × Each (Says F) (takes_all r cs).answers
 takes_true E F G H pins r [] to fit all = (all, tt)
 takes_true E F G H pins r (c ∷ cs) to fit all =
     let one = running_true r.controller.state E F G H pins r c to fit.0 all in

@@ -28,7 +28,7 @@ use Rattle.laws_board.specs.clocks.Runs.{IsInRun}
 use Rattle.laws_board.specs.clocks.Samples.{IsAmong}
 use Rattle.laws_board.proofs.clocks.Configured.{all_configured, pins_few}
 use Rattle.laws_board.proofs.orders.Controlled.{few_on}
-use Rattle.laws_homing.specs.home_runs.Sections.{queued_by}
+use Rattle.laws_homing.specs.home_runs.Sections.{queued_in_turns}
 use Rattle.laws_homing.proofs.home_runs.Staging as staging
 use Rattle.laws_homing.proofs.home_runs.Whole.{turn_commands}
 use Rattle.laws_homing.specs.switch_runs.Made.{MakesEndstop}
@@ -122,19 +122,19 @@ makes_either e (cmd.ConfigEndstop oid pin pull ∷ xs) ys (inl k) = inl (inl k)
 makes_either e (cmd.ConfigEndstop oid pin pull ∷ xs) ys (inr k) = elim (makes_either e xs ys k) [ inl a ↦ inl (inr a) | inr a ↦ inr a ]
 makes_either e (x ∷ xs) ys k = makes_either e xs ys k
 
-queue_makes : (e : ℕ) (turns : List BoardTurn) → MakesEndstop e (commands_in turns) → MakesEndstop e (commands_of (queued_by turns))
+queue_makes : (e : ℕ) (turns : List BoardTurn) → MakesEndstop e (commands_in turns) → MakesEndstop e (commands_of (queued_in_turns turns))
 queue_makes e [] k = absurd k
 queue_makes e (t ∷ before) k =
     let new = commands_of (queued_in (orders t.control t.batch)) in
-    subst (λ (l : List Cmd). MakesEndstop e l) (sym (staging.commands_both (queued_by before) (queued_in (orders t.control t.batch)))) (elim (makes_either e (commands_in before) t.control.commands k) [
-      | inl old ↦ makes_front e (commands_of (queued_by before)) new (queue_makes e before old)
-      | inr now ↦ makes_behind e (commands_of (queued_by before)) new
+    subst (λ (l : List Cmd). MakesEndstop e l) (sym (staging.commands_both (queued_in_turns before) (queued_in (orders t.control t.batch)))) (elim (makes_either e (commands_in before) t.control.commands k) [
+      | inl old ↦ makes_front e (commands_of (queued_in_turns before)) new (queue_makes e before old)
+      | inr now ↦ makes_behind e (commands_of (queued_in_turns before)) new
           (subst (λ (l : List Cmd). MakesEndstop e l) (sym (turn_commands t)) (makes_front e t.control.commands (commands_of (units_orders t.batch.units)) now))
     ])
 
 -- so once connecting has ended it was ordered
 pub run_makes : (m : Machine) (switches : List Switch) (pins : List (List Level)) (entries : List Entry) (b axis : ℕ) (came : List Came) (turns : List BoardTurn) → IsValidMachine m → IsInRun m switches pins entries b came turns
-    → ((known_by m switches came).phase ≡ Connecting → ⊥) → axis < length m.axes → (axis_at m axis).board ≡ b → MakesEndstop (endstop_of m b (axis_at m axis)) (commands_of (queued_by turns))
+    → ((known_by m switches came).phase ≡ Connecting → ⊥) → axis < length m.axes → (axis_at m axis).board ≡ b → MakesEndstop (endstop_of m b (axis_at m axis)) (commands_of (queued_in_turns turns))
 run_makes m switches pins entries b axis came turns v r n low on =
     let e = endstop_of m b (axis_at m axis) in
     queue_makes e turns (filter_makes e (commands_in turns) (subst (λ (l : List Cmd). MakesEndstop e l) (sym (all_configured m switches pins entries b came turns v r n)) (config_makes m b axis low on)))

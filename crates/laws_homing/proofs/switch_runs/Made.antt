@@ -16,7 +16,7 @@ use Rattle.board_sim.proofs.Enough.{none_at}
 use Rattle.board_sim.proofs.RigStates.{passes_state}
 use Rattle.board_world.specs.declared.event.Event.{Event}
 use Rattle.board_world.specs.declared.event.Event.TheVariants as event
-use Rattle.board_world.specs.World.{Core, Step, Do, Turn, after, happens, takes_in}
+use Rattle.board_world.specs.World.{Core, Step, Do, Turn, world_after, after_event, takes_in}
 use Rattle.link_work.specs.Stands.{first_state}
 use Rattle.laws_board.specs.turns.Turns.{AreBoardTurns, BoardTurn, stands_after}
 use Rattle.laws_homing.specs.home_runs.Guards.{IsSole}
@@ -138,7 +138,7 @@ time_standing : (e j : ℕ) (taken : List Meant) (r : Rig) (t : ℕ) → IsStand
 time_standing e j taken r t old =
     subst (λ (ms : List Meant). IsStanding e j ms (passes r t).rig) (sym (append-nil taken)) (λ runs only. time_stood e j (MakesEndstop e (commands_of taken)) r t (old (sym (passes_state r t) ∙ runs) only))
 
-standing_by : (e j : ℕ) (h : Core) (v : Event) → IsStanding e j h.taken h.board → IsStanding e j (happens h v).taken (happens h v).board
+standing_by : (e j : ℕ) (h : Core) (v : Event) → IsStanding e j h.taken h.board → IsStanding e j (after_event h v).taken (after_event h v).board
 standing_by e j h (event.Pass t) k = time_standing e j h.taken h.board t k
 standing_by e j h v k = took_standing e j h.taken (takes_in h v) h.board k
 
@@ -146,7 +146,7 @@ standing_by e j h v k = took_standing e j h.taken (takes_in h v) h.board k
 abbrev pub Whole : (ℕ → (ℕ → Type 0)) → List (List Level) → ℕ → ℕ → Core → Type 0
 Whole E pins e j h = Keeps E AnyTick AnyTick pins h × IsStanding e j h.taken h.board
 
-whole_step : (E : ℕ → (ℕ → Type 0)) (pins : List (List Level)) (e j : ℕ) (h : Core) (s : Step) → Brings E AnyTick AnyTick pins s → Whole E pins e j h → Whole E pins e j (after h s)
+whole_step : (E : ℕ → (ℕ → Type 0)) (pins : List (List Level)) (e j : ℕ) (h : Core) (s : Step) → Brings E AnyTick AnyTick pins s → Whole E pins e j h → Whole E pins e j (world_after h s)
 whole_step E pins e j h (Do v) b k = ((keeps_by E AnyTick AnyTick pins h v b k.0).0, standing_by e j h v k.1)
 whole_step E pins e j h (Turn turn) b k = (keeps_turn E AnyTick AnyTick pins h turn k.0, k.1)
 

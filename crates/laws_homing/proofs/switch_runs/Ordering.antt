@@ -28,7 +28,7 @@ use Rattle.board_asking.specs.declared.asking.Stage.{Stage}
 use Rattle.board_asking.specs.declared.asking.Stage.TheVariants.{Identify, Uptime, Configure, Config, Connected}
 use Rattle.board_asking.specs.declared.setup.Setup.{Setup}
 use Rattle.board_asking.specs.declared.setup.Setup.TheVariants.{Oids, Stepper, Trsync, Endstop, Finish}
-use Rattle.board_asking.specs.Asking.{asks, is_due, question, ready}
+use Rattle.board_asking.specs.Asking.{asks, is_question_due, question, ready}
 use Rattle.board_asking.specs.Drift.{asks_now, clock_question, drifts, waits_in}
 use Rattle.board_asking.specs.Machine.{configuration, control_bytes, endstop_pins, fitting, setup_command, setup_endstops, setup_stepper, trigger_of}
 use Rattle.trigger_group.specs.declared.order.Ctl.{Ctl}
@@ -41,15 +41,15 @@ use Rattle.axis_homing.specs.Homing.{answer_in, by_answer, command_to, commands_
 use Rattle.host_reactor.specs.declared.ordered.Known.{Known}
 use Rattle.host_reactor.specs.Notes.{noted}
 use Rattle.host_reactor.specs.Reactor.{Reacted, homing_commands, stop_command, stops}
-use Rattle.host_reactor.specs.Runs.{Came, known_by, last_turn}
+use Rattle.host_reactor.specs.Runs.{Came, known_by, last_reacted}
 use Rattle.laws_board.specs.turns.Turns.{BoardTurn}
 use Rattle.laws_board.specs.clocks.Runs.{IsInRun}
 use Rattle.laws_board.proofs.clocks.Answers.{Each, each_both}
 use Rattle.laws_board.proofs.clocks.Lines.{run_before, turn_of}
 use Rattle.laws_board.proofs.clocks.Turning.{Asks, BoardTurned, Ends, Runs}
 use Rattle.laws_board.proofs.clocks.Turning as turning
-use Rattle.laws_homing.specs.switch_runs.Reading.{AllTellTrue, AreFit, BringFit, IsComplete, IsFit}
-use Rattle.laws_homing.specs.switch_runs.Runs.{IsAt, IsEndstop, IsRead, readings}
+use Rattle.laws_homing.specs.switch_runs.Reading.{AllTellTrue, AreFit, BringFit, IsComplete, IsFitReading}
+use Rattle.laws_homing.specs.switch_runs.Runs.{IsAt, IsEndstop, IsReadInRun, readings}
 use Rattle.laws_homing.proofs.switch_runs.Telling.{all_true}
 
 -- the endstop of a pin
@@ -131,14 +131,14 @@ fitting_pinned E room (s ∷ ss) a = one (nat_le (command_bytes (setup_command s
     one true k = (a.0, k)
     one false k = tt
 
-setup_fit : (E : ℕ → (ℕ → Type 0)) (F : ℕ → (ℕ → Type 0)) (pins : List (List Level)) (s : Setup) → Pinned E s → IsFit E F pins (setup_command s)
+setup_fit : (E : ℕ → (ℕ → Type 0)) (F : ℕ → (ℕ → Type 0)) (pins : List (List Level)) (s : Setup) → Pinned E s → IsFitReading E F pins (setup_command s)
 setup_fit E F pins (Oids count) a = tt
 setup_fit E F pins (Stepper oid step dir) a = tt
 setup_fit E F pins (Trsync oid) a = tt
 setup_fit E F pins (Endstop oid pin) a = a
 setup_fit E F pins Finish a = tt
 
-setups_fit : (E : ℕ → (ℕ → Type 0)) (F : ℕ → (ℕ → Type 0)) (pins : List (List Level)) (ss : List Setup) → AllPinned E ss → Each (IsFit E F pins) (map setup_command ss)
+setups_fit : (E : ℕ → (ℕ → Type 0)) (F : ℕ → (ℕ → Type 0)) (pins : List (List Level)) (ss : List Setup) → AllPinned E ss → Each (IsFitReading E F pins) (map setup_command ss)
 setups_fit E F pins [] a = tt
 setups_fit E F pins (s ∷ ss) a = (setup_fit E F pins s a.0, setups_fit E F pins ss a.1)
 
@@ -146,18 +146,18 @@ fit_if : (P : Cmd → Type 0) (t : Bool) (cs : List Cmd) → Each P cs → Each 
 fit_if P true cs a = a
 fit_if P false cs a = tt
 
-asks_fit : (E : ℕ → (ℕ → Type 0)) (F : ℕ → (ℕ → Type 0)) (pins : List (List Level)) (setups : List Setup) (k : ℕ) (a : Asking) (stage : Stage) → AllPinned E setups → Each (IsFit E F pins) (asks setups k a stage)
-asks_fit E F pins setups k a (Identify offset) p = fit_if (IsFit E F pins) (is_due k a.since) (question (Identify offset)) (tt, tt)
-asks_fit E F pins setups k a Uptime p = fit_if (IsFit E F pins) (is_due k a.since) (question Uptime) (tt, tt)
+asks_fit : (E : ℕ → (ℕ → Type 0)) (F : ℕ → (ℕ → Type 0)) (pins : List (List Level)) (setups : List Setup) (k : ℕ) (a : Asking) (stage : Stage) → AllPinned E setups → Each (IsFitReading E F pins) (asks setups k a stage)
+asks_fit E F pins setups k a (Identify offset) p = fit_if (IsFitReading E F pins) (is_question_due k a.since) (question (Identify offset)) (tt, tt)
+asks_fit E F pins setups k a Uptime p = fit_if (IsFitReading E F pins) (is_question_due k a.since) (question Uptime) (tt, tt)
 asks_fit E F pins setups k a (Configure n) p = setups_fit E F pins (fitting control_bytes (drop n setups)) (fitting_pinned E control_bytes (drop n setups) (dropped_pinned E n setups p))
-asks_fit E F pins setups k a Config p = fit_if (IsFit E F pins) (is_due k a.since) (question Config) (tt, tt)
-asks_fit E F pins setups k a Connected p = fit_if (IsFit E F pins) (is_due k a.since) (question Connected) tt
+asks_fit E F pins setups k a Config p = fit_if (IsFitReading E F pins) (is_question_due k a.since) (question Config) (tt, tt)
+asks_fit E F pins setups k a Connected p = fit_if (IsFitReading E F pins) (is_question_due k a.since) (question Connected) tt
 
 -- what homing orders
 abbrev pub Reads : Machine → List (List Level) → ℕ → (ℕ → (ℕ → Type 0)) → Clocks → ℕ → AxisDef → Type 0
 Reads m pins b F own start axis = (now tick : ℕ) → IsComplete (slice_index_or pins axis.pin []) (readings m b axis (low (turn_tick own start))) now tick → F now tick
 
-order_fit : (m : Machine) (pins : List (List Level)) (b : ℕ) (F : ℕ → (ℕ → Type 0)) (own : Clocks) (start : ℕ) (axis : AxisDef) (o : Order) → Reads m pins b F own start axis → IsFit (IsEndstop m b) F pins (order_command m own b start axis o)
+order_fit : (m : Machine) (pins : List (List Level)) (b : ℕ) (F : ℕ → (ℕ → Type 0)) (own : Clocks) (start : ℕ) (axis : AxisDef) (o : Order) → Reads m pins b F own start axis → IsFitReading (IsEndstop m b) F pins (order_command m own b start axis o)
 order_fit m pins b F own start axis (order.Reset i) f = tt
 order_fit m pins b F own start axis (order.Stop i) f = tt
 order_fit m pins b F own start axis order.Start f = (omega arith, λ e. absurd (omega (arith, e)))
@@ -167,30 +167,30 @@ order_fit m pins b F own start axis order.Home f =
 order_fit m pins b F own start axis order.Trigger f = (omega arith, λ e. absurd (omega (arith, e)))
 
 ctls_fit : (m : Machine) (pins : List (List Level)) (b : ℕ) (F : ℕ → (ℕ → Type 0)) (own : Clocks) (start : ℕ) (axis : AxisDef) (ctls : List Ctl) → Reads m pins b F own start axis
-    → Each (IsFit (IsEndstop m b) F pins) (commands_to m own b start axis ctls)
+    → Each (IsFitReading (IsEndstop m b) F pins) (commands_to m own b start axis ctls)
 ctls_fit m pins b F own start axis [] f = tt
 ctls_fit m pins b F own start axis (c ∷ ctls) f =
-    each_both (IsFit (IsEndstop m b) F pins) (command_to m own b start axis c) (commands_to m own b start axis ctls)
-    (fit_if (IsFit (IsEndstop m b) F pins) (c.board == b) (order_command m own b start axis c.what ∷ []) (order_fit m pins b F own start axis c.what f, tt)) (ctls_fit m pins b F own start axis ctls f)
+    each_both (IsFitReading (IsEndstop m b) F pins) (command_to m own b start axis c) (commands_to m own b start axis ctls)
+    (fit_if (IsFitReading (IsEndstop m b) F pins) (c.board == b) (order_command m own b start axis c.what ∷ []) (order_fit m pins b F own start axis c.what f, tt)) (ctls_fit m pins b F own start axis ctls f)
 
 answer_fit : (m : Machine) (pins : List (List Level)) (b k : ℕ) (F : ℕ → (ℕ → Type 0)) (own : Clocks) (h : Homing) (o : Option End) → Reads m pins b F own h.start (axis_at m h.axis)
-    → Each (IsFit (IsEndstop m b) F pins) (homing_commands m (by_answer k h o) own b)
+    → Each (IsFitReading (IsEndstop m b) F pins) (homing_commands m (by_answer k h o) own b)
 answer_fit m pins b k F own h None f = ctls_fit m pins b F own h.start (axis_at m h.axis) (by_answer k h None).ctls.items f
 answer_fit m pins b k F own h (Some (end.Endstop tick)) f = tt
 answer_fit m pins b k F own h (Some end.NoSwitch) f = tt
 answer_fit m pins b k F own h (Some (end.Expired board turn)) f = tt
 
 homing_fit : (m : Machine) (pins : List (List Level)) (b k : ℕ) (F : ℕ → (ℕ → Type 0)) (all : List Clocks) (states : List State) (own : Clocks) (o : Option Homing) → ((h : Homing) → o ≡ Some h → Reads m pins b F own h.start (axis_at m h.axis))
-    → Each (IsFit (IsEndstop m b) F pins) (homing_commands m (homing_turn all k states o) own b)
+    → Each (IsFitReading (IsEndstop m b) F pins) (homing_commands m (homing_turn all k states o) own b)
 homing_fit m pins b k F all states own None f = tt
 homing_fit m pins b k F all states own (Some h) f = let g = hears_all all states h in answer_fit m pins b k F own g (answer_in k g.start g.group) (f h refl)
 
 -- the control of a turn
-question_fit : (E : ℕ → (ℕ → Type 0)) (F : ℕ → (ℕ → Type 0)) (pins : List (List Level)) (commands : List Cmd) (a : Asking) (stop : Bool) → Each (IsFit E F pins) (clock_question commands a ++ stop_command stop)
+question_fit : (E : ℕ → (ℕ → Type 0)) (F : ℕ → (ℕ → Type 0)) (pins : List (List Level)) (commands : List Cmd) (a : Asking) (stop : Bool) → Each (IsFitReading E F pins) (clock_question commands a ++ stop_command stop)
 question_fit E F pins commands a stop =
-    each_both (IsFit E F pins) (clock_question commands a) (stop_command stop) (fit_if (IsFit E F pins) (asks_now commands a) (cmd.GetUptime ∷ []) (tt, tt)) (one stop)
+    each_both (IsFitReading E F pins) (clock_question commands a) (stop_command stop) (fit_if (IsFitReading E F pins) (asks_now commands a) (cmd.GetUptime ∷ []) (tt, tt)) (one stop)
   where
-    one : (s : Bool) → Each (IsFit E F pins) (stop_command s)
+    one : (s : Bool) → Each (IsFitReading E F pins) (stop_command s)
     one true = (tt, tt)
     one false = tt
 
@@ -200,16 +200,16 @@ lines_at zero (c ∷ clocks) own e = cc
 lines_at (suc b) (c ∷ clocks) own e = lines_at b clocks own e
 
 pub control_fit : (m : Machine) (pins : List (List Level)) (b k : ℕ) (F : ℕ → (ℕ → Type 0)) (r : Known) (states : List State) (a : Asking) (x : Reacted) (c : Control) → BoardTurned m r b k states a x c
-    → ((h : Homing) (own : Clocks) → r.homing ≡ Some h → own ≡ clocks_at r.clocks b → Reads m pins b F own h.start (axis_at m h.axis)) → Each (IsFit (IsEndstop m b) F pins) c.commands
+    → ((h : Homing) (own : Clocks) → r.homing ≡ Some h → own ≡ clocks_at r.clocks b → Reads m pins b F own h.start (axis_at m h.axis)) → Each (IsFitReading (IsEndstop m b) F pins) c.commands
 control_fit m pins b k F r states a x c (Asks p g) f =
     let ready_a = ready (configuration m b) a in
-    subst (λ (y : Control). Each (IsFit (IsEndstop m b) F pins) y.commands) (sym g.control_is) (asks_fit (IsEndstop m b) F pins (configuration m b) k ready_a ready_a.stage (configuration_pinned m b))
-control_fit m pins b k F r states a x c (Ends p g) f = subst (λ (y : Control). Each (IsFit (IsEndstop m b) F pins) y.commands) (sym g.control_is) tt
+    subst (λ (y : Control). Each (IsFitReading (IsEndstop m b) F pins) y.commands) (sym g.control_is) (asks_fit (IsEndstop m b) F pins (configuration m b) k ready_a ready_a.stage (configuration_pinned m b))
+control_fit m pins b k F r states a x c (Ends p g) f = subst (λ (y : Control). Each (IsFitReading (IsEndstop m b) F pins) y.commands) (sym g.control_is) tt
 control_fit m pins b k F r states a x c (Runs p g) f =
     let waits = waits_in (drifts (board_at m b).drift) k a in
     let commands = homing_commands m (homing_turn r.clocks k states r.homing) g.own b in
-    subst (λ (y : Control). Each (IsFit (IsEndstop m b) F pins) y.commands) (sym g.control_is)
-    (each_both (IsFit (IsEndstop m b) F pins) commands (clock_question commands waits ++ stop_command (stops g.stop))
+    subst (λ (y : Control). Each (IsFitReading (IsEndstop m b) F pins) y.commands) (sym g.control_is)
+    (each_both (IsFitReading (IsEndstop m b) F pins) commands (clock_question commands waits ++ stop_command (stops g.stop))
     (homing_fit m pins b k F r.clocks states g.own r.homing (λ h e. f h g.own e (lines_at b r.clocks g.own g.own_is))) (question_fit (IsEndstop m b) F pins commands waits (stops g.stop)))
 
 -- what comes to a board in a turn
@@ -217,7 +217,7 @@ pub fit_both : (E : ℕ → (ℕ → Type 0)) (F : ℕ → (ℕ → Type 0)) (pi
 fit_both E F pins [] ys a b = b
 fit_both E F pins (x ∷ xs) ys a b = (a.0, fit_both E F pins xs ys a.1 b)
 
-pub plain_fit : (E : ℕ → (ℕ → Type 0)) (F : ℕ → (ℕ → Type 0)) (pins : List (List Level)) (cs : List Cmd) → Each (IsFit E F pins) cs → AreFit E F pins (map plain cs)
+pub plain_fit : (E : ℕ → (ℕ → Type 0)) (F : ℕ → (ℕ → Type 0)) (pins : List (List Level)) (cs : List Cmd) → Each (IsFitReading E F pins) cs → AreFit E F pins (map plain cs)
 plain_fit E F pins [] a = tt
 plain_fit E F pins (c ∷ cs) a = (a.0, plain_fit E F pins cs a.1)
 
@@ -236,7 +236,7 @@ units_fit E F pins (u ∷ us) = fit_both E F pins (unit_orders u) (units_orders 
 
 -- over the turns of a run
 pub bring_fit : (m : Machine) (switches : List Switch) (pins : List (List Level)) (entries : List Entry) (b : ℕ) (F : ℕ → (ℕ → Type 0)) (came : List Came) (turns : List BoardTurn) → IsInRun m switches pins entries b came turns
-    → ((tick : ℕ) (k : IsRead m switches pins b came tick) → F k.now tick) → BringFit (IsEndstop m b) F pins turns
+    → ((tick : ℕ) (k : IsReadInRun m switches pins b came tick) → F k.now tick) → BringFit (IsEndstop m b) F pins turns
 bring_fit m switches pins entries b F [] [] r f = tt
 bring_fit m switches pins entries b F [] (t ∷ turns) r f = absurd r.both
 bring_fit m switches pins entries b F (c ∷ before) [] r f = absurd r.both
@@ -247,13 +247,13 @@ bring_fit m switches pins entries b F (c ∷ before) (t ∷ turns) r f =
     λ (complete : IsComplete (slice_index_or pins (axis_at m h.axis).pin []) (readings m b (axis_at m h.axis) (low (turn_tick own h.start))) now tick).
     f tick (record { at = length before; start = h.start; axis = h.axis; now = now; read = record { lines = own; knew = inl (refl, record { homing = h; known = is; start_is = refl; axis_is = refl; lines_are = lines }); complete = complete } }) in (
       fit_both (IsEndstop m b) F pins (map plain t.control.commands) (units_orders t.batch.units)
-          (plain_fit (IsEndstop m b) F pins t.control.commands (control_fit m pins b (length before) F known c.states x.a (last_turn m switches c before) t.control x.turned reads)) (units_fit (IsEndstop m b) F pins t.batch.units),
+          (plain_fit (IsEndstop m b) F pins t.control.commands (control_fit m pins b (length before) F known c.states x.a (last_reacted m switches c before) t.control x.turned reads)) (units_fit (IsEndstop m b) F pins t.batch.units),
       bring_fit m switches pins entries b F before turns (run_before m switches pins entries b c before t turns r)
           (λ tick k. f tick (record { at = k.at; start = k.start; axis = k.axis; now = k.now; read = record { lines = k.read.lines; knew = inr k.read.knew; complete = k.read.complete } })),
     )
 
 pub run_tells : (m : Machine) (switches : List Switch) (pins : List (List Level)) (entries : List Entry) (b : ℕ) (came : List Came) (turns : List BoardTurn) → IsInRun m switches pins entries b came turns
-    → AllTellTrue (IsRead m switches pins b came) turns
+    → AllTellTrue (IsReadInRun m switches pins b came) turns
 run_tells m switches pins entries b came turns r =
-    let F = IsRead m switches pins b came in
+    let F = IsReadInRun m switches pins b came in
     all_true (IsEndstop m b) F (board_at m b) pins b entries turns r.turns_are (bring_fit m switches pins entries b (λ n. F) came turns r (λ tick k. k))

@@ -22,7 +22,7 @@ AllTellOnly tick (c ∷ cs) = TellsOnly tick c × AllTellOnly tick cs
 
 -- of a trigger all is told, its readings move on, its switch triggers it for another reason, and where its
 -- timeout passed it did so at this tick
-pub record IsHeld (tick : ℕ) (s : Slot) : Type 0 where
+pub record IsTriggerHeld (tick : ℕ) (s : Slot) : Type 0 where
   pub told : s.trigger.untold ≡ None
   pub moves : MovesOn s.trigger.sampling
   pub other : (y : Sampling) → s.trigger.sampling ≡ Some y → y.reason ≡ by_timeout → ⊥
@@ -30,7 +30,7 @@ pub record IsHeld (tick : ℕ) (s : Slot) : Type 0 where
 
 -- so all triggers of a board
 abbrev pub AllHeld : ℕ → Rig → Type 0
-AllHeld tick r = (oid : ℕ) (s : Slot) → slot_at r oid ≡ Some s → IsHeld tick s
+AllHeld tick r = (oid : ℕ) (s : Slot) → slot_at r oid ≡ Some s → IsTriggerHeld tick s
 
 -- the timeout of each trigger is at a tick or later, but where it is at this one
 abbrev pub AllFar : ℕ → ℕ → Rig → Type 0
@@ -39,16 +39,16 @@ AllFar until tick r =
 
 -- a timeout that a command sets is later than the board's tick, and a trigger that it triggers, or lets a
 -- switch trigger, does so for another reason
-abbrev pub IsFit : ℕ → Cmd → Type 0
-IsFit now (cmd.TrsyncSetTimeout oid clock) = now < nearest now clock
-IsFit now (cmd.TrsyncTrigger oid reason) = reason ≡ by_timeout → ⊥
-IsFit now (cmd.EndstopHome oid clock sample count rest value other reason) = reason ≡ by_timeout → ⊥
-IsFit now c = Unit {0}
+abbrev pub IsFitCommand : ℕ → Cmd → Type 0
+IsFitCommand now (cmd.TrsyncSetTimeout oid clock) = now < nearest now clock
+IsFitCommand now (cmd.TrsyncTrigger oid reason) = reason ≡ by_timeout → ⊥
+IsFitCommand now (cmd.EndstopHome oid clock sample count rest value other reason) = reason ≡ by_timeout → ⊥
+IsFitCommand now c = Unit {0}
 
 -- so the commands that a board takes, and no stretch of time goes past a timeout, but where it is at this tick
 abbrev pub AreFit : ℕ → Rig → List RigStep → Type 0
 AreFit tick r [] = Unit {0}
-AreFit tick r (Takes c ∷ ss) = IsFit r.controller.tick c × AreFit tick (rig_after r (Takes c)) ss
+AreFit tick r (Takes c ∷ ss) = IsFitCommand r.controller.tick c × AreFit tick (rig_after r (Takes c)) ss
 AreFit tick r (Passes n t ∷ ss) = AllFar t tick r × AreFit tick (rig_after r (Passes n t)) ss
 
 -- what a board answers to a command or in a stretch of time

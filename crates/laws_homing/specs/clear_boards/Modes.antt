@@ -22,14 +22,14 @@ pub record IsLive (turn : ℕ) (g : GroupState) : Type 0 where
 -- A member is known to have triggered by the last turn, and the first relay is still to come: until the
 -- fourth turn behind the start, for which the first timeout is enough, or in this turn, for which the last
 -- one is.
-pub record IsKnown (turn : ℕ) (g : GroupState) : Type 0 where
+pub record IsFiringKnown (turn : ℕ) (g : GroupState) : Type 0 where
   pub relay : g.relay ≡ None
   pub some : any_fired_by g.last g.members ≡ true
   pub ahead : (turn ≤ g.start + 4) ⊎ ((turn + 3 ≤ g.sent) ⊎ (g.last + 1 ≤ g.sent))
 
 -- All is far, none can trigger any more, all can, or one is known to have triggered.
 abbrev pub IsIn : (ℕ → Bool) → ℕ → GroupState → Type 0
-IsIn fired turn g = (g.sent ≡ g.last + 1) ⊎ (AllOn fired g.members ⊎ (IsLive turn g ⊎ IsKnown turn g))
+IsIn fired turn g = (g.sent ≡ g.last + 1) ⊎ (AllOn fired g.members ⊎ (IsLive turn g ⊎ IsFiringKnown turn g))
 
 -- a group that is under way has sent its first timeout, and none that is later than the turn behind its last one
 pub record IsTimed (g : GroupState) : Type 0 where
@@ -53,4 +53,4 @@ HeardLately start last turn (x ∷ xs) =
 -- The same, and while a trigger can trigger the last timeout is three turns ahead.
 abbrev pub IsAheadIn : (ℕ → Bool) → ℕ → GroupState → Type 0
 IsAheadIn fired turn g =
-    (g.sent ≡ g.last + 1) ⊎ (AllOn fired g.members ⊎ ((turn + 3 ≤ g.sent) × (IsLive turn g ⊎ IsKnown turn g)))
+    (g.sent ≡ g.last + 1) ⊎ (AllOn fired g.members ⊎ ((turn + 3 ≤ g.sent) × (IsLive turn g ⊎ IsFiringKnown turn g)))

@@ -8,7 +8,7 @@ use Rattle.trigger_group.specs.Group.{GroupState, orders}
 use Rattle.axis_homing.specs.declared.homing.Homing.{Homing}
 use Rattle.axis_homing.specs.Homing.{commands_to}
 use Rattle.laws_homing.specs.clear_boards.Alive.{RelayNone}
-use Rattle.laws_homing.specs.clear_boards.Turned.{AreBehind}
+use Rattle.laws_homing.specs.clear_boards.Turned.{AreSentBehind}
 
 -- the commands of the group's orders to the board, and then some that are behind the set-up, whatever timeout
 -- was sent, and trigger nothing
@@ -16,5 +16,5 @@ pub record IsOrdered (m : Machine) (clocks : Clocks) (b : ℕ) (h : Homing) (tur
     (commands : List Cmd) : Type 0 where
   pub tail : List Cmd
   pub are : commands ≡ commands_to m clocks b h.start (axis_at m h.axis) (orders g turn) ++ tail
-  pub behind : (oid clock : ℕ) → AreBehind oid clock tail
+  pub behind : (oid clock : ℕ) → AreSentBehind oid clock tail
   pub none : RelayNone tail

@@ -11,30 +11,30 @@ use Rattle.laws_homing.specs.clear_boards.Limited.{IsLimited}
 -- A command that a board is sent behind the set-up: it makes, starts and samples no trigger, and binds no
 -- stepper; a timeout that it sets is this trigger's, at this clock; and what it triggers is this trigger, as
 -- a relay.
-abbrev pub IsBehind : ℕ → ℕ → Cmd → Type 0
-IsBehind oid clock (cmd.TrsyncSetTimeout other at) = (other ≡ oid) × (at ≡ clock)
-IsBehind oid clock (cmd.TrsyncTrigger other reason) = (other ≡ oid) × (reason ≡ by_host)
-IsBehind oid clock (cmd.ConfigTrsync other) = ⊥
-IsBehind oid clock (cmd.TrsyncStart other at every reason) = ⊥
-IsBehind oid clock (cmd.StepperStopOnTrigger stepper other) = ⊥
-IsBehind oid clock (cmd.ConfigEndstop other pin pull) = ⊥
-IsBehind oid clock (cmd.EndstopHome other at sample count rest value trigger reason) = ⊥
-IsBehind oid clock c = Unit {0}
+abbrev pub IsSentBehind : ℕ → ℕ → Cmd → Type 0
+IsSentBehind oid clock (cmd.TrsyncSetTimeout other at) = (other ≡ oid) × (at ≡ clock)
+IsSentBehind oid clock (cmd.TrsyncTrigger other reason) = (other ≡ oid) × (reason ≡ by_host)
+IsSentBehind oid clock (cmd.ConfigTrsync other) = ⊥
+IsSentBehind oid clock (cmd.TrsyncStart other at every reason) = ⊥
+IsSentBehind oid clock (cmd.StepperStopOnTrigger stepper other) = ⊥
+IsSentBehind oid clock (cmd.ConfigEndstop other pin pull) = ⊥
+IsSentBehind oid clock (cmd.EndstopHome other at sample count rest value trigger reason) = ⊥
+IsSentBehind oid clock c = Unit {0}
 
 -- so each of some commands
-abbrev pub AreBehind : ℕ → ℕ → List Cmd → Type 0
-AreBehind oid clock [] = Unit {0}
-AreBehind oid clock (c ∷ cs) = IsBehind oid clock c × AreBehind oid clock cs
+abbrev pub AreSentBehind : ℕ → ℕ → List Cmd → Type 0
+AreSentBehind oid clock [] = Unit {0}
+AreSentBehind oid clock (c ∷ cs) = IsSentBehind oid clock c × AreSentBehind oid clock cs
 
 -- a command sets the timeout of a trigger
-abbrev pub Sets : Cmd → Type 0
-Sets (cmd.TrsyncSetTimeout other at) = Unit {0}
-Sets c = ⊥
+abbrev pub SetsTimeout : Cmd → Type 0
+SetsTimeout (cmd.TrsyncSetTimeout other at) = Unit {0}
+SetsTimeout c = ⊥
 
 -- one of some commands sets the timeout of a trigger
 abbrev pub SetsOne : List Cmd → Type 0
 SetsOne [] = ⊥
-SetsOne (c ∷ cs) = Sets c ⊎ SetsOne cs
+SetsOne (c ∷ cs) = SetsTimeout c ⊎ SetsOne cs
 
 -- a command tells a trigger to trigger
 abbrev pub Relays : Cmd → Type 0
@@ -55,4 +55,4 @@ pub record IsTurnedTo (oid tick limit until : ℕ) (r : Rig) (cs : List Cmd) : T
 -- no command sets the timeout
 abbrev pub SetsNone : List Cmd → Type 0
 SetsNone [] = Unit {0}
-SetsNone (c ∷ cs) = (Sets c → ⊥) × SetsNone cs
+SetsNone (c ∷ cs) = (SetsTimeout c → ⊥) × SetsNone cs

@@ -8,8 +8,8 @@ use Rattle.laws_homing.specs.home_runs.Told.{IsMember}
 use Rattle.laws_homing.specs.switch_runs.Taken.{IsBlind}
 
 -- no trigger that can't trigger reads its switch
-abbrev pub IsQuiet : Rig → Type 0
-IsQuiet r = (oid : ℕ) (s : Slot) → slot_at r oid ≡ Some s → s.trigger.can ≡ false → s.trigger.sampling ≡ None
+abbrev pub ReadsNoSwitch : Rig → Type 0
+ReadsNoSwitch r = (oid : ℕ) (s : Slot) → slot_at r oid ≡ Some s → s.trigger.can ≡ false → s.trigger.sampling ≡ None
 
 -- none of some commands lets a trigger read its switch
 abbrev pub EachBlind : List Cmd → Type 0

@@ -24,9 +24,9 @@ use Rattle.laws_homing.specs.clear_boards.Firing.{AllSmall}
 use Rattle.laws_homing.specs.clear_boards.Hearing.{FiredOn}
 use Rattle.laws_homing.specs.clear_boards.Limited.{IsLimited}
 use Rattle.laws_homing.specs.clear_boards.Member.{IsMember as IsMemberAt}
-use Rattle.laws_homing.specs.clear_boards.Modes.{IsKnown, IsLive, IsTimed}
+use Rattle.laws_homing.specs.clear_boards.Modes.{IsFiringKnown, IsLive, IsTimed}
 use Rattle.laws_homing.specs.clear_groups.Early.{HeardUntil}
-use Rattle.laws_homing.specs.clear_groups.Sections.{report_ticks, rest_of, rig_at}
+use Rattle.laws_homing.specs.clear_groups.Sections.{report_ticks, earlier_turns, rig_at}
 
 -- the timeout of a board's one trigger is at this turn, while it can trigger, and it never expired
 abbrev pub IsRenewed : ℕ → Clocks → ℕ → Rig → Type 0
@@ -55,13 +55,13 @@ IsLast m clocks b turn last r =
 abbrev pub IsFar : ℕ → GroupState → Type 0
 IsFar turn g =
     ((turn < g.start) × (g.start + 1 ≤ g.sent))
-    ⊎ ((g.start ≤ turn) × (turn + 3 ≤ g.sent) × (IsLive turn g ⊎ IsKnown turn g))
+    ⊎ ((g.start ≤ turn) × (turn + 3 ≤ g.sent) × (IsLive turn g ⊎ IsFiringKnown turn g))
 
 -- The timeout behind the last turn is sent; or no member's board can trigger any more, and none expired; or
 -- the group watches each, and doesn't relay yet.
-abbrev pub IsHeld : (m : Machine) (lines : ℕ → Clocks) (start last : ℕ) (members : List Member) (turn : ℕ)
+abbrev pub IsGroupHeld : (m : Machine) (lines : ℕ → Clocks) (start last : ℕ) (members : List Member) (turn : ℕ)
     (g : GroupState) (rigs : ℕ → Rig) → Type 0
-IsHeld m lines start last members turn g rigs =
+IsGroupHeld m lines start last members turn g rigs =
     ((g.sent ≡ last + 1) × ((b : ℕ) → IsMember b members → IsLast m (lines b) b turn last (rigs b)))
     ⊎ (((b : ℕ) → IsMember b members →
     IsRenewed (trigger_of m b) (lines b) g.sent (rigs b) × HasFired (trigger_of m b) (rigs b))
@@ -78,7 +78,7 @@ pub record IsSafe (m : Machine) (lines : ℕ → Clocks) (start last : ℕ) (mem
   pub ends : g.last ≡ last
   pub timed : IsTimed g
   pub small : (b : ℕ) → IsMember b members → AllSmall (rigs b)
-  pub held : IsHeld m lines start last members turn g rigs
+  pub held : IsGroupHeld m lines start last members turn g rigs
 
 -- so the group of the homing section that the reactor knows in a turn, and its boards
 abbrev pub IsSafeIn : (m : Machine) (switches : List Switch) (pins : ℕ → List (List Level)) (entries : List Entry)
@@ -94,4 +94,4 @@ abbrev pub IsSafeAt : (m : Machine) (switches : List Switch) (pins : ℕ → Lis
 IsSafeAt m switches pins entries lines start last members at [] all = Unit {0}
 IsSafeAt m switches pins entries lines start last members at (c ∷ before) all =
     (length before ≡ at → IsSafeIn m switches pins entries lines start last members c before all)
-    × IsSafeAt m switches pins entries lines start last members at before (rest_of all)
+    × IsSafeAt m switches pins entries lines start last members at before (earlier_turns all)

@@ -137,9 +137,9 @@ AllLate clocks last at (t ∷ before) =
     × AllLate clocks last at before
 
 -- the turns before the latest one
-abbrev pub rest_of : List (ℕ → BoardTurn) → List (ℕ → BoardTurn)
-rest_of [] = []
-rest_of (j ∷ js) = js
+abbrev pub earlier_turns : List (ℕ → BoardTurn) → List (ℕ → BoardTurn)
+earlier_turns [] = []
+earlier_turns (j ∷ js) = js
 
 -- states are of the turn before this one
 abbrev pub AreOfTurn : ℕ → List State → Type 0

@@ -20,7 +20,7 @@ use Rattle.host_reactor.specs.declared.ordered.Phase.TheVariants.{Connecting}
 use Rattle.host_reactor.specs.Notes.{news_of, noted}
 use Rattle.host_reactor.specs.Runs.{Came, known_by}
 use Rattle.laws_board.specs.turns.Turns.{BoardTurn, stands_after}
-use Rattle.laws_homing.specs.home_runs.Sections.{queued_by}
+use Rattle.laws_homing.specs.home_runs.Sections.{queued_in_turns}
 use Rattle.laws_homing.specs.home_runs.Told.{IsMember}
 use Rattle.laws_homing.specs.home_runs.Words.{BeginsNone}
 use Rattle.laws_homing.specs.missed_groups.Ticks.{IsReader}
@@ -69,25 +69,25 @@ ReadsAsTold m switches b c before turns =
     WasFiredAt (trigger_of m b) f.reason f.tick turns
 
 -- so in each of some turns; the first state that came is that of the latest of the board's turns
-abbrev pub AreRead : (Came → List Came → List BoardTurn → Type 0) → List Came → List BoardTurn → Type 0
-AreRead R [] turns = Unit {0}
-AreRead R (c ∷ before) [] = Unit {0}
-AreRead R (c ∷ before) (t ∷ earlier) = R c before (t ∷ earlier) × AreRead R before earlier
+abbrev pub AreSoInTurns : (Came → List Came → List BoardTurn → Type 0) → List Came → List BoardTurn → Type 0
+AreSoInTurns R [] turns = Unit {0}
+AreSoInTurns R (c ∷ before) [] = Unit {0}
+AreSoInTurns R (c ∷ before) (t ∷ earlier) = R c before (t ∷ earlier) × AreSoInTurns R before earlier
 
 -- so what a board tells is read as ticks since which its trigger can't trigger (`ReadsTrue`)
 abbrev pub AreReadTrue : Machine → List Switch → ℕ → List Came → List BoardTurn → Type 0
-AreReadTrue m switches b came turns = AreRead (ReadsTrue m switches b) came turns
+AreReadTrue m switches b came turns = AreSoInTurns (ReadsTrue m switches b) came turns
 
 -- As a homing section that is known starts a board is no more than a turn ahead of its clock lines, by those
 -- that are known in some turns from the start on: its own tick of the turn in front of the start is no later
 -- than theirs of the start.
-abbrev pub AreBehind : Machine → List Switch → ℕ → List Came → Type 0
-AreBehind m switches b [] = Unit {0}
-AreBehind m switches b (c ∷ before) =
+abbrev pub AreNotAhead : Machine → List Switch → ℕ → List Came → Type 0
+AreNotAhead m switches b [] = Unit {0}
+AreNotAhead m switches b (c ∷ before) =
     ((h : Homing) → (noted m c.note (known_by m switches before)).homing ≡ Some h → h.start ≤ length before →
     board_tick (clock_of (board_at m b)) (h.start - 1)
     ≤ lines_tick (clocks_at (noted m c.note (known_by m switches before)).clocks b) (h.start * turn_ns))
-    × AreBehind m switches b before
+    × AreNotAhead m switches b before
 
 -- Each note begins no section, or it begins one where no homing section is known; and where it is a homing
 -- section, past connecting, and 251 turns before its start or earlier.
@@ -126,7 +126,7 @@ pub record HasFiredSince (trigger start : ℕ) (first : LinkState) (turns : List
   pub front : List Meant
   pub begin : Meant
   pub more : List Meant
-  pub took : (stands_after first turns).core.taken ≡ queued_by early ++ (front ++ begin ∷ more)
+  pub took : (stands_after first turns).core.taken ≡ queued_in_turns early ++ (front ++ begin ∷ more)
   pub starts : IsStart begin.command
   pub tame : EachTame (commands_of more)
   pub at_rest : IsAtRest trigger first turns
@@ -138,13 +138,13 @@ pub record IsReadSo (m : Machine) (switches : List Switch) (b : ℕ) (c : Came) 
     (turns : List BoardTurn) : Type 0 where
   pub apart : BeginsApart m switches (c ∷ before)
   pub reads : AreReadTrue m switches b (c ∷ before) turns
-  pub behind : AreBehind m switches b (c ∷ before)
+  pub behind : AreNotAhead m switches b (c ∷ before)
 
 -- so all that a board tells in a run: what comes in each turn of the reactor is of the board's turns before
 -- it, of which there are as many
 abbrev pub AllRead : (Came → List Came → List BoardTurn → Type 0) → List Came → List BoardTurn → Type 0
 AllRead R came [] = Unit {0}
-AllRead R came (t ∷ earlier) = AreRead R came earlier
+AllRead R came (t ∷ earlier) = AreSoInTurns R came earlier
 
 -- so all that it tells in a run is read true
 abbrev pub AllReadTrue : Machine → List Switch → ℕ → List Came → List BoardTurn → Type 0
@@ -155,4 +155,4 @@ pub record AreReadSo (m : Machine) (switches : List Switch) (b : ℕ) (came : Li
     : Type 0 where
   pub apart : BeginsApart m switches came
   pub reads : AllReadTrue m switches b came turns
-  pub behind : AreBehind m switches b came
+  pub behind : AreNotAhead m switches b came

@@ -6,7 +6,7 @@ use Rattle.msg_code.specs.declared.unit.Unit.{Unit as StepUnit}
 use Rattle.board_sim.specs.Fair.{Meant}
 use Rattle.link_work.specs.Turn.{LinkState}
 use Rattle.laws_board.specs.turns.Turns.{BoardTurn, stands_after}
-use Rattle.laws_homing.specs.home_runs.Sections.{queued_by}
+use Rattle.laws_homing.specs.home_runs.Sections.{queued_in_turns}
 
 -- a command holds no step of a stepper
 abbrev pub StepsNot : ℕ → Cmd → Type 0
@@ -36,5 +36,5 @@ pub record TookNone (oid from : ℕ) (first : LinkState) (turns : List BoardTurn
   pub are : turns ≡ later ++ early
   pub long : length early ≡ from
   pub more : List Meant
-  pub took : (stands_after first turns).core.taken ≡ queued_by early ++ more
+  pub took : (stands_after first turns).core.taken ≡ queued_in_turns early ++ more
   pub none : AllStepNot oid more

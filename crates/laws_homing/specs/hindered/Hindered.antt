@@ -21,7 +21,7 @@ use Rattle.host_reactor.specs.Notes.{noted}
 use Rattle.host_reactor.specs.Runs.{Came, known_by}
 use Rattle.laws_board.specs.turns.Turns.{BoardTurn}
 use Rattle.laws_board.specs.clocks.Runs.{IsInRun}
-use Rattle.laws_homing.specs.fired_runs.Since.{AllRead, AllReadTrue, AreBehind, ReadsSwitchTrue}
+use Rattle.laws_homing.specs.fired_runs.Since.{AllRead, AllReadTrue, AreNotAhead, ReadsSwitchTrue}
 use Rattle.laws_homing.specs.clear_groups.Early.{HeardUntil}
 use Rattle.laws_homing.specs.clear_groups.Sections.{ShutNone, report_ticks, turns_of}
 
@@ -50,7 +50,7 @@ pub record IsGoingOn (m : Machine) (switches : List Switch) (pins : List (List L
   pub in_range : board_tick (clock_of (board_at m b)) (length turns) < 2 ^ 63
   pub reads : AllReadTrue m switches b before turns
   pub reads_switch : AllRead (ReadsSwitchTrue m switches b) before turns
-  pub behind : AreBehind m switches b before
+  pub behind : AreNotAhead m switches b before
 
 -- In each turn of the reactor from a section's start on the group of the homing section that is known has heard of a
 -- board as able to trigger in no turn behind this one.

@@ -12,7 +12,7 @@ use Rattle.trigger_group.specs.Group.{unseen}
 use Rattle.trigger_group.specs.Kept.{may_be}
 use Rattle.axis_homing.specs.Homing.{members_from}
 use Rattle.host_reactor.specs.declared.ordered.Phase.TheVariants.{Connecting}
-use Rattle.host_reactor.specs.Runs.{Came, GoesOn, known_by, last_turn}
+use Rattle.host_reactor.specs.Runs.{Came, GoesOn, known_by, last_reacted}
 use Rattle.laws_board.specs.turns.Turns.{BoardTurn}
 use Rattle.motion_work.specs.Seen.{Started}
 use Rattle.motion_work.specs.Told.{tells_homed}
@@ -27,21 +27,21 @@ use Rattle.laws_homing.specs.home_plans.Notes.{CameNotes}
 abbrev pub TellsIn : Machine → List Switch → ℕ → List Came → Type 0
 TellsIn m switches turn [] = ⊥
 TellsIn m switches turn (c ∷ before) =
-    ((length before ≡ turn) × TellsHomed (last_turn m switches c before).ordered.word.news)
+    ((length before ≡ turn) × TellsHomed (last_reacted m switches c before).ordered.word.news)
     ⊎ TellsIn m switches turn before
 
 -- no word tells of an answer in turns from one on and before another
 abbrev pub TellNone : Machine → List Switch → ℕ → ℕ → List Came → Type 0
 TellNone m switches from to [] = Unit {0}
 TellNone m switches from to (c ∷ before) =
-    (from ≤ length before → length before < to → TellsHomed (last_turn m switches c before).ordered.word.news → ⊥)
+    (from ≤ length before → length before < to → TellsHomed (last_reacted m switches c before).ordered.word.news → ⊥)
     × TellNone m switches from to before
 
 -- each word, of some that were taken, that has the place of one of these turns is the word of that turn
 abbrev pub AreOfTurns : Machine → List Switch → List WordMsg → List Came → Type 0
 AreOfTurns m switches words [] = Unit {0}
 AreOfTurns m switches words (c ∷ before) =
-    ((w : WordMsg) → item (length before) words ≡ w ∷ [] → w ≡ (last_turn m switches c before).ordered.word)
+    ((w : WordMsg) → item (length before) words ≡ w ∷ [] → w ≡ (last_reacted m switches c before).ordered.word)
     × AreOfTurns m switches words before
 
 -- Turns of a reactor that took the notes that a planner made, as the planner heard its words; those that it

@@ -14,7 +14,7 @@ use Rattle.motion_work.specs.Puts.{begun_notes}
 use Rattle.motion_work.specs.Seen.{Started}
 use Rattle.motion_work.specs.Turns.{done_notes}
 use Rattle.host_reactor.specs.declared.ordered.Phase.TheVariants.{Connecting}
-use Rattle.host_reactor.specs.Runs.{Came, known_by, last_turn}
+use Rattle.host_reactor.specs.Runs.{Came, known_by, last_reacted}
 use Rattle.host_reactor.specs.Notes.{noted}
 use Rattle.laws_board.specs.turns.Turns.{BoardTurn}
 use Rattle.laws_board.specs.sections.Homes.{IsControlIn, RunSection}
@@ -38,7 +38,7 @@ IsSilentFrom m switches from [] = Unit {0}
 IsSilentFrom m switches from (c ∷ before) =
     (from ≤ length before →
     ((known_by m switches before).phase ≡ Connecting → ⊥)
-    × (TellsHomed (last_turn m switches c before).ordered.word.news → ⊥))
+    × (TellsHomed (last_reacted m switches c before).ordered.word.news → ⊥))
     × IsSilentFrom m switches from before
 
 -- a homing section that is known is one of some that were begun: it starts with it, and has its number, its

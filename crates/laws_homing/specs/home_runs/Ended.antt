@@ -8,7 +8,7 @@ use Rattle.wire_scene.specs.declared.scene.Switch.{Switch}
 use Rattle.link_work.specs.Stands.{first_state}
 use Rattle.trigger_group.specs.declared.order.Member.{Member}
 use Rattle.host_reactor.specs.Notes.{news_of}
-use Rattle.host_reactor.specs.Runs.{Came, last_turn, state_at}
+use Rattle.host_reactor.specs.Runs.{Came, last_reacted, state_at}
 use Rattle.laws_board.specs.turns.Turns.{BoardTurn, latest_state}
 use Rattle.laws_board.specs.clocks.Runs.{IsInRun}
 use Rattle.laws_board.specs.sections.Homes.{RunSection}
@@ -30,14 +30,14 @@ pub record IsToldIn (m : Machine) (switches : List Switch) (pins : List (List Le
   pub long : length past ≡ end
   pub run_is : IsInRun m switches pins entries b before past
   pub states : state_at b came.states ≡ latest_state past
-  pub goes_on : (last_turn m switches came before).ordered.end ≡ None
+  pub goes_on : (last_reacted m switches came before).ordered.end ≡ None
   pub begin : ℕ
   pub members : List Member
   pub begun : IsBegunIn m switches begin start members before
   pub soon : begin + 254 ≤ start
   pub far : start ≤ end
   pub none : BeginsNone (news_of came.note)
-  pub homed : TellsHomed (last_turn m switches came before).ordered.word.news
+  pub homed : TellsHomed (last_reacted m switches came before).ordered.word.news
   pub fires : TakesSetUp (first_state (board_at m b) pins b entries) start past ⊎ IsReadSo m switches b came before past
 
 -- The parts of a board's steps that are begun in some turns stop with homing sections of the board that were

@@ -31,8 +31,8 @@ pub record StandsFired (trigger reason clock : ℕ) (r : Rig) : Type 0 where
   pub clock_is : slot.trigger.tick % 2 ^ 32 ≡ clock
 
 -- where the trigger stands and can't trigger, it has no timeout
-abbrev pub IsQuiet : ℕ → Rig → Type 0
-IsQuiet trigger r = (s : Slot) → slot_at r trigger ≡ Some s → s.trigger.can ≡ false → s.trigger.timeout ≡ None
+abbrev pub HasNoTimeout : ℕ → Rig → Type 0
+HasNoTimeout trigger r = (s : Slot) → slot_at r trigger ≡ Some s → s.trigger.can ≡ false → s.trigger.timeout ≡ None
 
 -- where the trigger stands, its reason fits the field in which it is told
 abbrev pub ReasonFits : ℕ → Rig → Type 0

@@ -53,9 +53,9 @@ SetNoneFrom oid from [] = Unit {0}
 SetNoneFrom oid from (t ∷ before) = (from ≤ length before → SetNone oid t.batch.units) × SetNoneFrom oid from before
 
 -- what was queued in some turns
-abbrev pub queued_by : List BoardTurn → List Meant
-queued_by [] = []
-queued_by (t ∷ before) = queued_by before ++ queued_in (orders t.control t.batch)
+abbrev pub queued_in_turns : List BoardTurn → List Meant
+queued_in_turns [] = []
+queued_in_turns (t ∷ before) = queued_in_turns before ++ queued_in (orders t.control t.batch)
 
 -- A board in a homing section, in some turns up to that in which its group answers: 250 turns before the
 -- section's start the last command of the set-up was queued; and before the turn in front of the start there
@@ -69,12 +69,13 @@ pub record TakesSetUp (first : LinkState) (start : ℕ) (turns : List BoardTurn)
   pub queued : start ≤ length past + 249
   pub in_time : length (late ++ past) + 1 ≤ start
   pub more : List Meant
-  pub took : queued_by past ++ more ≡ (stands_after first (late ++ past)).core.taken
+  pub took : queued_in_turns past ++ more ≡ (stands_after first (late ++ past)).core.taken
   pub heard : (stands_after first (late ++ past)).core.link.up ≡ []
 
 -- the group of the homing section that is known answers in a turn, by what came to the reactor in it and
 -- before; and the section was known from 254 turns before its start on
-pub record IsAnswered (m : Machine) (switches : List Switch) (c : Came) (before : List Came) (h : Homing) : Type 0 where
+pub record GroupAnswers (m : Machine) (switches : List Switch) (c : Came) (before : List Came) (h : Homing) :
+    Type 0 where
   pub known : (noted m c.note (known_by m switches before)).homing ≡ Some h
   pub end : End
   pub answer : answer_in (length before) h.start

@@ -17,7 +17,7 @@ use Rattle.board_asking.specs.Machine.{trigger_of}
 use Rattle.host_reactor.specs.Runs.{Came}
 use Rattle.laws_board.specs.turns.Turns.{BoardTurn, stands_after}
 use Rattle.laws_board.specs.clocks.Runs.{IsInRun}
-use Rattle.laws_homing.specs.home_runs.Sections.{HomesFrom, Moves, queued_by}
+use Rattle.laws_homing.specs.home_runs.Sections.{HomesFrom, Moves, queued_in_turns}
 use Rattle.laws_homing.specs.home_runs.Settled.{SendNoneIn, SetNoClockFrom}
 
 -- How far a stepper is set up, and its trigger: 1, its clock is set; 2, the trigger is started; 3, a timeout is set;
@@ -41,10 +41,10 @@ IsInOrder stepper trigger far (cmd.QueueStep oid interval count add) = oid ≡ s
 IsInOrder stepper trigger far c = Unit {0}
 
 -- so do some commands, of a stepper that is set up so far
-abbrev pub AreInOrder : ℕ → ℕ → ℕ → List Cmd → Type 0
-AreInOrder stepper trigger far [] = Unit {0}
-AreInOrder stepper trigger far (c ∷ cs) =
-    IsInOrder stepper trigger far c × AreInOrder stepper trigger (far_by stepper trigger far c) cs
+abbrev pub AreSetUpInOrder : ℕ → ℕ → ℕ → List Cmd → Type 0
+AreSetUpInOrder stepper trigger far [] = Unit {0}
+AreSetUpInOrder stepper trigger far (c ∷ cs) =
+    IsInOrder stepper trigger far c × AreSetUpInOrder stepper trigger (far_by stepper trigger far c) cs
 
 -- behind a turn a board has taken the command that stands behind some others, and it had not behind the turns before
 abbrev pub TookInTurn : LinkState → List Meant → BoardTurn → List BoardTurn → Type 0
@@ -70,9 +70,10 @@ pub record IsBoundIn (m : Machine) (switches : List Switch) (pins : List (List L
   pub bind : Meant
   pub behind : List Meant
   pub took : (stands_after (first_state (board_at m b) pins b entries) (later ++ t ∷ (between ++ early))).core.taken
-      ≡ queued_by early ++ (front ++ bind ∷ behind)
+      ≡ queued_in_turns early ++ (front ++ bind ∷ behind)
   pub is : bind.command ≡ cmd.StepperStopOnTrigger (stepper_at m stepper).oid (trigger_of m b)
-  pub in_turn : TookInTurn (first_state (board_at m b) pins b entries) (queued_by early ++ front) t (between ++ early)
+  pub in_turn : TookInTurn (first_state (board_at m b) pins b entries) (queued_in_turns early ++ front) t
+      (between ++ early)
 
 -- the pulses of a stepper that its board makes in some turns, but for those of the first ones, are before a tick
 abbrev pub StopsAt : Machine → List (List Level) → List Entry → ℕ → ℕ → ℕ → List BoardTurn → List BoardTurn → Type 0

@@ -11,7 +11,7 @@ use Rattle.axis_homing.specs.declared.homing.Homing.{Homing}
 use Rattle.host_reactor.specs.Runs.{Came, state_at}
 use Rattle.laws_board.specs.turns.Turns.{BoardTurn, latest_state}
 use Rattle.laws_board.specs.clocks.Runs.{IsInRun}
-use Rattle.laws_homing.specs.home_runs.Sections.{IsAnswered, TakesSetUp}
+use Rattle.laws_homing.specs.home_runs.Sections.{GroupAnswers, TakesSetUp}
 use Rattle.laws_homing.specs.fired_runs.Since.{IsReadSo}
 
 -- no unit sets a clock
@@ -45,7 +45,7 @@ pub record IsHomed (m : Machine) (switches : List Switch) (pins : List (List Lev
   pub run_is : IsInRun m switches pins entries b before past
   pub states : state_at b came.states ≡ latest_state past
   pub homing : Homing
-  pub answered : IsAnswered m switches came before homing
+  pub answered : GroupAnswers m switches came before homing
   pub begin : homing.start ≡ start
   pub sets_none : SetNoClockFrom answered.from past
   pub sends_none : SendNoneIn answered.from (answered.from + 4) past

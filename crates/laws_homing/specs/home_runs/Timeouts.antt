@@ -23,7 +23,7 @@ use Rattle.host_reactor.specs.Notes.{noted}
 use Rattle.host_reactor.specs.Runs.{Came, known_by, state_at}
 use Rattle.laws_board.specs.turns.Turns.{BoardTurn, stands_after}
 use Rattle.laws_homing.specs.clear_boards.Hearing.{TellAble}
-use Rattle.laws_homing.specs.home_runs.Sections.{queued_by}
+use Rattle.laws_homing.specs.home_runs.Sections.{queued_in_turns}
 
 -- what the reactor knows in a turn, behind the note that came in it
 abbrev pub known_in : Machine → List Switch → Came → List Came → Known
@@ -62,7 +62,7 @@ TakesInTime own trigger n sent first (t ∷ before) =
 abbrev pub TakesSent : Machine → List Switch → List (List Level) → List Entry → ℕ → List Came → List BoardTurn
     → List BoardTurn → Type 0
 TakesSent m switches pins entries b came turns early =
-    TakesInTime (board_tick (clock_of (board_at m b))) (trigger_of m b) (length (queued_by early))
+    TakesInTime (board_tick (clock_of (board_at m b))) (trigger_of m b) (length (queued_in_turns early))
     (λ tick. SendsTimeout m switches b (length early) tick came) (first_state (board_at m b) pins b entries) turns
 
 -- in each turn from a number on this is the last turn of the homing section that is known

@@ -9,7 +9,7 @@ use Rattle.wire_scene.specs.declared.scene.Switch.{Switch}
 use Rattle.trigger_group.specs.declared.order.Member.{Member}
 use Rattle.host_reactor.specs.declared.ordered.Phase.TheVariants.{Connecting}
 use Rattle.host_reactor.specs.Notes.{noted, news_of}
-use Rattle.host_reactor.specs.Runs.{Came, known_by, last_turn}
+use Rattle.host_reactor.specs.Runs.{Came, known_by, last_reacted}
 use Rattle.laws_homing.specs.home_runs.Sections.{IsOf}
 
 -- a note begins no section
@@ -33,5 +33,5 @@ IsBegunIn m switches from start members (c ∷ before) =
     ((known_by m switches before).phase ≡ Connecting → ⊥)
     × IsOf start members (noted m c.note (known_by m switches before)).homing)
     × (from < length before → BeginsNone (news_of c.note))
-    × (from ≤ length before → TellsHomed (last_turn m switches c before).ordered.word.news → ⊥)
+    × (from ≤ length before → TellsHomed (last_reacted m switches c before).ordered.word.news → ⊥)
     × IsBegunIn m switches from start members before

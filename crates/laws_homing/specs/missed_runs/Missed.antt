@@ -18,7 +18,7 @@ use Rattle.laws_board.specs.turns.Turns.{BoardTurn, latest_state, stands_after}
 use Rattle.laws_board.specs.clocks.Near.{LinesKeepUp}
 use Rattle.laws_board.specs.clocks.Runs.{IsInRun}
 use Rattle.laws_homing.specs.switch_runs.Taken.{IsTriggerOf}
-use Rattle.laws_homing.specs.fired_runs.Since.{AreBehind, AreRead, ReadsAsTold, WasFiredAt}
+use Rattle.laws_homing.specs.fired_runs.Since.{AreNotAhead, AreSoInTurns, ReadsAsTold, WasFiredAt}
 
 -- A homing section misses its switch up to a tick: since this tick, as one of these turns of its endstop's board
 -- ended, the board's trigger could not trigger, and for another reason than readings (1). No trigger tick of the
@@ -39,8 +39,8 @@ pub record IsHeardWell (m : Machine) (switches : List Switch) (pins : List (List
   pub run : IsInRun m switches pins entries b before turns
   pub latest : state_at b c.states ≡ latest_state turns
   pub runs : (stands_after (first_state (board_at m b) pins b entries) turns).core.board.controller.state ≡ Running
-  pub reads : AreRead (ReadsAsTold m switches b) (c ∷ before) turns
-  pub behind : AreBehind m switches b (c ∷ before)
+  pub reads : AreSoInTurns (ReadsAsTold m switches b) (c ∷ before) turns
+  pub behind : AreNotAhead m switches b (c ∷ before)
   pub kept : AreKept (clocks_at clocks b)
   pub keeps_up : (turn : ℕ) → from ≤ turn → turn ≤ length before + 275 →
       LinesKeepUp (clock_of (board_at m b)) (clocks_at clocks b) turn

@@ -24,11 +24,11 @@ pub record IsComplete (levels : List Level) (home : Homing) (now tick : ℕ) : T
 -- What is asked of a command: an endstop that it makes has this pin; it triggers a trigger by no reading's
 -- reason (1), nor lets a timeout do so; and the readings that it begins for this reason, where a board takes
 -- it at a tick, are complete at such ticks alone.
-abbrev pub IsFit : (ℕ → (ℕ → Type 0)) → (ℕ → (ℕ → Type 0)) → List (List Level) → Cmd → Type 0
-IsFit E F pins (cmd.ConfigEndstop oid pin pull) = E oid pin
-IsFit E F pins (cmd.TrsyncTrigger oid reason) = (reason < 2 ^ 8) × (reason ≡ by_switch → ⊥)
-IsFit E F pins (cmd.TrsyncStart oid clock every reason) = (reason < 2 ^ 8) × (reason ≡ by_switch → ⊥)
-IsFit E F pins (cmd.EndstopHome oid clock sample count rest value other reason) =
+abbrev pub IsFitReading : (ℕ → (ℕ → Type 0)) → (ℕ → (ℕ → Type 0)) → List (List Level) → Cmd → Type 0
+IsFitReading E F pins (cmd.ConfigEndstop oid pin pull) = E oid pin
+IsFitReading E F pins (cmd.TrsyncTrigger oid reason) = (reason < 2 ^ 8) × (reason ≡ by_switch → ⊥)
+IsFitReading E F pins (cmd.TrsyncStart oid clock every reason) = (reason < 2 ^ 8) × (reason ≡ by_switch → ⊥)
+IsFitReading E F pins (cmd.EndstopHome oid clock sample count rest value other reason) =
     (reason < 2 ^ 8) × (reason ≡ by_switch → (pin now tick : ℕ) → E oid pin →
     IsComplete (slice_index_or pins pin []) (record {
       clock = clock;
@@ -38,12 +38,12 @@ IsFit E F pins (cmd.EndstopHome oid clock sample count rest value other reason) 
       pin_value = value;
       reason = reason;
     }) now tick → F now tick)
-IsFit E F pins c = Unit {0}
+IsFitReading E F pins c = Unit {0}
 
 -- so each of some commands that come to a board
 abbrev pub AreFit : (ℕ → (ℕ → Type 0)) → (ℕ → (ℕ → Type 0)) → List (List Level) → List Meant → Type 0
 AreFit E F pins [] = Unit {0}
-AreFit E F pins (m ∷ ms) = IsFit E F pins m.command × AreFit E F pins ms
+AreFit E F pins (m ∷ ms) = IsFitReading E F pins m.command × AreFit E F pins ms
 
 -- so the commands that come to it in each of some turns, the latest turn first
 abbrev pub BringFit : (ℕ → (ℕ → Type 0)) → (ℕ → (ℕ → Type 0)) → List (List Level) → List BoardTurn → Type 0

@@ -64,7 +64,7 @@ pub record IsReadAt (m : Machine) (switches : List Switch) (pins : List (List Le
       (readings m b (axis_at m axis) (low (turn_tick lines start))) now tick
 
 -- so those that any homing section has it make, whenever it took their command
-pub record IsRead (m : Machine) (switches : List Switch) (pins : List (List Level)) (b : ℕ) (came : List Came)
+pub record IsReadInRun (m : Machine) (switches : List Switch) (pins : List (List Level)) (b : ℕ) (came : List Came)
     (tick : ℕ) : Type 0 where
   pub at : ℕ
   pub start : ℕ

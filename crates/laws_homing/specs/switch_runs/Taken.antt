@@ -13,7 +13,7 @@ use Rattle.link_work.specs.Stands.{first_state}
 use Rattle.link_work.specs.Turn.{LinkState}
 use Rattle.host_reactor.specs.Runs.{Came}
 use Rattle.laws_board.specs.turns.Turns.{BoardTurn, stands_after}
-use Rattle.laws_homing.specs.home_runs.Sections.{queued_by}
+use Rattle.laws_homing.specs.home_runs.Sections.{queued_in_turns}
 use Rattle.laws_homing.specs.switch_runs.Runs.{IsReadAt}
 
 -- a command begins no readings
@@ -41,8 +41,8 @@ pub record TookHome (first : LinkState) (start : ℕ) (turns : List BoardTurn) (
   pub front : List Meant
   pub home : Meant
   pub rest : List Meant
-  pub queue : queued_by turns ≡ queued_by early ++ (front ++ home ∷ rest)
-  pub ordered : length (queued_by early ++ front) < length (queued_by (order ∷ early))
+  pub queue : queued_in_turns turns ≡ queued_in_turns early ++ (front ++ home ∷ rest)
+  pub ordered : length (queued_in_turns early ++ front) < length (queued_in_turns (order ∷ early))
   pub reads : IsBlind home.command → ⊥
   pub sole : AreBlind front × AreBlind rest
   -- the turn in which it was taken, and those behind it
@@ -51,8 +51,8 @@ pub record TookHome (first : LinkState) (start : ℕ) (turns : List BoardTurn) (
   pub since : List BoardTurn
   pub taken_in : turns ≡ later ++ took ∷ (since ++ early)
   pub at : length (since ++ early) ≡ turn
-  pub not_yet : length (stands_after first (since ++ early)).core.taken ≤ length (queued_by early ++ front)
-  pub taken : length (queued_by early ++ front) < length took.after.core.taken
+  pub not_yet : length (stands_after first (since ++ early)).core.taken ≤ length (queued_in_turns early ++ front)
+  pub taken : length (queued_in_turns early ++ front) < length took.after.core.taken
 
 -- The trigger tick of a homing section: of the groups of readings that begin with the section's command, as the board
 -- took it (as one of its turns began), from the section's start on, the last reading of the first group that shows

@@ -5,8 +5,8 @@ use Rattle.text_core.specs.Lines.{lines_of}
 use Rattle.plan_types.specs.declared.plan.Move.{Move}
 use Rattle.plan_types.specs.declared.plan.ReadEnd.{ReadEnd}
 use Rattle.plan_types.specs.declared.plan.ReadStop.TheVariants.{End}
-use Rattle.gcode_text.specs.Commands.{entry_of, head_of, unnumbered}
-use Rattle.gcode_text.specs.Lines.{given_at, reading, words_of}
+use Rattle.gcode_text.specs.Commands.{table_entry, head_of, unnumbered}
+use Rattle.gcode_text.specs.Lines.{given_at, reading, given_words}
 use Rattle.text_core.specs.Numbers.{amount, is_readable, number_at, parts_of, signed, value_of}
 use Rattle.gcode_state.specs.declared.state.Action.TheVariants as actions
 use Rattle.gcode_state.specs.declared.state.State.{State}
@@ -14,9 +14,9 @@ use Rattle.gcode_state.specs.States.{aim_of, has_relative_e, is_any_outside, is_
 use Rattle.gcode_program.specs.Cuts.{closed, sections_of}
 use Rattle.gcode_program.specs.Programs.{outcome_of, program_end, program_sections}
 use Rattle.gcode_program.specs.Readings.{Deed, Outcome, applied_line, deed_of, is_passed, is_stop, outcome}
-use Rattle.bed_mesh.specs.BentLines.{text_of}
+use Rattle.bed_mesh.specs.BentLines.{joined_lines}
 use Rattle.generated_load.specs.Printer.{load_machine}
-use Rattle.generated_load.specs.Text.{load_moves, load_text, millimetres, next, upper}
+use Rattle.generated_load.specs.Text.{load_moves, load_text, millimetres, next_random, upper}
 use Rattle.laws_report.specs.loads.Path.{accepted_whole, load_move, load_path}
 use Rattle.laws_report.specs.meshes.Bent.{differ, origin}
 use Rattle.laws_report.proofs.loads.Lines.{act_by, begins, count_by, move_applied, move_passed, place, standing}
@@ -29,7 +29,7 @@ line_at u = place_line (u % 200_001) (u / 200_001 % 200_001)
 -- the lines of so many moves behind a state of the generator
 abbrev load_lines : ℕ → ℕ → List (List ℕ)
 load_lines zero state = []
-load_lines (suc n) state = line_at (upper (next state)) ∷ load_lines n (next state)
+load_lines (suc n) state = line_at (upper (next_random state)) ∷ load_lines n (next_random state)
 
 ended : (p a q b rest : List ℕ) → (p ++ (a ++ (q ++ b))) ++ 10 ∷ rest ≡ (p ++ (a ++ (q ++ (b ++ 10 ∷ [])))) ++ rest
 ended p a q b rest =
@@ -37,29 +37,29 @@ ended p a q b rest =
     let tail : List ℕ = b ++ 10 ∷ [] in
     append_assoc p (a ++ (q ++ b)) more ∙ ap (λ (t : List ℕ). p ++ t) (append_assoc a (q ++ b) more ∙ ap (λ (t : List ℕ). a ++ t) (append_assoc q b more ∙ ap (λ (t : List ℕ). q ++ t) (sym (append_assoc b (10 ∷ []) rest)) ∙ sym (append_assoc q tail rest)) ∙ sym (append_assoc a (q ++ tail) rest)) ∙ sym (append_assoc p (a ++ (q ++ tail)) rest)
 
-lines_text : (n state : ℕ) → text_of (load_lines n state) ≡ load_moves n state
+lines_text : (n state : ℕ) → joined_lines (load_lines n state) ≡ load_moves n state
 lines_text zero state = refl
 lines_text (suc n) state =
-    let u = upper (next state) in
-    ended (codes "G1 X") (millimetres (u % 200_001)) (codes " Y") (millimetres (u / 200_001 % 200_001)) (text_of (load_lines n (next state)))
-    ∙ ap (λ (t : List ℕ). (codes "G1 X" ++ (millimetres (u % 200_001) ++ (codes " Y" ++ (millimetres (u / 200_001 % 200_001) ++ 10 ∷ [])))) ++ t) (lines_text n (next state))
+    let u = upper (next_random state) in
+    ended (codes "G1 X") (millimetres (u % 200_001)) (codes " Y") (millimetres (u / 200_001 % 200_001)) (joined_lines (load_lines n (next_random state)))
+    ∙ ap (λ (t : List ℕ). (codes "G1 X" ++ (millimetres (u % 200_001) ++ (codes " Y" ++ (millimetres (u / 200_001 % 200_001) ++ 10 ∷ [])))) ++ t) (lines_text n (next_random state))
 
 lines_plain : (n state : ℕ) → AllPlain (load_lines n state)
 lines_plain zero state = tt
-lines_plain (suc n) state = (plain_line (upper (next state) % 200_001) (upper (next state) / 200_001 % 200_001), lines_plain n (next state))
+lines_plain (suc n) state = (plain_line (upper (next_random state) % 200_001) (upper (next_random state) / 200_001 % 200_001), lines_plain n (next_random state))
 
-lines_size : (n state : ℕ) → length (text_of (load_lines n state)) ≤ 21 * n
+lines_size : (n state : ℕ) → length (joined_lines (load_lines n state)) ≤ 21 * n
 lines_size zero state = omega arith
 lines_size (suc n) state =
-    let u = upper (next state) in
+    let u = upper (next_random state) in
     let one = short_line (u % 200_001) (u / 200_001 % 200_001) (omega arith) (omega arith) in
-    let more = lines_size n (next state) in
-    let both = length-append (line_at u) (10 ∷ text_of (load_lines n (next state))) in
+    let more = lines_size n (next_random state) in
+    let both = length-append (line_at u) (10 ∷ joined_lines (load_lines n (next_random state))) in
     omega (arith, one, more, both)
 
 lines_many : (n state : ℕ) → length (load_lines n state) ≡ n
 lines_many zero state = refl
-lines_many (suc n) state = ap suc (lines_many n (next state))
+lines_many (suc n) state = ap suc (lines_many n (next_random state))
 
 -- so many lines of moves are read, and what they do is their path
 record AreLoaded (n state x y count lines : ℕ) : Type 0 where
@@ -89,7 +89,7 @@ loaded zero state x y count lines few = record {
   path = λ before. ap (closed 0) (sym (append-nil before));
 }
 loaded (suc n) state x y count lines few =
-    let u = upper (next state) in
+    let u = upper (next_random state) in
     let a = u % 200_001 in
     let b = u / 200_001 % 200_001 in
     let from = place x y in
@@ -97,13 +97,13 @@ loaded (suc n) state x y count lines few =
     let w = standing 6_000_000_000 x y count lines in
     let v = standing 6_000_000_000 (a * 1_000) (b * 1_000) (count_by count from to) (lines + 1) in
     let once = counted_once (differ from to) count in
-    let rest = loaded n (next state) (a * 1_000) (b * 1_000) (count_by count from to) (lines + 1) (omega (arith, once)) in
+    let rest = loaded n (next_random state) (a * 1_000) (b * 1_000) (count_by count from to) (lines + 1) (omega (arith, once)) in
     let one = one_read w v (line_at u) (act_by from to) (move_applied x y a b count lines (omega arith) (omega arith) (omega arith)) (move_passed a b (omega arith) (omega arith)) (goes (differ from to) (load_move from to)) in
     record {
       behind = rest.behind;
       deeds = deed_of w (act_by from to) ∷ rest.deeds;
-      read = both_read w v rest.behind (line_at u ∷ []) (load_lines n (next state)) (deed_of w (act_by from to) ∷ []) rest.deeds one rest.read;
-      path = λ before. taken w (differ from to) (load_move from to) (load_path n (next state) to) before rest.deeds rest.path;
+      read = both_read w v rest.behind (line_at u ∷ []) (load_lines n (next_random state)) (deed_of w (act_by from to) ∷ []) rest.deeds one rest.read;
+      path = λ before. taken w (differ from to) (load_move from to) (load_path n (next_random state) to) before rest.deeds rest.path;
     }
 
 -- the first line
@@ -111,20 +111,20 @@ abbrev speed_line : List ℕ
 speed_line = codes "G1 F6000"
 
 speed_applied : applied_line (standing 1_500_000_000 0 0 0 0) speed_line ≡ Ok (standing 6_000_000_000 0 0 0 1, actions.None)
-unfolding applied_line reading head_of unnumbered entry_of words_of value_of given_at number_at parts_of is_readable amount signed linear move_fault is_slow is_any_unhomed is_any_outside is_long is_too_many moved moves unmeasured aim_of has_relative_e stretched
+unfolding applied_line reading head_of unnumbered table_entry given_words value_of given_at number_at parts_of is_readable amount signed linear move_fault is_slow is_any_unhomed is_any_outside is_long is_too_many moved moves unmeasured aim_of has_relative_e stretched
 speed_applied = refl
 
 speed_passed : is_passed speed_line ≡ false
-unfolding is_passed reading head_of unnumbered entry_of words_of value_of given_at number_at parts_of is_readable amount signed
+unfolding is_passed reading head_of unnumbered table_entry given_words value_of given_at number_at parts_of is_readable amount signed
 speed_passed = refl
 
-text_is : (seed n : ℕ) → load_text seed n ≡ text_of (speed_line ∷ load_lines n seed)
+text_is : (seed n : ℕ) → load_text seed n ≡ joined_lines (speed_line ∷ load_lines n seed)
 unfolding load_text
 text_is seed n = ap (λ (t : List ℕ). codes "G1 F6000\n" ++ t) (sym (lines_text n seed))
 
 lines_are : (seed n : ℕ) → lines_of (load_text seed n) ≡ speed_line ∷ load_lines n seed
 lines_are seed n =
-    ap lines_of (text_is seed n ∙ sym (append-nil (text_of (speed_line ∷ load_lines n seed)))) ∙ lines_back (speed_line ∷ load_lines n seed) [] ((refl, (refl, (refl, (refl, (refl, (refl, (refl, (refl, tt)))))))), lines_plain n seed) ∙ append-nil (speed_line ∷ load_lines n seed)
+    ap lines_of (text_is seed n ∙ sym (append-nil (joined_lines (speed_line ∷ load_lines n seed)))) ∙ lines_back (speed_line ∷ load_lines n seed) [] ((refl, (refl, (refl, (refl, (refl, (refl, (refl, (refl, tt)))))))), lines_plain n seed) ∙ append-nil (speed_line ∷ load_lines n seed)
 
 -- the whole text
 record IsLoaded (seed n : ℕ) : Type 0 where

@@ -6,8 +6,8 @@ use Rattle.std.proofs.lemmas.Fmt.{length-decimal-le}
 use Rattle.text_core.specs.Bytes.{begins, behind, is_point, is_sign}
 use Rattle.text_core.specs.Numbers.{Parts, amount, is_readable, number_at, parts_of, signed, value_of, worth}
 use Rattle.gcode_text.specs.Blanks.{is_blank}
-use Rattle.gcode_text.specs.Commands.{entry_of, head_of, unnumbered}
-use Rattle.gcode_text.specs.Lines.{◌>>=◌, given_at, no_words, reading, reading_of_text, row, words_of}
+use Rattle.gcode_text.specs.Commands.{table_entry, head_of, unnumbered}
+use Rattle.gcode_text.specs.Lines.{◌>>=◌, given_at, no_words, reading, reading_of_text, row, given_words}
 use Rattle.gcode_text.specs.declared.fault.FaultKind.{FaultKind}
 use Rattle.gcode_text.specs.declared.word.Given.{Given}
 use Rattle.gcode_text.specs.declared.word.Given.TheVariants.{Number}
@@ -100,7 +100,7 @@ short_line a b few less =
     omega (arith, x, y, p, q, s)
 
 line_row : (a b : ℕ) → reading_of_text (behind is_blank (place_line a b)) ≡ ((given_at false (millimetres a ++ (codes " Y" ++ millimetres b)) >>= λ given. row false (slice_set no_words 23 (Some given)) (millimetres a ++ (codes " Y" ++ millimetres b))) >>= λ slots. Ok (words.Command names.G1 slots))
-unfolding head_of unnumbered entry_of words_of value_of
+unfolding head_of unnumbered table_entry given_words value_of
 line_row a b = refl
 
 abbrev named : Result (List (Option Given)) FaultKind → Result Word FaultKind

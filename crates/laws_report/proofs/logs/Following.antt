@@ -9,7 +9,7 @@ use Rattle.log_text.specs.Said.{Said, line_said}
 use Rattle.text_core.specs.Bytes.{Text}
 use Rattle.log_check.specs.declared.tally.Tally.{Tally}
 use Rattle.log_check.specs.declared.further.Further.{Further}
-use Rattle.log_check.specs.Behind.{begun, clocks, further_of, further_said, is_cut, pulses, start, with_one}
+use Rattle.log_check.specs.Behind.{begun, clocks, further_of, further_said, is_cut, pulses, section_start, with_one}
 use Rattle.log_check.specs.Faults.{fault_at, have_room, is_short, lacks, may_start, no_tally, ready, same_kind, section_fault}
 use Rattle.log_check.specs.Points.{bases_by, plans, point, section_at}
 use Rattle.log_check.specs.Pulses.{tally_of, tick_before}
@@ -17,7 +17,7 @@ use Rattle.log_check.specs.Verdicts.{Verdict, by_fault, by_line, end_cause, verd
 use Rattle.log_check.proofs.Tests.{both-first, both-second}
 use Rattle.log_check.proofs.Pointing.{board-first}
 use Rattle.log_check.proofs.Sounding.{fault-open}
-use Rattle.laws_report.specs.logs.Follows.{FitsHere, FollowsPlan, IsNext, IsWholeHere, all_said, base_at, freq_at, further_among, in_order, ok_line, plan_at}
+use Rattle.laws_report.specs.logs.Follows.{FitsHere, FollowsPlan, IsNextSection, IsWholeHere, all_said, base_at, freq_at, further_among, in_order, ok_line, plan_at}
 use Rattle.laws_report.proofs.logs.Fitting.{fits-few, fits-more, fits-none, length-in_order, pulse-fits}
 use Rattle.plan_types.specs.declared.cause.Cause.TheVariants as cause
 use Rattle.plan_types.specs.declared.cause.MisfitKind.{MisfitKind}
@@ -50,8 +50,8 @@ base-is m sections further before s zero e inside some =
     let none : plan_at m sections further before s ≡ [] = rw e refl in
     absurd (let no = ap length none in omega (arith, some))
 base-is m sections further before s (suc n) e inside some =
-    let is : bases_by m (clocks m further before) (begun before) (start before) ≡ for_each_stepper m (base_tick m (clocks m further before) (start before)) = rw e refl in
-    ap (λ (l : List ℕ). slice_index_or l s 0) is ∙ get_or-map-range_with_len (base_tick m (clocks m further before) (start before)) 0 (length m.steppers) s s 0 inside (omega arith)
+    let is : bases_by m (clocks m further before) (begun before) (section_start before) ≡ for_each_stepper m (base_tick m (clocks m further before) (section_start before)) = rw e refl in
+    ap (λ (l : List ℕ). slice_index_or l s 0) is ∙ get_or-map-range_with_len (base_tick m (clocks m further before) (section_start before)) 0 (length m.steppers) s s 0 inside (omega arith)
 
 -- a pulse of the stepper
 pulse-more : (m : Machine) (sections : List Section) (further : List Further) (before : List LogLine) (s tick : ℕ) (up : Bool) → s < length m.steppers → fault_at m sections (point m sections further before) (line.Pulse s tick up) ≡ None → FitsHere m sections further before s
@@ -145,7 +145,7 @@ kinds-same (Home a) Moves e = cc
 kinds-same (Home a) (Home b) e = (let same : a ≡ b = grind (arith, nat_tests) in ap (λ (n : ℕ). Home n) same)
 
 -- Sections
-next-here : (m : Machine) (sections : List Section) (further : List Further) (before : List LogLine) (i turn : ℕ) (kind : SectionKind) → may_start m sections (point m sections further before) i turn kind ≡ true → IsNext m sections further before i turn kind
+next-here : (m : Machine) (sections : List Section) (further : List Further) (before : List LogLine) (i turn : ℕ) (kind : SectionKind) → may_start m sections (point m sections further before) i turn kind ≡ true → IsNextSection m sections further before i turn kind
 next-here m sections further before i turn kind may =
     let p = point m sections further before in
     let section = section_at sections p.begun in

@@ -9,12 +9,12 @@ use Rattle.log_text.specs.Said.{line_said}
 use Rattle.text_core.specs.Bytes.{Text}
 use Rattle.log_check.specs.declared.tally.Tally.{Tally}
 use Rattle.log_check.specs.declared.further.Further.{Further}
-use Rattle.log_check.specs.Behind.{begun, clocks, further_said, is_cut, is_ended, pulses, told}
+use Rattle.log_check.specs.Behind.{begun, clocks, further_said, is_cut, is_ended, pulses, told_clocks}
 use Rattle.log_check.specs.Faults.{fault_at, fault_if, have_room, is_short, lacks, may_cut, may_follow, may_start, no_tally, open_fault, ready, same_kind, section_fault}
 use Rattle.log_check.specs.Points.{plans, point, section_at}
 use Rattle.log_check.specs.Pulses.{tick_before}
 use Rattle.log_check.specs.Verdicts.{Verdict, by_fault, by_line, end_cause, verdict}
-use Rattle.laws_report.specs.logs.Follows.{FitsHere, FollowsPlan, IsNext, IsWholeHere, StandsWell, all_said, base_at, freq_at, further_among, in_order, ok_line, plan_at}
+use Rattle.laws_report.specs.logs.Follows.{FitsHere, FollowsPlan, IsNextSection, IsWholeHere, StandsWell, all_said, base_at, freq_at, further_among, in_order, ok_line, plan_at}
 use Rattle.laws_report.proofs.logs.Fitting.{fits-last, length-in_order, no-pulse-fault}
 use Rattle.laws_report.proofs.logs.Following.{Fine, base-is, said-among, tally-made}
 use Rattle.plan_types.specs.declared.cause.Cause.TheVariants as cause
@@ -64,7 +64,7 @@ same-itself : (k : SectionKind) → same_kind k k ≡ true
 same-itself Moves = refl
 same-itself (Home a) = grind (arith, nat_tests)
 
-pub may-start : (m : Machine) (sections : List Section) (further : List Further) (before : List LogLine) (i turn : ℕ) (kind : SectionKind) → IsNext m sections further before i turn kind → length (clocks m further before) ≡ length m.boards → have_room (clocks m further before) (length (section_at sections i).moves) turn ≡ true
+pub may-start : (m : Machine) (sections : List Section) (further : List Further) (before : List LogLine) (i turn : ℕ) (kind : SectionKind) → IsNextSection m sections further before i turn kind → length (clocks m further before) ≡ length m.boards → have_room (clocks m further before) (length (section_at sections i).moves) turn ≡ true
     → may_start m sections (point m sections further before) i turn kind ≡ true
 may-start m sections further before i turn kind next boards room =
     let p = point m sections further before in
@@ -128,7 +128,7 @@ fine-from m sections lines later (l ∷ before) follows stands is =
           let first = h.0 in
           let place = h.1 in
           none-board (begun before == 0) (b == length (clocks m (further_among lines) before)) (grind (arith, nat_tests)) (grind (arith, nat_tests))
-      by (line.Line b turn tick from) e = none-line (may_follow m (told m before) b turn tick from) (stands.furthers later before b turn tick from e)
+      by (line.Line b turn tick from) e = none-line (may_follow m (told_clocks m before) b turn tick from) (stands.furthers later before b turn tick from e)
       by (line.Section i turn kind) e =
           let r = stands.rooms later before i turn kind e in
           section-none (is_short (is_cut before) (plans m sections (further_among lines) before) (point m sections (further_among lines) before).tallies) (may_start m sections (point m sections (further_among lines) before) i turn kind)

@@ -17,8 +17,8 @@ use Rattle.gcode_program.specs.Programs.{outcome_of, program_end, program_sectio
 use Rattle.gcode_program.specs.Readings.{Deed, Outcome, applied_line, deed_of, is_passed, outcome, with_front}
 use Rattle.gcode_program.proofs.Lining.{whole_line}
 use Rattle.bed_mesh.specs.declared.mesh.Mesh.{Mesh}
-use Rattle.bed_mesh.specs.Files.{accepted, begun, first_pen, head_text, mesh_code, mesh_end, mesh_sheet, with_absolute, with_relative_e}
-use Rattle.bed_mesh.specs.BentLines.{lines_by, text_of}
+use Rattle.bed_mesh.specs.Files.{accepted_state, begun, first_pen, head_text, mesh_code, mesh_end, mesh_sheet, with_absolute, with_relative_e}
+use Rattle.bed_mesh.specs.BentLines.{lines_by, joined_lines}
 use Rattle.bed_mesh.proofs.Head.{absolute, after_absolute, after_relative, relative}
 use Rattle.bed_mesh.proofs.Writing.{both_ok, texts_both}
 use Rattle.laws_report.specs.meshes.Bent.{origin}
@@ -105,7 +105,7 @@ goes_so : (w : State) (all tail : List (List ℕ)) (deeds : List Deed) (size : �
     → IsReadSo stop (outcome size w 1 0 (all ++ tail)) all tail deeds
 goes_so w all tail deeds size stop told so last few =
     let r = told.1 in
-    let t = last size (0 + length all + 1) (0 + length (text_of all)) told.0 few in
+    let t = last size (0 + length all + 1) (0 + length (joined_lines all)) told.0 few in
     let e = r.same size 0 0 tail few ∙ ap (λ (o : Outcome). with_front deeds 0 o) t.2 in
     let n : length (deeds ++ t.0) ≡ length (all ++ tail) = (let x = r.count in let y = t.3 in let l = length-append deeds t.0 in let k = length-append all tail in omega arith) in
     record {
@@ -129,7 +129,7 @@ told_so (Stop n) w all tail deeds size told last few =
     }
 
 -- the code alone
-head_goes : (m : Machine) → accepted 0 (initial m) head_lines ≡ Ok (begun m)
+head_goes : (m : Machine) → accepted_state 0 (initial m) head_lines ≡ Ok (begun m)
 head_goes m = both_ok (codes "G90" ∷ []) (codes "M83" ∷ []) 0 (initial m) (with_absolute (initial m)) (after_absolute (initial m)) ∙ after_relative (with_absolute (initial m))
 
 -- a whole file
@@ -137,11 +137,11 @@ pub record IsReadFile (m : Machine) (t : Mesh) (text end : List ℕ) : Type 0 wh
   pub accepted : program_end m (mesh_code m t text ++ end) ≡ accepted_end (mesh_end m t text).stop (lines_of (mesh_code m t text)) (lines_of (mesh_code m t text ++ end))
   pub sections : program_sections m (mesh_code m t text ++ end) ≡ bent_program m t text
 
-lines_are : (code end : List ℕ) (lines : List (List ℕ)) → code ≡ text_of lines → AllPlain lines → lines_of ((head_text ++ code) ++ end) ≡ (head_lines ++ lines) ++ lines_of end
+lines_are : (code end : List ℕ) (lines : List (List ℕ)) → code ≡ joined_lines lines → AllPlain lines → lines_of ((head_text ++ code) ++ end) ≡ (head_lines ++ lines) ++ lines_of end
 lines_are code end lines is plain =
     ap (λ (l : List ℕ). lines_of ((head_text ++ l) ++ end)) is ∙ ap (λ (l : List ℕ). lines_of (l ++ end)) (sym (texts_both head_lines lines)) ∙ lines_back (head_lines ++ lines) end (plain_lines head_lines lines head_plain plain)
 
-code_lines : (code : List ℕ) (lines : List (List ℕ)) → code ≡ text_of lines → AllPlain lines → lines_of (head_text ++ code) ≡ head_lines ++ lines
+code_lines : (code : List ℕ) (lines : List (List ℕ)) → code ≡ joined_lines lines → AllPlain lines → lines_of (head_text ++ code) ≡ head_lines ++ lines
 code_lines code lines is plain = ap lines_of (sym (append-nil (head_text ++ code))) ∙ lines_are code [] lines is plain ∙ append-nil (head_lines ++ lines)
 
 outcome_is : (m : Machine) (text : List ℕ) → outcome_of m text ≡ outcome (length text) (initial m) 1 0 (lines_of text)
@@ -169,11 +169,11 @@ file_read m t text end ending fits =
     }
 
 -- how the text is read for the file
-either_end : (m : Machine) (t : Mesh) (text : List ℕ) (o : Outcome) (lines : List (List ℕ)) → outcome_of m text ≡ o → (mesh_sheet m t text).code ≡ text_of lines → AllPlain lines → IsAll (mesh_sheet m t text) o ⊎ IsCut t 8 (begun m) lines 1 (mesh_sheet m t text) o
+either_end : (m : Machine) (t : Mesh) (text : List ℕ) (o : Outcome) (lines : List (List ℕ)) → outcome_of m text ≡ o → (mesh_sheet m t text).code ≡ joined_lines lines → AllPlain lines → IsAll (mesh_sheet m t text) o ⊎ IsCut t 8 (begun m) lines 1 (mesh_sheet m t text) o
     → (mesh_end m t text ≡ program_end m text) ⊎ IsRefusedThere m t text
 either_end m t text o lines is code plain (inl all) = inl (all ∙ ap end_of (sym is))
 either_end m t text o lines is code plain (inr cut) =
-    let size : length (mesh_code m t text) ≡ 8 + length (text_of lines) = ap (λ (l : List ℕ). length (head_text ++ l)) code ∙ length-append head_text (text_of lines) in
+    let size : length (mesh_code m t text) ≡ 8 + length (joined_lines lines) = ap (λ (l : List ℕ). length (head_text ++ l)) code ∙ length-append head_text (joined_lines lines) in
     inr (record {
       before = cut.before;
       next = cut.next;
@@ -183,8 +183,8 @@ either_end m t text o lines is code plain (inr cut) =
       deeds = ap (λ (x : Outcome). x.deeds) is ∙ cut.deeds;
       count = cut.count;
       stop = cut.stop;
-      goes = ap (λ (l : List (List ℕ)). accepted 0 (initial m) l) (code_lines (mesh_sheet m t text).code lines code plain) ∙ both_ok head_lines lines 0 (initial m) (begun m) (head_goes m) ∙ cut.goes;
-      refused = ap (λ (n : ℕ). accepted n cut.modes (lines_by t cut.modes.acceleration cut.next.action)) size ∙ cut.refused;
+      goes = ap (λ (l : List (List ℕ)). accepted_state 0 (initial m) l) (code_lines (mesh_sheet m t text).code lines code plain) ∙ both_ok head_lines lines 0 (initial m) (begun m) (head_goes m) ∙ cut.goes;
+      refused = ap (λ (n : ℕ). accepted_state n cut.modes (lines_by t cut.modes.acceleration cut.next.action)) size ∙ cut.refused;
     })
 
 pub text_read : (m : Machine) (t : Mesh) (text : List ℕ) → (mesh_end m t text ≡ program_end m text) ⊎ IsRefusedThere m t text
@@ -196,5 +196,5 @@ code_fits m t text =
     let told = code_told m t text in
     let few : 8 ≤ most = omega arith in
     let fits = lines_fit 8 (begun m) told.goes.0 told.lines few told.goes.1 in
-    let size = ap (λ (l : List ℕ). length (head_text ++ l)) told.text ∙ length-append head_text (text_of told.lines) in
+    let size = ap (λ (l : List ℕ). length (head_text ++ l)) told.text ∙ length-append head_text (joined_lines told.lines) in
     omega (arith, fits, size)

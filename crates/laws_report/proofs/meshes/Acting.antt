@@ -9,7 +9,7 @@ use Rattle.gcode_state.specs.declared.state.Action.TheVariants as actions
 use Rattle.gcode_state.specs.States.{axes_in, coordinates_of, homed_by}
 use Rattle.gcode_program.specs.Readings.{Deed, applied_line, deed_of, is_passed, is_stop}
 use Rattle.bed_mesh.specs.declared.mesh.Mesh.{Mesh}
-use Rattle.bed_mesh.specs.Files.{accepted}
+use Rattle.bed_mesh.specs.Files.{accepted_state}
 use Rattle.bed_mesh.specs.BentLines.{at, last_by, lines_by}
 use Rattle.laws_report.proofs.meshes.Deeds.{IsDeed}
 use Rattle.laws_report.proofs.meshes.Making.{AreBent, dwell_bent, home_bent, move_bent, wait_bent}
@@ -32,7 +32,7 @@ pub record IsWritten (m : Machine) (t : Mesh) (s v w u : State) (last : ℕ) (ac
   pub tied : IsTied m v u (last_by last action)
   pub bent : (others rest : List Deed) → AreBent m t (coordinates_of u) (last_by last action) others rest → AreBent m t (coordinates_of w) last (deeds ++ others) (deed_of s action ∷ rest)
 
-only_line : (start : ℕ) (w u : State) (line : List ℕ) → accepted start w (line ∷ []) ≡ Ok u → (act : Action) × (applied_line w line ≡ Ok (u, act))
+only_line : (start : ℕ) (w u : State) (line : List ℕ) → accepted_state start w (line ∷ []) ≡ Ok u → (act : Action) × (applied_line w line ≡ Ok (u, act))
 only_line start w u line h = let f = first_of start w u line [] h in let e : f.0 ≡ u = (let k = f.3 in cc) in (f.1, subst (λ (x : State). applied_line w line ≡ Ok (x, f.1)) e f.2)
 
 -- a line that leaves these modes
@@ -48,7 +48,7 @@ none_written m t s v w last tie does = record {
   bent = λ others rest h. h;
 }
 
-move_written : (m : Machine) (t : Mesh) (s v w u : State) (start last : ℕ) (mv : Move) → IsTied m s w last → IsDeed s v (actions.Move mv) → accepted start w (lines_by t last (actions.Move mv)) ≡ Ok u → IsWritten m t s v w u last (actions.Move mv)
+move_written : (m : Machine) (t : Mesh) (s v w u : State) (start last : ℕ) (mv : Move) → IsTied m s w last → IsDeed s v (actions.Move mv) → accepted_state start w (lines_by t last (actions.Move mv)) ≡ Ok u → IsWritten m t s v w u last (actions.Move mv)
 move_written m t s v w u start last mv tie does h =
     let drawn = does.done in
     let fast : mv.v ≤ w.top = (let a = drawn.speed in let b = tie.top in omega arith) in
@@ -61,7 +61,7 @@ move_written m t s v w u start last mv tie does h =
       bent = λ others rest k. move_bent m t s w u mv last (lines_by t last (actions.Move mv)) r others rest k;
     }
 
-dwell_written : (m : Machine) (t : Mesh) (s v w u : State) (start last ms : ℕ) → IsTied m s w last → IsDeed s v (actions.Dwell ms) → accepted start w (dwell_text ms ∷ []) ≡ Ok u → IsWritten m t s v w u last (actions.Dwell ms)
+dwell_written : (m : Machine) (t : Mesh) (s v w u : State) (start last ms : ℕ) → IsTied m s w last → IsDeed s v (actions.Dwell ms) → accepted_state start w (dwell_text ms ∷ []) ≡ Ok u → IsWritten m t s v w u last (actions.Dwell ms)
 dwell_written m t s v w u start last ms tie does h =
     let one = only_line start w u (dwell_text ms) h in
     let d = dwell_done w u ms one.0 one.1 in
@@ -75,7 +75,7 @@ dwell_written m t s v w u start last ms tie does h =
       bent = λ others rest b. dwell_bent m t s w ms last others rest b;
     })
 
-wait_written : (m : Machine) (t : Mesh) (s v w u : State) (start last : ℕ) → IsTied m s w last → IsDeed s v actions.Wait → accepted start w (codes "M400" ∷ []) ≡ Ok u → IsWritten m t s v w u last actions.Wait
+wait_written : (m : Machine) (t : Mesh) (s v w u : State) (start last : ℕ) → IsTied m s w last → IsDeed s v actions.Wait → accepted_state start w (codes "M400" ∷ []) ≡ Ok u → IsWritten m t s v w u last actions.Wait
 wait_written m t s v w u start last tie does h =
     let one = only_line start w u (codes "M400") h in
     let d = wait_done w u one.0 one.1 in
@@ -88,7 +88,7 @@ wait_written m t s v w u start last tie does h =
       bent = λ others rest b. wait_bent m t s w last others rest b;
     })
 
-home_written : (m : Machine) (t : Mesh) (s v w u : State) (start last : ℕ) (x y z : Bool) → (x || (y || z)) ≡ true → v.top ≡ s.top → v.e_at ≡ s.e_at → IsTied m s w last → accepted start w (home_text x y z ∷ []) ≡ Ok u
+home_written : (m : Machine) (t : Mesh) (s v w u : State) (start last : ℕ) (x y z : Bool) → (x || (y || z)) ≡ true → v.top ≡ s.top → v.e_at ≡ s.e_at → IsTied m s w last → accepted_state start w (home_text x y z ∷ []) ≡ Ok u
     → IsWritten m t s v w u last (actions.Home (x ∷ y ∷ z ∷ []))
 home_written m t s v w u start last x y z some top stays tie h =
     let axes = x ∷ y ∷ z ∷ [] in
@@ -108,7 +108,7 @@ home_written m t s v w u start last x y z some top stays tie h =
     })
 
 -- what is written for any action that is no stop
-pub action_written : (m : Machine) (t : Mesh) (s v w u : State) (start last : ℕ) (action : Action) → is_stop action ≡ false → IsTied m s w last → IsDeed s v action → accepted start w (lines_by t last action) ≡ Ok u → IsWritten m t s v w u last action
+pub action_written : (m : Machine) (t : Mesh) (s v w u : State) (start last : ℕ) (action : Action) → is_stop action ≡ false → IsTied m s w last → IsDeed s v action → accepted_state start w (lines_by t last action) ≡ Ok u → IsWritten m t s v w u last action
 action_written m t s v w u start last actions.None goes tie does h = (let same : w ≡ u = cc in subst (λ (y : State). IsWritten m t s v w y last actions.None) same (none_written m t s v w last tie does))
 action_written m t s v w u start last (actions.Move mv) goes tie does h = move_written m t s v w u start last mv tie does h
 action_written m t s v w u start last (actions.Dwell ms) goes tie does h = dwell_written m t s v w u start last ms tie does h
@@ -116,11 +116,11 @@ action_written m t s v w u start last actions.Wait goes tie does h = wait_writte
 action_written m t s v w u start last actions.Stop goes tie does h = absurd cc
 action_written m t s v w u start last (actions.Home axes) goes tie does h =
     let some = does.done.0 in
-    subst (λ (l : List Bool). accepted start w (lines_by t last (actions.Home l)) ≡ Ok u → IsWritten m t s v w u last (actions.Home l)) (sym some.3)
+    subst (λ (l : List Bool). accepted_state start w (lines_by t last (actions.Home l)) ≡ Ok u → IsWritten m t s v w u last (actions.Home l)) (sym some.3)
     (home_written m t s v w u start last some.0 some.1 some.2 some.4 does.top does.done.1 tie) h
 
 -- the line of a stop
-pub stop_written : (w u : State) (start : ℕ) → accepted start w (codes "M112" ∷ []) ≡ Ok u → (applied_line w (codes "M112") ≡ Ok (w, actions.Stop)) × (is_passed (codes "M112") ≡ false)
+pub stop_written : (w u : State) (start : ℕ) → accepted_state start w (codes "M112" ∷ []) ≡ Ok u → (applied_line w (codes "M112") ≡ Ok (w, actions.Stop)) × (is_passed (codes "M112") ≡ false)
 stop_written w u start h =
     let one = only_line start w u (codes "M112") h in
     let d = stop_done w u one.0 one.1 in

@@ -4,16 +4,16 @@ use Rattle.std.specs.Prelude.{ℤ}
 use Rattle.plan_types.specs.declared.machine.Machine.{Machine}
 use Rattle.plan_types.specs.declared.plan.Move.{Move}
 use Rattle.plan_types.specs.declared.plan.Section.{Section}
-use Rattle.gcode_program.specs.Cuts.{closed, home_of, homes, is_named, left, left_by, left_by_homes}
+use Rattle.gcode_program.specs.Cuts.{closed, home_of, homes, is_named, dwell_left, dwell_behind_home, left_by_homes}
 use Rattle.gcode_program.specs.Homes.{stood}
 use Rattle.bed_mesh.specs.declared.mesh.Mesh.{Mesh}
-use Rattle.bed_mesh.specs.Cuts.{ends}
+use Rattle.bed_mesh.specs.Cuts.{cut_ends}
 use Rattle.laws_report.specs.meshes.Bent.{bent_moves, bent_sections, last_acceleration, parts_to, led_to, raised_place}
 
 -- one move more
-pub bent_more : (t : Mesh) (from : List ℤ) (ms : List Move) (m : Move) → bent_moves t from (ms ++ m ∷ []) ≡ bent_moves t from ms ++ parts_to t m (led_to t from ms) (ends t m)
-bent_more t from [] m = append-nil (parts_to t m from (ends t m))
-bent_more t from (n ∷ ms) m = ap (λ (l : List Move). parts_to t n from (ends t n) ++ l) (bent_more t (raised_place t n.to) ms m) ∙ sym (append_assoc (parts_to t n from (ends t n)) (bent_moves t (raised_place t n.to) ms) (parts_to t m (led_to t (raised_place t n.to) ms) (ends t m)))
+pub bent_more : (t : Mesh) (from : List ℤ) (ms : List Move) (m : Move) → bent_moves t from (ms ++ m ∷ []) ≡ bent_moves t from ms ++ parts_to t m (led_to t from ms) (cut_ends t m)
+bent_more t from [] m = append-nil (parts_to t m from (cut_ends t m))
+bent_more t from (n ∷ ms) m = ap (λ (l : List Move). parts_to t n from (cut_ends t n) ++ l) (bent_more t (raised_place t n.to) ms m) ∙ sym (append_assoc (parts_to t n from (cut_ends t n)) (bent_moves t (raised_place t n.to) ms) (parts_to t m (led_to t (raised_place t n.to) ms) (cut_ends t m)))
 
 pub place_more : (t : Mesh) (from : List ℤ) (ms : List Move) (m : Move) → led_to t from (ms ++ m ∷ []) ≡ raised_place t m.to
 place_more t from [] m = refl
@@ -26,9 +26,9 @@ last_more a (n ∷ ms) m = last_more n.a ms m
 -- the dwells before the next section of which the input's sections do not know
 abbrev pub carried : Mesh → List ℤ → ℕ → ℕ → List Move → ℕ
 carried t place carry dwell [] = carry
-carried t place carry dwell (m ∷ ms) = left (carry + dwell) (bent_moves t place (m ∷ ms))
+carried t place carry dwell (m ∷ ms) = dwell_left (carry + dwell) (bent_moves t place (m ∷ ms))
 
-pub carried_left : (t : Mesh) (place : List ℤ) (carry dwell : ℕ) (ms : List Move) → carried t place carry dwell ms + left dwell ms ≡ left (carry + dwell) (bent_moves t place ms)
+pub carried_left : (t : Mesh) (place : List ℤ) (carry dwell : ℕ) (ms : List Move) → carried t place carry dwell ms + dwell_left dwell ms ≡ dwell_left (carry + dwell) (bent_moves t place ms)
 carried_left t place carry dwell [] = refl
 carried_left t place carry dwell (m ∷ ms) = omega arith
 
@@ -40,18 +40,18 @@ closed_bent m t place a carry dwell (one ∷ ms) rest = refl
 
 -- an axis homes
 home_bent : (m : Machine) (t : Mesh) (place at : List ℤ) (a acceleration carry dwell axis : ℕ) (named : Bool) (rest : List Section)
-    → bent_sections m t place a carry (home_of m at acceleration dwell axis named ++ rest) ≡ home_of m place a (carry + dwell) axis named ++ bent_sections m t (stood m place axis named) a (left_by carry named) rest
+    → bent_sections m t place a carry (home_of m at acceleration dwell axis named ++ rest) ≡ home_of m place a (carry + dwell) axis named ++ bent_sections m t (stood m place axis named) a (dwell_behind_home carry named) rest
 home_bent m t place at a acceleration carry dwell axis true rest = refl
 home_bent m t place at a acceleration carry dwell axis false rest = refl
 
-left_sum : (carry dwell : ℕ) (named : Bool) → left_by carry named + left_by dwell named ≡ left_by (carry + dwell) named
+left_sum : (carry dwell : ℕ) (named : Bool) → dwell_behind_home carry named + dwell_behind_home dwell named ≡ dwell_behind_home (carry + dwell) named
 left_sum carry dwell true = refl
 left_sum carry dwell false = refl
 
 pub left_homes : (carry dwell : ℕ) (axes : List Bool) → left_by_homes carry axes + left_by_homes dwell axes ≡ left_by_homes (carry + dwell) axes
 left_homes carry dwell axes =
-    left_sum (left_by (left_by carry (is_named axes 0)) (is_named axes 1)) (left_by (left_by dwell (is_named axes 0)) (is_named axes 1)) (is_named axes 2)
-    ∙ ap (λ (n : ℕ). left_by n (is_named axes 2)) (left_sum (left_by carry (is_named axes 0)) (left_by dwell (is_named axes 0)) (is_named axes 1) ∙ ap (λ (n : ℕ). left_by n (is_named axes 1)) (left_sum carry dwell (is_named axes 0)))
+    left_sum (dwell_behind_home (dwell_behind_home carry (is_named axes 0)) (is_named axes 1)) (dwell_behind_home (dwell_behind_home dwell (is_named axes 0)) (is_named axes 1)) (is_named axes 2)
+    ∙ ap (λ (n : ℕ). dwell_behind_home n (is_named axes 2)) (left_sum (dwell_behind_home carry (is_named axes 0)) (dwell_behind_home dwell (is_named axes 0)) (is_named axes 1) ∙ ap (λ (n : ℕ). dwell_behind_home n (is_named axes 1)) (left_sum carry dwell (is_named axes 0)))
 
 -- where everything stands behind a home
 abbrev pub stood_all : Machine → List ℤ → List Bool → List ℤ
@@ -67,16 +67,16 @@ homes_bent m t place at a acceleration carry dwell axes rest =
     let p1 = stood m place 0 x in
     let p2 = stood m p1 1 y in
     let h1 = home_of m at acceleration dwell 0 x in
-    let h2 = home_of m (stood m at 0 x) acceleration (left_by dwell x) 1 y in
-    let h3 = home_of m (stood m (stood m at 0 x) 1 y) acceleration (left_by (left_by dwell x) y) 2 z in
+    let h2 = home_of m (stood m at 0 x) acceleration (dwell_behind_home dwell x) 1 y in
+    let h3 = home_of m (stood m (stood m at 0 x) 1 y) acceleration (dwell_behind_home (dwell_behind_home dwell x) y) 2 z in
     let g1 = home_of m place a (carry + dwell) 0 x in
-    let g2 = home_of m p1 a (left_by (carry + dwell) x) 1 y in
-    let g3 = home_of m p2 a (left_by (left_by (carry + dwell) x) y) 2 z in
+    let g2 = home_of m p1 a (dwell_behind_home (carry + dwell) x) 1 y in
+    let g3 = home_of m p2 a (dwell_behind_home (dwell_behind_home (carry + dwell) x) y) 2 z in
     let end = bent_sections m t (stood_all m place axes) a (left_by_homes carry axes) rest in
     let s1 = left_sum carry dwell x in
-    let s2 : left_by (left_by carry x) y + left_by (left_by dwell x) y ≡ left_by (left_by (carry + dwell) x) y = left_sum (left_by carry x) (left_by dwell x) y ∙ ap (λ (n : ℕ). left_by n y) s1 in
+    let s2 : dwell_behind_home (dwell_behind_home carry x) y + dwell_behind_home (dwell_behind_home dwell x) y ≡ dwell_behind_home (dwell_behind_home (carry + dwell) x) y = left_sum (dwell_behind_home carry x) (dwell_behind_home dwell x) y ∙ ap (λ (n : ℕ). dwell_behind_home n y) s1 in
     let e1 = home_bent m t place at a acceleration carry dwell 0 x (h2 ++ (h3 ++ rest)) in
-    let e2 = home_bent m t p1 (stood m at 0 x) a acceleration (left_by carry x) (left_by dwell x) 1 y (h3 ++ rest) ∙ ap (λ (n : ℕ). home_of m p1 a n 1 y ++ bent_sections m t p2 a (left_by (left_by carry x) y) (h3 ++ rest)) s1 in
-    let e3 = home_bent m t p2 (stood m (stood m at 0 x) 1 y) a acceleration (left_by (left_by carry x) y) (left_by (left_by dwell x) y) 2 z rest ∙ ap (λ (n : ℕ). home_of m p2 a n 2 z ++ end) s2 in
+    let e2 = home_bent m t p1 (stood m at 0 x) a acceleration (dwell_behind_home carry x) (dwell_behind_home dwell x) 1 y (h3 ++ rest) ∙ ap (λ (n : ℕ). home_of m p1 a n 1 y ++ bent_sections m t p2 a (dwell_behind_home (dwell_behind_home carry x) y) (h3 ++ rest)) s1 in
+    let e3 = home_bent m t p2 (stood m (stood m at 0 x) 1 y) a acceleration (dwell_behind_home (dwell_behind_home carry x) y) (dwell_behind_home (dwell_behind_home dwell x) y) 2 z rest ∙ ap (λ (n : ℕ). home_of m p2 a n 2 z ++ end) s2 in
     ap (λ (l : List Section). bent_sections m t place a carry l) (append_assoc (h1 ++ h2) h3 rest ∙ append_assoc h1 h2 (h3 ++ rest))
     ∙ e1 ∙ ap (λ (l : List Section). g1 ++ l) (e2 ∙ ap (λ (l : List Section). g2 ++ l) e3) ∙ sym (append_assoc (g1 ++ g2) g3 end ∙ append_assoc g1 g2 (g3 ++ end))

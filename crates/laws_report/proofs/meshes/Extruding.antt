@@ -11,7 +11,7 @@ use Rattle.gcode_state.specs.declared.state.Action.{Action}
 use Rattle.gcode_state.specs.declared.state.Action.TheVariants as actions
 use Rattle.gcode_state.specs.Starts.{initial}
 use Rattle.gcode_state.specs.States.{coordinates_of}
-use Rattle.gcode_program.specs.Cuts.{closed, home_of, homes, is_named, left, left_by, left_by_homes, sections_of}
+use Rattle.gcode_program.specs.Cuts.{closed, home_of, homes, is_named, dwell_left, dwell_behind_home, left_by_homes, sections_of}
 use Rattle.gcode_program.specs.Homes.{homing_move, stood}
 use Rattle.gcode_program.specs.Programs.{outcome_of}
 use Rattle.gcode_program.specs.Readings.{Deed, Outcome, behind_action, behind_line, deed_of, is_passed, line_result, outcome}
@@ -48,12 +48,12 @@ homes_go m place a dwell axes rest h =
     let p1 = stood m place 0 x in
     let p2 = stood m p1 1 y in
     let h1 = home_of m place a dwell 0 x in
-    let h2 = home_of m p1 a (left_by dwell x) 1 y in
-    let h3 = home_of m p2 a (left_by (left_by dwell x) y) 2 z in
+    let h2 = home_of m p1 a (dwell_behind_home dwell x) 1 y in
+    let h3 = home_of m p2 a (dwell_behind_home (dwell_behind_home dwell x) y) 2 z in
     let e1 = stood_same m place 0 x in
     let e2 : at p2 3 ≡ at place 3 = stood_same m p1 1 y ∙ e1 in
-    let third : ExtrudeThrough (at p2 3) (h3 ++ rest) = home_goes m p2 a (left_by (left_by dwell x) y) 2 z rest (subst (λ (e : ℤ). ExtrudeThrough e rest) (sym e2) h) in
-    let second : ExtrudeThrough (at p1 3) (h2 ++ (h3 ++ rest)) = home_goes m p1 a (left_by dwell x) 1 y (h3 ++ rest) (subst (λ (e : ℤ). ExtrudeThrough e (h3 ++ rest)) (stood_same m p1 1 y) third) in
+    let third : ExtrudeThrough (at p2 3) (h3 ++ rest) = home_goes m p2 a (dwell_behind_home (dwell_behind_home dwell x) y) 2 z rest (subst (λ (e : ℤ). ExtrudeThrough e rest) (sym e2) h) in
+    let second : ExtrudeThrough (at p1 3) (h2 ++ (h3 ++ rest)) = home_goes m p1 a (dwell_behind_home dwell x) 1 y (h3 ++ rest) (subst (λ (e : ℤ). ExtrudeThrough e (h3 ++ rest)) (stood_same m p1 1 y) third) in
     let first : ExtrudeThrough (at place 3) (h1 ++ (h2 ++ (h3 ++ rest))) = home_goes m place a dwell 0 x (h2 ++ (h3 ++ rest)) (subst (λ (e : ℤ). ExtrudeThrough e (h2 ++ (h3 ++ rest))) e1 second) in
     subst (λ (l : List Section). ExtrudeThrough (at place 3) l) (sym (append_assoc (h1 ++ h2) h3 rest ∙ append_assoc h1 h2 (h3 ++ rest))) first
 
@@ -67,12 +67,12 @@ none_on m e from dwell moves h = subst (λ (l : List Section). ExtrudeThrough fr
 deed_on : (m : Machine) (s t : State) (action : Action) (rest : List Deed) → IsDeed s t action → AreOn m t.e_at rest → AreOn m s.e_at (deed_of s action ∷ rest)
 deed_on m s t actions.None rest does h from dwell moves g = h from dwell moves (subst (λ (e : ℤ). Extrude from moves e) (sym does.done) g)
 deed_on m s t (actions.Move mv) rest does h from dwell moves g = h from dwell (moves ++ mv ∷ []) (goes_more from s.e_at t.e_at moves mv g does.done.from does.done.to)
-deed_on m s t (actions.Dwell ms) rest does h from dwell moves g = goes_closed from s.e_at dwell moves _ g (subst (λ (e : ℤ). ExtrudeThrough e (sections_of m (left dwell moves + ms) [] rest)) does.done (h t.e_at (left dwell moves + ms) [] refl))
-deed_on m s t actions.Wait rest does h from dwell moves g = goes_closed from s.e_at dwell moves _ g (subst (λ (e : ℤ). ExtrudeThrough e (sections_of m (left dwell moves) [] rest)) does.done (h t.e_at (left dwell moves) [] refl))
-deed_on m s t actions.Stop rest does h from dwell moves g = goes_closed from s.e_at dwell moves _ g (subst (λ (e : ℤ). ExtrudeThrough e (sections_of m (left dwell moves) [] rest)) does.done (h t.e_at (left dwell moves) [] refl))
+deed_on m s t (actions.Dwell ms) rest does h from dwell moves g = goes_closed from s.e_at dwell moves _ g (subst (λ (e : ℤ). ExtrudeThrough e (sections_of m (dwell_left dwell moves + ms) [] rest)) does.done (h t.e_at (dwell_left dwell moves + ms) [] refl))
+deed_on m s t actions.Wait rest does h from dwell moves g = goes_closed from s.e_at dwell moves _ g (subst (λ (e : ℤ). ExtrudeThrough e (sections_of m (dwell_left dwell moves) [] rest)) does.done (h t.e_at (dwell_left dwell moves) [] refl))
+deed_on m s t actions.Stop rest does h from dwell moves g = goes_closed from s.e_at dwell moves _ g (subst (λ (e : ℤ). ExtrudeThrough e (sections_of m (dwell_left dwell moves) [] rest)) does.done (h t.e_at (dwell_left dwell moves) [] refl))
 deed_on m s t (actions.Home axes) rest does h from dwell moves g =
-    let behind = left_by_homes (left dwell moves) axes in
-    goes_closed from s.e_at dwell moves _ g (homes_go m (coordinates_of s) s.acceleration (left dwell moves) axes (sections_of m behind [] rest) (subst (λ (e : ℤ). ExtrudeThrough e (sections_of m behind [] rest)) does.done.1 (h t.e_at behind [] refl)))
+    let behind = left_by_homes (dwell_left dwell moves) axes in
+    goes_closed from s.e_at dwell moves _ g (homes_go m (coordinates_of s) s.acceleration (dwell_left dwell moves) axes (sections_of m behind [] rest) (subst (λ (e : ℤ). ExtrudeThrough e (sections_of m behind [] rest)) does.done.1 (h t.e_at behind [] refl)))
 
 -- the first deeds of an action and what follows
 action_on : (m : Machine) (number count : ℕ) (passed : Bool) (s t : State) (action : Action) (o : Outcome) → IsDeed s t action → ((n : ℕ) → AreOn m t.e_at (take n o.deeds)) → AreOn m s.e_at (take (suc count) (behind_action number passed s action o).deeds)

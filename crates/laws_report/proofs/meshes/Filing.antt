@@ -12,14 +12,14 @@ use Rattle.gcode_state.specs.declared.state.State.{State}
 use Rattle.gcode_state.specs.declared.state.Action.{Action}
 use Rattle.gcode_state.specs.declared.state.Action.TheVariants as actions
 use Rattle.gcode_state.specs.States.{coordinates_of, one_if}
-use Rattle.gcode_program.specs.Cuts.{closed, left, sections_of}
+use Rattle.gcode_program.specs.Cuts.{closed, dwell_left, sections_of}
 use Rattle.gcode_program.specs.Readings.{Deed, Outcome, applied_line, deed_of, is_large, is_passed, is_stop, line_result, outcome}
 use Rattle.gcode_program.specs.Readings as readings
 use Rattle.bed_mesh.specs.declared.mesh.Mesh.{Mesh}
-use Rattle.bed_mesh.specs.Cuts.{ends}
-use Rattle.bed_mesh.specs.Files.{Pen, Sheet, accepted, behind_action, behind_line, behind_lines, moved_pen, refused, sheet, with_front}
+use Rattle.bed_mesh.specs.Cuts.{cut_ends}
+use Rattle.bed_mesh.specs.Files.{Pen, Sheet, accepted_state, behind_action, behind_line, behind_lines, moved_pen, refused, sheet, sheet_behind}
 use Rattle.bed_mesh.proofs.Writing.{both_ok, texts_both}
-use Rattle.bed_mesh.specs.BentLines.{last_by, lines_by, text_of}
+use Rattle.bed_mesh.specs.BentLines.{last_by, lines_by, joined_lines}
 use Rattle.laws_report.specs.meshes.Bent.{bent_moves, bent_sections}
 use Rattle.laws_report.proofs.meshes.Bending.{closed_bent}
 use Rattle.laws_report.proofs.meshes.Deeds.{IsDeed, line_does}
@@ -44,16 +44,16 @@ pub record IsCut (t : Mesh) (start : ℕ) (w : State) (lines : List (List ℕ)) 
   pub deeds : o.deeds ≡ before ++ next ∷ behind
   pub count : s.lines ≡ length before
   pub stop : s.stop ≡ Refused (number + length before) kind
-  pub goes : accepted start w lines ≡ Ok modes
-  pub refused : accepted (start + length (text_of lines)) modes (lines_by t modes.acceleration next.action) ≡ Err kind
+  pub goes : accepted_state start w lines ≡ Ok modes
+  pub refused : accepted_state (start + length (joined_lines lines)) modes (lines_by t modes.acceleration next.action) ≡ Err kind
 
 -- what is written for lines is read, and makes over the bed what the lines make
 pub record Told (m : Machine) (t : Mesh) (start : ℕ) (w : State) (last number : ℕ) (s : Sheet) (o : Outcome) : Type 0 where
   pub lines : List (List ℕ)
   pub deeds : List Deed
-  pub text : s.code ≡ text_of lines
+  pub text : s.code ≡ joined_lines lines
   pub plain : AllPlain lines
-  pub goes : (u : State) × (accepted start w lines ≡ Ok u)
+  pub goes : (u : State) × (accepted_state start w lines ≡ Ok u)
   pub told : AreTold s.stop w lines deeds
   pub bent : (idle : List Deed) → AreIdle idle → AreBent m t (coordinates_of w) last (deeds ++ idle) (take s.lines o.deeds)
   pub ends : IsAll s o ⊎ IsCut t start w lines number s o
@@ -80,8 +80,8 @@ one_more n = omega arith
 abbrev end_with : ℕ → ℕ → ReadStop → ReadEnd
 end_with lines passed stop = record { lines = lines; passed = passed; stop = stop }
 
-front_ends : (t : Mesh) (start : ℕ) (w u : State) (number passed : ℕ) (a b : List (List ℕ)) (s : Sheet) (d : Deed) (o : Outcome) → accepted start w a ≡ Ok u → IsAll s o ⊎ IsCut t (start + length (text_of a)) u b (number + 1) s o
-    → IsAll (with_front (text_of a) 1 passed s) (readings.with_front (d ∷ []) passed o) ⊎ IsCut t start w (a ++ b) number (with_front (text_of a) 1 passed s) (readings.with_front (d ∷ []) passed o)
+front_ends : (t : Mesh) (start : ℕ) (w u : State) (number passed : ℕ) (a b : List (List ℕ)) (s : Sheet) (d : Deed) (o : Outcome) → accepted_state start w a ≡ Ok u → IsAll s o ⊎ IsCut t (start + length (joined_lines a)) u b (number + 1) s o
+    → IsAll (sheet_behind (joined_lines a) 1 passed s) (readings.with_front (d ∷ []) passed o) ⊎ IsCut t start w (a ++ b) number (sheet_behind (joined_lines a) 1 passed s) (readings.with_front (d ∷ []) passed o)
 front_ends t start w u number passed a b s d o h (inl all) =
     inl (ap (λ (e : ReadEnd). end_with (1 + e.lines) (passed + e.passed) e.stop) all ∙ ap (λ (n : ℕ). end_with n (passed + o.passed) o.stop) (one_more (length o.deeds)))
 front_ends t start w u number passed a b s d o h (inr cut) = inr (record {
@@ -94,19 +94,19 @@ front_ends t start w u number passed a b s d o h (inr cut) = inr (record {
   count = (let e = cut.count in omega arith);
   stop = cut.stop ∙ ap (λ (n : ℕ). Refused n cut.kind) (let n : number + 1 + length cut.before ≡ number + length (d ∷ cut.before) = omega arith in n);
   goes = both_ok a b start w u h ∙ cut.goes;
-  refused = ap (λ (n : ℕ). accepted n cut.modes (lines_by t cut.modes.acceleration cut.next.action)) (let n : start + length (text_of (a ++ b)) ≡ start + length (text_of a) + length (text_of b) = (let l = ap length (texts_both a b) ∙ length-append (text_of a) (text_of b) in omega arith) in n) ∙ cut.refused;
+  refused = ap (λ (n : ℕ). accepted_state n cut.modes (lines_by t cut.modes.acceleration cut.next.action)) (let n : start + length (joined_lines (a ++ b)) ≡ start + length (joined_lines a) + length (joined_lines b) = (let l = ap length (texts_both a b) ∙ length-append (joined_lines a) (joined_lines b) in omega arith) in n) ∙ cut.refused;
 })
 
 -- the lines of an action before others
-front_told : (m : Machine) (t : Mesh) (s v w u : State) (start last number passed : ℕ) (action : Action) (rest : Sheet) (o : Outcome) → accepted start w (lines_by t last action) ≡ Ok u → IsWritten m t s v w u last action
-    → Told m t (start + length (text_of (lines_by t last action))) u (last_by last action) (number + 1) rest o
-    → Told m t start w last number (with_front (text_of (lines_by t last action)) 1 passed rest) (readings.with_front (deed_of s action ∷ []) passed o)
+front_told : (m : Machine) (t : Mesh) (s v w u : State) (start last number passed : ℕ) (action : Action) (rest : Sheet) (o : Outcome) → accepted_state start w (lines_by t last action) ≡ Ok u → IsWritten m t s v w u last action
+    → Told m t (start + length (joined_lines (lines_by t last action))) u (last_by last action) (number + 1) rest o
+    → Told m t start w last number (sheet_behind (joined_lines (lines_by t last action)) 1 passed rest) (readings.with_front (deed_of s action ∷ []) passed o)
 front_told m t s v w u start last number passed action rest o h is told =
     let lines = lines_by t last action in
     record {
       lines = lines ++ told.lines;
       deeds = is.deeds ++ told.deeds;
-      text = ap (λ (l : List ℕ). text_of lines ++ l) told.text ∙ sym (texts_both lines told.lines);
+      text = ap (λ (l : List ℕ). joined_lines lines ++ l) told.text ∙ sym (texts_both lines told.lines);
       plain = plain_lines lines told.lines is.plain told.plain;
       goes = (told.goes.0, both_ok lines told.lines start w u h ∙ told.goes.1);
       told = read_told rest.stop w u lines told.lines is.deeds told.deeds is.read told.told;
@@ -118,8 +118,8 @@ front_told m t s v w u start last number passed action rest o h is told =
     }
 
 -- the line of a stop is the last one
-stop_told_last : (m : Machine) (t : Mesh) (s w u : State) (start last number passed : ℕ) → accepted start w (codes "M112" ∷ []) ≡ Ok u
-    → Told m t start w last number (record { code = text_of (codes "M112" ∷ []); lines = 1; passed = passed; stop = Stop number }) (record { deeds = deed_of s actions.Stop ∷ []; passed = passed; stop = Stop number })
+stop_told_last : (m : Machine) (t : Mesh) (s w u : State) (start last number passed : ℕ) → accepted_state start w (codes "M112" ∷ []) ≡ Ok u
+    → Told m t start w last number (record { code = joined_lines (codes "M112" ∷ []); lines = 1; passed = passed; stop = Stop number }) (record { deeds = deed_of s actions.Stop ∷ []; passed = passed; stop = Stop number })
 stop_told_last m t s w u start last number passed h =
     let k = stop_written w u start h in
     record {
@@ -129,14 +129,14 @@ stop_told_last m t s w u start last number passed h =
       plain = ((refl, (refl, (refl, (refl, tt)))), tt);
       goes = (u, h);
       told = stop_told number w w (codes "M112") k.0 k.1;
-      bent = λ idle nothing place a carry dwell moves is slow. ap (λ (l : List Section). closed (carry + dwell) (bent_moves t place moves) ++ l) (idle_closed m (left (carry + dwell) (bent_moves t place moves)) [] idle nothing)
+      bent = λ idle nothing place a carry dwell moves is slow. ap (λ (l : List Section). closed (carry + dwell) (bent_moves t place moves) ++ l) (idle_closed m (dwell_left (carry + dwell) (bent_moves t place moves)) [] idle nothing)
           ∙ sym (closed_bent m t place a carry dwell moves []);
       ends = inl refl;
     }
 
-action_told : (m : Machine) (t : Mesh) (s v w u : State) (start last number : ℕ) (passed : Bool) (action : Action) (rest : Sheet) (o : Outcome) → IsTied m s w last → IsDeed s v action → accepted start w (lines_by t last action) ≡ Ok u
-    → (IsTied m v u (last_by last action) → Told m t (start + length (text_of (lines_by t last action))) u (last_by last action) (number + 1) rest o)
-    → Told m t start w last number (behind_action number passed (text_of (lines_by t last action)) action rest) (readings.behind_action number passed s action o)
+action_told : (m : Machine) (t : Mesh) (s v w u : State) (start last number : ℕ) (passed : Bool) (action : Action) (rest : Sheet) (o : Outcome) → IsTied m s w last → IsDeed s v action → accepted_state start w (lines_by t last action) ≡ Ok u
+    → (IsTied m v u (last_by last action) → Told m t (start + length (joined_lines (lines_by t last action))) u (last_by last action) (number + 1) rest o)
+    → Told m t start w last number (behind_action number passed (joined_lines (lines_by t last action)) action rest) (readings.behind_action number passed s action o)
 action_told m t s v w u start last number passed actions.Stop rest o tie does h later = stop_told_last m t s w u start last number (one_if passed) h
 action_told m t s v w u start last number passed actions.None rest o tie does h later =
     let is = action_written m t s v w u start last actions.None refl tie does h in front_told m t s v w u start last number (one_if passed) actions.None rest o h is (later is.tied)
@@ -167,7 +167,7 @@ some_deed number passed s actions.Wait o = (o.deeds, refl)
 some_deed number passed s (actions.Home axes) o = (o.deeds, refl)
 
 -- the lines for an action are refused
-refused_told : (m : Machine) (t : Mesh) (s w : State) (start last number : ℕ) (passed : Bool) (action : Action) (o : Outcome) (kind : LineKind) → w.acceleration ≡ last → accepted start w (lines_by t last action) ≡ Err kind
+refused_told : (m : Machine) (t : Mesh) (s w : State) (start last number : ℕ) (passed : Bool) (action : Action) (o : Outcome) (kind : LineKind) → w.acceleration ≡ last → accepted_state start w (lines_by t last action) ≡ Err kind
     → Told m t start w last number (refused number kind) (readings.behind_action number passed s action o)
 refused_told m t s w start last number passed action o kind same h =
     let d = some_deed number passed s action o in
@@ -183,7 +183,7 @@ refused_told m t s w start last number passed action o kind same h =
       count = refl;
       stop = ap (λ (i : ℕ). Refused i kind) (sym n);
       goes = refl;
-      refused = ap (λ (i : ℕ). accepted i w (lines_by t w.acceleration action)) k ∙ ap (λ (a : ℕ). accepted start w (lines_by t a action)) same ∙ h;
+      refused = ap (λ (i : ℕ). accepted_state i w (lines_by t w.acceleration action)) k ∙ ap (λ (a : ℕ). accepted_state start w (lines_by t a action)) same ∙ h;
     }))
 
 -- the whole file
@@ -192,7 +192,7 @@ file_told m t size s p number start [] tie = none_told m t p.start p.modes p.las
 file_told m t size s p number start (line ∷ lines) tie =
     by (line_result size start s line) refl (λ v q tied. file_told m t size v q (number + 1) (start + (length line + 1)) lines tied)
   where
-    written : (next : State × Action) → line_result size start s line ≡ Ok next → (r : Result State LineKind) → accepted p.start p.modes (lines_by t p.last next.1) ≡ r
+    written : (next : State × Action) → line_result size start s line ≡ Ok next → (r : Result State LineKind) → accepted_state p.start p.modes (lines_by t p.last next.1) ≡ r
         → ((v : State) (q : Pen) → IsTied m v q.modes q.last → Told m t q.start q.modes q.last (number + 1) (sheet t size v q (number + 1) (start + (length line + 1)) lines) (outcome size v (number + 1) (start + (length line + 1)) lines))
         → Told m t p.start p.modes p.last number (behind_lines number (is_passed line) p (lines_by t p.last next.1) next.1 r (λ q. sheet t size next.0 q (number + 1) (start + (length line + 1)) lines))
         (readings.behind_action number (is_passed line) s next.1 (outcome size next.0 (number + 1) (start + (length line + 1)) lines))
@@ -208,4 +208,4 @@ file_told m t size s p number start (line ∷ lines) tie =
         → Told m t p.start p.modes p.last number (behind_line t number (is_passed line) p r (λ v q. sheet t size v q (number + 1) (start + (length line + 1)) lines))
         (readings.behind_line number (is_passed line) s r (λ v. outcome size v (number + 1) (start + (length line + 1)) lines))
     by (Err kind) is more = none_told m t p.start p.modes p.last number (Refused number kind) _ (p.modes, none_read p.modes) (inl refl)
-    by (Ok next) is more = written next is (accepted p.start p.modes (lines_by t p.last next.1)) refl more
+    by (Ok next) is more = written next is (accepted_state p.start p.modes (lines_by t p.last next.1)) refl more

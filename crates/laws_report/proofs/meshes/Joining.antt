@@ -7,7 +7,7 @@ use Rattle.plan_types.specs.declared.plan.Move.{Move}
 use Rattle.plan_types.specs.Moves.{change}
 use Rattle.gcode_state.specs.States.{differs}
 use Rattle.bed_mesh.specs.declared.mesh.Mesh.{Mesh}
-use Rattle.bed_mesh.specs.Cuts.{ends}
+use Rattle.bed_mesh.specs.Cuts.{cut_ends}
 use Rattle.bed_mesh.specs.BentLines.{at, raised}
 use Rattle.laws_report.specs.meshes.Bent.{differ, part_of, parts_to, raised_place}
 use Rattle.laws_report.specs.meshes.Joined.{IsAsFast, Join, change_by}
@@ -70,8 +70,8 @@ parts_fast t m from [] = none_fast m
 parts_fast t m from (p ∷ places) = part_fast m from (raised_place t p) (differ from (raised_place t p)) (parts_to t m (raised_place t p) places) (parts_fast t m (raised_place t p) places)
 
 -- the moves to all ends of a move
-pub ends_join : (t : Mesh) (m : Move) (x y z e : ℤ) → Join (x ∷ y ∷ z ∷ e ∷ []) (parts_to t m (x ∷ y ∷ z ∷ e ∷ []) (ends t m)) (raised_place t m.to)
-ends_join t m x y z e = subst (λ (l : List ℤ). Join (x ∷ y ∷ z ∷ e ∷ []) (parts_to t m (x ∷ y ∷ z ∷ e ∷ []) (ends t m)) l) (move_place t m (x ∷ y ∷ z ∷ e ∷ [])) (parts_join t m x y z e (ends t m))
+pub ends_join : (t : Mesh) (m : Move) (x y z e : ℤ) → Join (x ∷ y ∷ z ∷ e ∷ []) (parts_to t m (x ∷ y ∷ z ∷ e ∷ []) (cut_ends t m)) (raised_place t m.to)
+ends_join t m x y z e = subst (λ (l : List ℤ). Join (x ∷ y ∷ z ∷ e ∷ []) (parts_to t m (x ∷ y ∷ z ∷ e ∷ []) (cut_ends t m)) l) (move_place t m (x ∷ y ∷ z ∷ e ∷ [])) (parts_join t m x y z e (cut_ends t m))
 
-pub ends_change_e : (t : Mesh) (m : Move) (x y z e : ℤ) → e ≡ at m.from 3 → change_by (parts_to t m (x ∷ y ∷ z ∷ e ∷ []) (ends t m)) 3 ≡ change m 3
+pub ends_change_e : (t : Mesh) (m : Move) (x y z e : ℤ) → e ≡ at m.from 3 → change_by (parts_to t m (x ∷ y ∷ z ∷ e ∷ []) (cut_ends t m)) 3 ≡ change m 3
 ends_change_e t m x y z e h = joined_change (x ∷ y ∷ z ∷ e ∷ []) (raised_place t m.to) _ 3 (ends_join t m x y z e) ∙ ap (λ (n : ℤ). at m.to 3 -ℤ n) h

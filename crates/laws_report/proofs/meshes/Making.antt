@@ -8,10 +8,10 @@ use Rattle.gcode_state.specs.declared.state.State.{State}
 use Rattle.gcode_state.specs.declared.state.Action.{Action}
 use Rattle.gcode_state.specs.declared.state.Action.TheVariants as actions
 use Rattle.gcode_state.specs.States.{coordinates_of}
-use Rattle.gcode_program.specs.Cuts.{closed, homes, left, left_by_homes, sections_of}
+use Rattle.gcode_program.specs.Cuts.{closed, homes, dwell_left, left_by_homes, sections_of}
 use Rattle.gcode_program.specs.Readings.{Deed, deed_of}
 use Rattle.bed_mesh.specs.declared.mesh.Mesh.{Mesh}
-use Rattle.bed_mesh.specs.Cuts.{ends}
+use Rattle.bed_mesh.specs.Cuts.{cut_ends}
 use Rattle.bed_mesh.specs.BentLines.{at}
 use Rattle.laws_report.specs.meshes.Bent.{bent_moves, bent_sections, last_acceleration, parts_to, led_to}
 use Rattle.laws_report.proofs.meshes.Bending.{bent_more, carried, carried_left, closed_bent, homes_bent, last_more, left_homes, place_more, stood_all}
@@ -39,26 +39,26 @@ AreBent m t at last deeds done = (place : List ℤ) (a carry dwell : ℕ) (moves
 none_bent : (m : Machine) (t : Mesh) (s w : State) (last : ℕ) (others rest : List Deed) → AreBent m t (coordinates_of w) last others rest → AreBent m t (coordinates_of w) last others (deed_of s actions.None ∷ rest)
 none_bent m t s w last others rest h = h
 
-pub move_bent : (m : Machine) (t : Mesh) (s w u : State) (mv : Move) (last : ℕ) (lines : List (List ℕ)) (r : AreMoved m t mv w lines (ends t mv) u) (others rest : List Deed) → AreBent m t (coordinates_of u) mv.a others rest
+pub move_bent : (m : Machine) (t : Mesh) (s w u : State) (mv : Move) (last : ℕ) (lines : List (List ℕ)) (r : AreMoved m t mv w lines (cut_ends t mv) u) (others rest : List Deed) → AreBent m t (coordinates_of u) mv.a others rest
     → AreBent m t (coordinates_of w) last (r.deeds ++ others) (deed_of s (actions.Move mv) ∷ rest)
 move_bent m t s w u mv last lines r others rest h place a carry dwell moves is slow =
     r.sections (carry + dwell) (bent_moves t place moves) others
-    ∙ ap (λ (l : List Move). sections_of m (carry + dwell) l others) (ap (λ (p : List ℤ). bent_moves t place moves ++ parts_to t mv p (ends t mv)) is ∙ sym (bent_more t place moves mv))
+    ∙ ap (λ (l : List Move). sections_of m (carry + dwell) l others) (ap (λ (p : List ℤ). bent_moves t place moves ++ parts_to t mv p (cut_ends t mv)) is ∙ sym (bent_more t place moves mv))
     ∙ h place a carry dwell (moves ++ mv ∷ []) (r.place ∙ move_place t mv (coordinates_of w) ∙ sym (place_more t place moves mv)) (sym (last_more a moves mv))
 
 -- the open section ends, and others follow behind more milliseconds of dwells
 closing : (m : Machine) (t : Mesh) (at : List ℤ) (last more carry dwell a : ℕ) (place : List ℤ) (moves : List Move) (others rest : List Deed) → AreBent m t at last others rest → at ≡ led_to t place moves → last ≡ last_acceleration a moves
-    → closed (carry + dwell) (bent_moves t place moves) ++ sections_of m (left (carry + dwell) (bent_moves t place moves) + more) [] others
-    ≡ bent_sections m t place a carry (closed dwell moves ++ sections_of m (left dwell moves + more) [] rest)
+    → closed (carry + dwell) (bent_moves t place moves) ++ sections_of m (dwell_left (carry + dwell) (bent_moves t place moves) + more) [] others
+    ≡ bent_sections m t place a carry (closed dwell moves ++ sections_of m (dwell_left dwell moves + more) [] rest)
 closing m t at last more carry dwell a place moves others rest h is slow =
     let end = closed (carry + dwell) (bent_moves t place moves) in
     let c = carried t place carry dwell moves in
-    let n : left (carry + dwell) (bent_moves t place moves) + more ≡ c + (left dwell moves + more) = (let e = carried_left t place carry dwell moves in omega arith) in
+    let n : dwell_left (carry + dwell) (bent_moves t place moves) + more ≡ c + (dwell_left dwell moves + more) = (let e = carried_left t place carry dwell moves in omega arith) in
     ap (λ (k : ℕ). end ++ sections_of m k [] others) n
-    ∙ ap (λ (l : List Section). end ++ l) (h at last c (left dwell moves + more) [] refl refl)
-    ∙ ap (λ (p : List ℤ). end ++ bent_sections m t p last c (sections_of m (left dwell moves + more) [] rest)) is
-    ∙ ap (λ (k : ℕ). end ++ bent_sections m t (led_to t place moves) k c (sections_of m (left dwell moves + more) [] rest)) slow
-    ∙ sym (closed_bent m t place a carry dwell moves (sections_of m (left dwell moves + more) [] rest))
+    ∙ ap (λ (l : List Section). end ++ l) (h at last c (dwell_left dwell moves + more) [] refl refl)
+    ∙ ap (λ (p : List ℤ). end ++ bent_sections m t p last c (sections_of m (dwell_left dwell moves + more) [] rest)) is
+    ∙ ap (λ (k : ℕ). end ++ bent_sections m t (led_to t place moves) k c (sections_of m (dwell_left dwell moves + more) [] rest)) slow
+    ∙ sym (closed_bent m t place a carry dwell moves (sections_of m (dwell_left dwell moves + more) [] rest))
 
 pub dwell_bent : (m : Machine) (t : Mesh) (s w : State) (ms last : ℕ) (others rest : List Deed) → AreBent m t (coordinates_of w) last others rest → AreBent m t (coordinates_of w) last (deed_of w (actions.Dwell ms) ∷ others) (deed_of s (actions.Dwell ms) ∷ rest)
 dwell_bent m t s w ms last others rest h place a carry dwell moves is slow = closing m t (coordinates_of w) last ms carry dwell a place moves others rest h is slow
@@ -68,17 +68,17 @@ none_more n = omega arith
 
 pub wait_bent : (m : Machine) (t : Mesh) (s w : State) (last : ℕ) (others rest : List Deed) → AreBent m t (coordinates_of w) last others rest → AreBent m t (coordinates_of w) last (deed_of w actions.Wait ∷ others) (deed_of s actions.Wait ∷ rest)
 wait_bent m t s w last others rest h place a carry dwell moves is slow =
-    ap (λ (k : ℕ). closed (carry + dwell) (bent_moves t place moves) ++ sections_of m k [] others) (sym (none_more (left (carry + dwell) (bent_moves t place moves))))
+    ap (λ (k : ℕ). closed (carry + dwell) (bent_moves t place moves) ++ sections_of m k [] others) (sym (none_more (dwell_left (carry + dwell) (bent_moves t place moves))))
     ∙ closing m t (coordinates_of w) last 0 carry dwell a place moves others rest h is slow
-    ∙ ap (λ (k : ℕ). bent_sections m t place a carry (closed dwell moves ++ sections_of m k [] rest)) (none_more (left dwell moves))
+    ∙ ap (λ (k : ℕ). bent_sections m t place a carry (closed dwell moves ++ sections_of m k [] rest)) (none_more (dwell_left dwell moves))
 
 pub home_bent : (m : Machine) (t : Mesh) (s w : State) (axes : List Bool) (last : ℕ) (to : List ℤ) (others rest : List Deed) → w.acceleration ≡ last → to ≡ stood_all m (coordinates_of w) axes → AreBent m t to last others rest
     → AreBent m t (coordinates_of w) last (deed_of w (actions.Home axes) ∷ others) (deed_of s (actions.Home axes) ∷ rest)
 home_bent m t s w axes last to others rest same to_is h place a carry dwell moves is slow =
     let end = closed (carry + dwell) (bent_moves t place moves) in
-    let b = left (carry + dwell) (bent_moves t place moves) in
+    let b = dwell_left (carry + dwell) (bent_moves t place moves) in
     let c = carried t place carry dwell moves in
-    let d = left dwell moves in
+    let d = dwell_left dwell moves in
     let sum : c + d ≡ b = carried_left t place carry dwell moves in
     let kept = sections_of m (left_by_homes d axes) [] rest in
     let n : left_by_homes b axes ≡ left_by_homes c axes + left_by_homes d axes = ap (λ (k : ℕ). left_by_homes k axes) (sym sum) ∙ sym (left_homes c d axes) in

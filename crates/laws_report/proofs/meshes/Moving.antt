@@ -11,8 +11,8 @@ use Rattle.gcode_state.specs.States.{coordinates_of}
 use Rattle.gcode_program.specs.Cuts.{sections_of}
 use Rattle.gcode_program.specs.Readings.{Deed, applied_line, deed_of, is_stop}
 use Rattle.bed_mesh.specs.declared.mesh.Mesh.{Mesh}
-use Rattle.bed_mesh.specs.Cuts.{cut_parts, ends, place_behind}
-use Rattle.bed_mesh.specs.Files.{accepted}
+use Rattle.bed_mesh.specs.Cuts.{cut_parts, cut_ends, place_behind}
+use Rattle.bed_mesh.specs.Files.{accepted_state}
 use Rattle.bed_mesh.specs.BentLines.{acceleration_line, all_lines, at, move_line, move_lines, raised}
 use Rattle.laws_report.specs.meshes.Bent.{differ, part_of, parts_to, raised_place}
 use Rattle.laws_report.proofs.meshes.Reading.{plain_acceleration, plain_move}
@@ -66,7 +66,7 @@ none_moved m t mv w i = record {
   sections = λ dwell moves rest. ap (λ (l : List Move). sections_of m dwell l rest) (sym (append-nil moves));
 }
 
-pub moves_read : (m : Machine) (t : Mesh) (mv : Move) (start : ℕ) (w u : State) (from : List ℤ) (places : List (List ℤ)) → IsWriting m w mv.a → mv.v ≤ w.top → w.e_at ≡ at from 3 → accepted start w (move_lines t mv.v from places) ≡ Ok u
+pub moves_read : (m : Machine) (t : Mesh) (mv : Move) (start : ℕ) (w u : State) (from : List ℤ) (places : List (List ℤ)) → IsWriting m w mv.a → mv.v ≤ w.top → w.e_at ≡ at from 3 → accepted_state start w (move_lines t mv.v from places) ≡ Ok u
     → AreMoved m t mv w (move_lines t mv.v from places) places u
 moves_read m t mv start w u from [] i fast e h = (let f : w ≡ u = cc in subst (λ (v : State). AreMoved m t mv w [] [] v) f (none_moved m t mv w i))
 moves_read m t mv start w u from (p ∷ ps) i fast e h =
@@ -91,26 +91,26 @@ moves_read m t mv start w u from (p ∷ ps) i fast e h =
     }
 
 -- all lines of a move
-pub move_read : (m : Machine) (t : Mesh) (mv : Move) (start last : ℕ) (w u : State) → IsWriting m w last → mv.v ≤ w.top → w.e_at ≡ at mv.from 3 → accepted start w (all_lines t last mv) ≡ Ok u
-    → AreMoved m t mv w (all_lines t last mv) (ends t mv) u
+pub move_read : (m : Machine) (t : Mesh) (mv : Move) (start last : ℕ) (w u : State) → IsWriting m w last → mv.v ≤ w.top → w.e_at ≡ at mv.from 3 → accepted_state start w (all_lines t last mv) ≡ Ok u
+    → AreMoved m t mv w (all_lines t last mv) (cut_ends t mv) u
 move_read m t mv start last w u i fast e h = go (mv.a == last) refl h where
   slower : w.acceleration ≡ last → mv.a ≡ last → IsWriting m w mv.a
   slower is same = subst (λ (a : ℕ). IsWriting m w a) (sym same) i
 
-  go : (b : Bool) → (mv.a == last) ≡ b → accepted start w ((if b then [] else acceleration_line mv.a ∷ []) ++ move_lines t mv.v mv.from (ends t mv)) ≡ Ok u
-      → AreMoved m t mv w ((if b then [] else acceleration_line mv.a ∷ []) ++ move_lines t mv.v mv.from (ends t mv)) (ends t mv) u
-  go true same k = moves_read m t mv start w u mv.from (ends t mv) (slower i.acceleration (grind (arith, nat_tests))) fast e k
+  go : (b : Bool) → (mv.a == last) ≡ b → accepted_state start w ((if b then [] else acceleration_line mv.a ∷ []) ++ move_lines t mv.v mv.from (cut_ends t mv)) ≡ Ok u
+      → AreMoved m t mv w ((if b then [] else acceleration_line mv.a ∷ []) ++ move_lines t mv.v mv.from (cut_ends t mv)) (cut_ends t mv) u
+  go true same k = moves_read m t mv start w u mv.from (cut_ends t mv) (slower i.acceleration (grind (arith, nat_tests))) fast e k
   go false other k =
       let line = acceleration_line mv.a in
-      let f = first_of start w u line (move_lines t mv.v mv.from (ends t mv)) k in
+      let f = first_of start w u line (move_lines t mv.v mv.from (cut_ends t mv)) k in
       let d = acceleration_done w f.0 mv.a f.1 f.2 in
       let v = with_acceleration w mv.a in
-      let step : accepted (start + (length line + 1)) v (move_lines t mv.v mv.from (ends t mv)) ≡ Ok u = subst (λ (x : State). accepted (start + (length line + 1)) x (move_lines t mv.v mv.from (ends t mv)) ≡ Ok u) d.0.0 f.3 in
-      let rest = moves_read m t mv (start + (length line + 1)) v u mv.from (ends t mv) (writing_faster m w last mv.a i) fast e step in
+      let step : accepted_state (start + (length line + 1)) v (move_lines t mv.v mv.from (cut_ends t mv)) ≡ Ok u = subst (λ (x : State). accepted_state (start + (length line + 1)) x (move_lines t mv.v mv.from (cut_ends t mv)) ≡ Ok u) d.0.0 f.3 in
+      let rest = moves_read m t mv (start + (length line + 1)) v u mv.from (cut_ends t mv) (writing_faster m w last mv.a i) fast e step in
       let first = subst (λ (b : Action). applied_line w line ≡ Ok (v, b)) d.0.1 (subst (λ (x : State). applied_line w line ≡ Ok (x, f.1)) d.0.0 f.2) in
       record {
         deeds = deed_of w actions.None ∷ rest.deeds;
-        read = both_read w v u (line ∷ []) (move_lines t mv.v mv.from (ends t mv)) (deed_of w actions.None ∷ []) rest.deeds (one_read w v line actions.None first d.1 refl) rest.read;
+        read = both_read w v u (line ∷ []) (move_lines t mv.v mv.from (cut_ends t mv)) (deed_of w actions.None ∷ []) rest.deeds (one_read w v line actions.None first d.1 refl) rest.read;
         plain = (plain_acceleration (pos mv.a), rest.plain);
         writing = rest.writing;
         place = rest.place;
@@ -119,6 +119,6 @@ move_read m t mv start last w u i fast e h = go (mv.a == last) refl h where
       }
 
 -- where a move leads
-pub move_place : (t : Mesh) (mv : Move) (from : List ℤ) → led t from (ends t mv) ≡ raised_place t mv.to
-unfolding ends
+pub move_place : (t : Mesh) (mv : Move) (from : List ℤ) → led t from (cut_ends t mv) ≡ raised_place t mv.to
+unfolding cut_ends
 move_place t mv from = led_last t from (map (place_behind mv) (cut_parts t mv)) mv.to

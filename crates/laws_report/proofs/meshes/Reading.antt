@@ -5,8 +5,8 @@ use Rattle.std.proofs.lemmas.Bool.Decides.{nat_tests}
 use Rattle.text_core.specs.Bytes.{behind}
 use Rattle.text_core.specs.Numbers.{number_at, value_of}
 use Rattle.gcode_text.specs.Blanks.{is_blank}
-use Rattle.gcode_text.specs.Commands.{entry_of, head_of, unnumbered}
-use Rattle.gcode_text.specs.Lines.{◌>>=◌, given_at, no_words, word_with, reading, reading_of_text, row, words_of}
+use Rattle.gcode_text.specs.Commands.{table_entry, head_of, unnumbered}
+use Rattle.gcode_text.specs.Lines.{◌>>=◌, given_at, no_words, word_with, reading, reading_of_text, row, given_words}
 use Rattle.gcode_text.specs.declared.fault.FaultKind.{FaultKind}
 use Rattle.gcode_text.specs.declared.word.Given.{Given}
 use Rattle.gcode_text.specs.declared.word.Given.TheVariants.{Bare, Number}
@@ -52,7 +52,7 @@ plain_move x y z e f =
 
 move_row : (x y z e f : ℤ) (w : Word) → reading_of_text (behind is_blank (move_text x y z e f)) ≡ Ok w
     → ((given_at false (millionths x ++ (word (codes " Y") y ++ (word (codes " Z") z ++ (word (codes " E") e ++ word (codes " F") f)))) >>= λ given. row false (slice_set no_words 23 (Some given)) (millionths x ++ (word (codes " Y") y ++ (word (codes " Z") z ++ (word (codes " E") e ++ word (codes " F") f))))) >>= λ slots. Ok (words.Command names.G1 slots)) ≡ Ok w
-unfolding word head_of unnumbered entry_of words_of value_of
+unfolding word head_of unnumbered table_entry given_words value_of
 move_row x y z e f w h = h
 
 move_slots : (x y z e f : ℤ) (w : List (Option Given)) → (given_at false (millionths x ++ (word (codes " Y") y ++ (word (codes " Z") z ++ (word (codes " E") e ++ word (codes " F") f)))) >>= λ given. row false (slice_set no_words 23 (Some given)) (millionths x ++ (word (codes " Y") y ++ (word (codes " Z") z ++ (word (codes " E") e ++ word (codes " F") f))))) ≡ Ok w
@@ -87,7 +87,7 @@ plain_acceleration a = plain_word (codes "M204 S") a (refl, (refl, (refl, (refl,
 
 acceleration_row : (a : ℤ) (w : Word) → reading_of_text (behind is_blank (acceleration_text a)) ≡ Ok w
     → ((given_at false (millionths a) >>= λ given. row false (slice_set no_words 18 (Some given)) (millionths a)) >>= λ slots. Ok (word_with names.M204 slots)) ≡ Ok w
-unfolding word head_of unnumbered entry_of words_of value_of
+unfolding word head_of unnumbered table_entry given_words value_of
 acceleration_row a w h = h
 
 word_by : (name : Command) (r : Result (List (Option Given)) FaultKind) (w : Word) → (r >>= λ slots. Ok (word_with name slots)) ≡ Ok w → (slots : List (Option Given)) × (r ≡ Ok slots) × (w ≡ word_with name slots)
@@ -109,7 +109,7 @@ plain_dwell ms = (refl, (refl, (refl, (refl, plain_both (decimal ms) [] (plain_d
 
 dwell_row : (ms : ℕ) (w : Word) → reading_of_text (behind is_blank (dwell_text ms)) ≡ Ok w
     → ((given_at false (decimal ms ++ []) >>= λ given. row false (slice_set no_words 15 (Some given)) (decimal ms ++ [])) >>= λ slots. Ok (words.Command names.G4 slots)) ≡ Ok w
-unfolding head_of unnumbered entry_of words_of value_of
+unfolding head_of unnumbered table_entry given_words value_of
 dwell_row ms w h = h
 
 whole_given : (ms : ℕ) (g : Given) → given_at false (decimal ms ++ []) ≡ Ok g → g ≡ Number (pos (ms * 1_000_000))
@@ -132,11 +132,11 @@ dwell_read ms w h =
 
 -- M400, M112 and comments
 pub wait_read : reading (codes "M400") ≡ Ok (words.Command names.M400 no_words)
-unfolding reading head_of unnumbered entry_of words_of value_of
+unfolding reading head_of unnumbered table_entry given_words value_of
 wait_read = refl
 
 pub stop_read : reading (codes "M112") ≡ Ok (words.Command names.M112 no_words)
-unfolding reading head_of unnumbered entry_of words_of value_of
+unfolding reading head_of unnumbered table_entry given_words value_of
 stop_read = refl
 
 pub comment_read : (said : List ℕ) → length said ≤ 1023 → reading (59 ∷ said) ≡ Ok words.Blank
@@ -155,7 +155,7 @@ abbrev pub home_text : Bool → Bool → Bool → List ℕ
 home_text x y z = home_line (x ∷ y ∷ z ∷ [])
 
 pub home_read : (x y z : Bool) → reading (home_text x y z) ≡ Ok (words.Command names.G28 (home_words x y z))
-unfolding reading head_of unnumbered entry_of words_of value_of given_at
+unfolding reading head_of unnumbered table_entry given_words value_of given_at
 home_read true true true = refl
 home_read true true false = refl
 home_read true false true = refl

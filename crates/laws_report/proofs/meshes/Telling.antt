@@ -13,8 +13,8 @@ use Rattle.gcode_state.specs.declared.state.Action.TheVariants as actions
 use Rattle.gcode_program.specs.Readings.{Deed, Outcome, applied_line, deed_of, is_large, is_passed, is_stop, line_result, outcome, with_front}
 use Rattle.gcode_program.proofs.Behind.{goes_on}
 use Rattle.gcode_program.proofs.Lining.{whole_line}
-use Rattle.bed_mesh.specs.Files.{accepted, on_accepted}
-use Rattle.bed_mesh.specs.BentLines.{text_of}
+use Rattle.bed_mesh.specs.Files.{accepted_state, on_accepted}
+use Rattle.bed_mesh.specs.BentLines.{joined_lines}
 use Rattle.bed_mesh.proofs.Writing.{texts_both}
 use Rattle.laws_report.proofs.meshes.Spelling.{ArePlain, is_plain}
 
@@ -39,19 +39,19 @@ no_ends (b ∷ line) h zero less e = no_end b h.0 e
 no_ends (b ∷ line) h (suc k) less e = no_ends line h.1 k (omega arith) e
 
 -- the lines of a text are those that were written
-pub lines_back : (lines : List (List ℕ)) (rest : List ℕ) → AllPlain lines → lines_of (text_of lines ++ rest) ≡ lines ++ lines_of rest
+pub lines_back : (lines : List (List ℕ)) (rest : List ℕ) → AllPlain lines → lines_of (joined_lines lines ++ rest) ≡ lines ++ lines_of rest
 lines_back [] rest h = refl
 lines_back (line ∷ lines) rest h =
-    ap lines_of (append_assoc line (10 ∷ text_of lines) rest) ∙ whole_line line (text_of lines ++ rest) (no_ends line h.0) ∙ ap (λ (l : List (List ℕ)). line ∷ l) (lines_back lines rest h.1)
+    ap lines_of (append_assoc line (10 ∷ joined_lines lines) rest) ∙ whole_line line (joined_lines lines ++ rest) (no_ends line h.0) ∙ ap (λ (l : List (List ℕ)). line ∷ l) (lines_back lines rest h.1)
 
 -- a line that is accepted, and those behind it
 abbrev pub IsFirst : ℕ → State → List ℕ → List (List ℕ) → State → Type 0
-IsFirst start w line lines v = (u : State) × (act : Action) × (applied_line w line ≡ Ok (u, act)) × (accepted (start + (length line + 1)) u lines ≡ Ok v)
+IsFirst start w line lines v = (u : State) × (act : Action) × (applied_line w line ≡ Ok (u, act)) × (accepted_state (start + (length line + 1)) u lines ≡ Ok v)
 
-pub first_of : (start : ℕ) (w v : State) (line : List ℕ) (lines : List (List ℕ)) → accepted start w (line ∷ lines) ≡ Ok v → IsFirst start w line lines v
+pub first_of : (start : ℕ) (w v : State) (line : List ℕ) (lines : List (List ℕ)) → accepted_state start w (line ∷ lines) ≡ Ok v → IsFirst start w line lines v
 unfolding line_result
 first_of start w v line lines h = go (is_large (start + (length line + 1)) start line) (applied_line w line) refl h where
-  go : (large : Bool) (r : Result (State × Action) LineKind) → applied_line w line ≡ r → on_accepted (if large then Err kinds.TooLarge else r) (λ t. accepted (start + (length line + 1)) t lines) ≡ Ok v → IsFirst start w line lines v
+  go : (large : Bool) (r : Result (State × Action) LineKind) → applied_line w line ≡ r → on_accepted (if large then Err kinds.TooLarge else r) (λ t. accepted_state (start + (length line + 1)) t lines) ≡ Ok v → IsFirst start w line lines v
   go true r is e = absurd cc
   go false (Err kind) is e = absurd cc
   go false (Ok next) is e = (next.0, next.1, is, e)
@@ -65,7 +65,7 @@ result_of size start w u line act few h = let e = not_large size start line few 
 
 -- lines that are read, and what they do, in every file that isn't too large
 pub record AreRead (w : State) (lines : List (List ℕ)) (u : State) (deeds : List Deed) : Type 0 where
-  pub same : (size number start : ℕ) (more : List (List ℕ)) → size ≤ most → outcome size w (number + 1) start (lines ++ more) ≡ with_front deeds 0 (outcome size u (number + length lines + 1) (start + length (text_of lines)) more)
+  pub same : (size number start : ℕ) (more : List (List ℕ)) → size ≤ most → outcome size w (number + 1) start (lines ++ more) ≡ with_front deeds 0 (outcome size u (number + length lines + 1) (start + length (joined_lines lines)) more)
   pub count : length deeds ≡ length lines
 
 fronts : (a b : List Deed) (o : Outcome) → with_front a 0 (with_front b 0 o) ≡ with_front (a ++ b) 0 o
@@ -80,7 +80,7 @@ none_read w = record {
   count = refl;
 }
 
-line_size : (line : List ℕ) → length (text_of (line ∷ [])) ≡ length line + 1
+line_size : (line : List ℕ) → length (joined_lines (line ∷ [])) ≡ length line + 1
 line_size line = length-append line (10 ∷ [])
 
 pub one_read : (w u : State) (line : List ℕ) (act : Action) → applied_line w line ≡ Ok (u, act) → is_passed line ≡ false → is_stop act ≡ false → AreRead w (line ∷ []) u (deed_of w act ∷ [])
@@ -95,12 +95,12 @@ pub both_read : (w u v : State) (a b : List (List ℕ)) (ds es : List Deed) → 
 both_read w u v a b ds es one two = record {
   same = λ size number start more few. (
       let n : number + length a + length b + 1 ≡ number + length (a ++ b) + 1 = (let l = length-append a b in omega arith) in
-      let s : start + length (text_of a) + length (text_of b) ≡ start + length (text_of (a ++ b)) = (let l = ap length (texts_both a b) ∙ length-append (text_of a) (text_of b) in omega arith) in
+      let s : start + length (joined_lines a) + length (joined_lines b) ≡ start + length (joined_lines (a ++ b)) = (let l = ap length (texts_both a b) ∙ length-append (joined_lines a) (joined_lines b) in omega arith) in
       ap (λ (l : List (List ℕ)). outcome size w (number + 1) start l) (append_assoc a b more)
       ∙ one.same size number start (b ++ more) few
-      ∙ ap (λ (o : Outcome). with_front ds 0 o) (two.same size (number + length a) (start + length (text_of a)) more few)
+      ∙ ap (λ (o : Outcome). with_front ds 0 o) (two.same size (number + length a) (start + length (joined_lines a)) more few)
       ∙ fronts ds es _
-      ∙ ap (λ (k : ℕ). with_front (ds ++ es) 0 (outcome size v k (start + length (text_of a) + length (text_of b)) more)) n
+      ∙ ap (λ (k : ℕ). with_front (ds ++ es) 0 (outcome size v k (start + length (joined_lines a) + length (joined_lines b)) more)) n
       ∙ ap (λ (k : ℕ). with_front (ds ++ es) 0 (outcome size v (number + length (a ++ b) + 1) k more)) s);
   count = (let x = one.count in let y = two.count in let l = length-append ds es in let k = length-append a b in omega arith);
 }
@@ -122,7 +122,7 @@ read_told (Stop n) w u a b ds es one two = (
       let k : number + length a + length b ≡ number + length (a ++ b) = (let l = length-append a b in omega arith) in
       ap (λ (l : List (List ℕ)). outcome size w (number + 1) start l) (append_assoc a b more)
       ∙ one.same size number start (b ++ more) few
-      ∙ ap (λ (o : Outcome). with_front ds 0 o) (two.0 size (number + length a) (start + length (text_of a)) more few)
+      ∙ ap (λ (o : Outcome). with_front ds 0 o) (two.0 size (number + length a) (start + length (joined_lines a)) more few)
       ∙ ap (λ (i : ℕ). outcome_with (ds ++ es) (Stop i)) k)),
   (let x = one.count in let y = two.1 in let l = length-append ds es in let k = length-append a b in omega arith),
 )
@@ -136,17 +136,17 @@ stop_told n w u line h passed =
 large_no : (start size : ℕ) (line : List ℕ) → is_large (start + (size + 1)) start line ≡ false → size ≡ length line → start + (size + 1) ≤ most
 large_no start size line h e = grind (arith, nat_tests)
 
-line_fits : (start : ℕ) (w v : State) (line : List ℕ) (lines : List (List ℕ)) → accepted start w (line ∷ lines) ≡ Ok v → start + (length line + 1) ≤ most
+line_fits : (start : ℕ) (w v : State) (line : List ℕ) (lines : List (List ℕ)) → accepted_state start w (line ∷ lines) ≡ Ok v → start + (length line + 1) ≤ most
 unfolding line_result
 line_fits start w v line lines h = go (is_large (start + (length line + 1)) start line) refl h where
-  go : (large : Bool) → is_large (start + (length line + 1)) start line ≡ large → on_accepted (if large then Err kinds.TooLarge else applied_line w line) (λ t. accepted (start + (length line + 1)) t lines) ≡ Ok v → start + (length line + 1) ≤ most
+  go : (large : Bool) → is_large (start + (length line + 1)) start line ≡ large → on_accepted (if large then Err kinds.TooLarge else applied_line w line) (λ t. accepted_state (start + (length line + 1)) t lines) ≡ Ok v → start + (length line + 1) ≤ most
   go true is e = absurd cc
   go false is e = large_no start (length line) line is refl
 
-pub lines_fit : (start : ℕ) (w v : State) (lines : List (List ℕ)) → start ≤ most → accepted start w lines ≡ Ok v → start + length (text_of lines) ≤ most
+pub lines_fit : (start : ℕ) (w v : State) (lines : List (List ℕ)) → start ≤ most → accepted_state start w lines ≡ Ok v → start + length (joined_lines lines) ≤ most
 lines_fit start w v [] few h = omega arith
 lines_fit start w v (line ∷ lines) few h =
     let f = first_of start w v line lines h in
     let rest = lines_fit (start + (length line + 1)) f.0 v lines (line_fits start w v line lines h) f.3 in
-    let size = length-append line (10 ∷ text_of lines) in
+    let size = length-append line (10 ∷ joined_lines lines) in
     omega (arith, rest, size)

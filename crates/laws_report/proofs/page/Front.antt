@@ -17,10 +17,10 @@ use Rattle.report_text.specs.declared.line.ReportLine.TheVariants as report
 use Rattle.log_text.specs.declared.line.LogLine.{LogLine}
 use Rattle.log_text.specs.declared.line.LogLine.TheVariants as line
 use Rattle.log_check.specs.declared.further.Further.{Further}
-use Rattle.log_check.specs.Behind.{begun, clocks, is_cut, is_ended, pulses, start, told_line, with_further}
+use Rattle.log_check.specs.Behind.{begun, clocks, is_cut, is_ended, pulses, section_start, told_line, with_further}
 use Rattle.log_check.specs.Faults.{may_cut, ready}
 use Rattle.log_check.specs.Points.{end_by, plans_by, section_at}
-use Rattle.laws_report.specs.logs.Follows.{FitsHere, IsNext, IsWholeHere, base_at, freq_at, further_among, in_order, plan_at}
+use Rattle.laws_report.specs.logs.Follows.{FitsHere, IsNextSection, IsWholeHere, base_at, freq_at, further_among, in_order, plan_at}
 use Rattle.laws_report.proofs.logs.Following.{no-plan}
 use Rattle.laws_report.proofs.logs.Standing.{onto}
 use Rattle.laws_report.specs.reports.Further.{AllMayStand}
@@ -28,7 +28,7 @@ use Rattle.laws_report.specs.reports.Logged.{AreOfRun, logged}
 use Rattle.laws_report.specs.reports.Through.{AreHeads}
 use Rattle.laws_report.specs.reports.Within.{ready_behind}
 use Rattle.laws_report.specs.reports.Shown.{pulses_before}
-use Rattle.laws_report.specs.page.Log.{Follows, FollowsFront, StandsBehind, StartsOnTime, TellsPulseOf, board_turn, next_turn}
+use Rattle.laws_report.specs.page.Log.{Follows, FollowsFront, StandsBehind, StartsOnTime, TellsPulseOf, board_turn, earliest_turn}
 use Rattle.laws_report.proofs.reports.Bridging.{fits-same}
 
 -- lists from their end, twice
@@ -63,7 +63,7 @@ front-follows m sections log f = record {
 -- stands among later lines.
 abbrev WholeBefore : Type 0 → Machine → List Section → List Further → List LogLine → List LogLine → LogLine → Type 0
 WholeBefore through m sections fs later before (line.Section i turn kind) =
-    is_cut before ≡ false → (turn ≡ next_turn m sections fs before (begun before) + (section_at sections i).dwell)
+    is_cut before ≡ false → (turn ≡ earliest_turn m sections fs before (begun before) + (section_at sections i).dwell)
     × ((s : ℕ) → s < length m.steppers → through ⊎ TellsPulseOf m (stepper_at m s).board later → IsWholeHere m sections fs before s)
 WholeBefore through m sections fs later before _ = Unit {0}
 
@@ -166,19 +166,19 @@ module _ (through : Type 0) (m : Machine) (sections : List Section) (lines : Lis
       fronted : Fronted m sections fs before
       going : is_ended before ≡ false
       begun_is : begun before ≡ suc i
-      start_is : start before ≡ turn
+      start_is : section_start before ≡ turn
       lines_are : clocks m fs before ≡ lines
       cut_is : is_cut before ≡ cut
 
-    plan-is : (i turn s : ℕ) (before : List LogLine) → begun before ≡ suc i → start before ≡ turn → clocks m fs before ≡ lines → s < length m.steppers → plan_at m sections fs before s ≡ stepper_plan m lines (section_at sections i).moves turn s
+    plan-is : (i turn s : ℕ) (before : List LogLine) → begun before ≡ suc i → section_start before ≡ turn → clocks m fs before ≡ lines → s < length m.steppers → plan_at m sections fs before s ≡ stepper_plan m lines (section_at sections i).moves turn s
     plan-is i turn s before b t l inside =
-        ap (λ (n : ℕ). slice_index_or (plans_by m sections (clocks m fs before) n (start before)) s []) b ∙ ap (λ (n : ℕ). slice_index_or (section_plans m (clocks m fs before) (section_at sections i).moves n) s []) t
+        ap (λ (n : ℕ). slice_index_or (plans_by m sections (clocks m fs before) n (section_start before)) s []) b ∙ ap (λ (n : ℕ). slice_index_or (section_plans m (clocks m fs before) (section_at sections i).moves n) s []) t
         ∙ ap (λ (z : List Clocks). slice_index_or (section_plans m z (section_at sections i).moves turn) s []) l ∙ get_or-map-range_with_len (stepper_plan m lines (section_at sections i).moves turn) 0 (length m.steppers) s s [] inside (omega arith)
 
     -- what fits with the pulses to come fits
-    fit-here : (i turn : ℕ) (before : List LogLine) (rest : List ReportLine) → begun before ≡ suc i → start before ≡ turn → clocks m fs before ≡ lines → FitWith i turn (λ s. in_order (pulses s before) ++ pulses_before s rest) → (s : ℕ) → s < length m.steppers → FitsHere m sections fs before s
+    fit-here : (i turn : ℕ) (before : List LogLine) (rest : List ReportLine) → begun before ≡ suc i → section_start before ≡ turn → clocks m fs before ≡ lines → FitWith i turn (λ s. in_order (pulses s before) ++ pulses_before s rest) → (s : ℕ) → s < length m.steppers → FitsHere m sections fs before s
     fit-here i turn before rest b t l fits s inside =
-        let base : base_at m fs before s ≡ base_tick m lines turn s = ap (λ (z : List Clocks). base_tick m z (start before) s) l ∙ ap (λ (n : ℕ). base_tick m lines n s) t in
+        let base : base_at m fs before s ≡ base_tick m lines turn s = ap (λ (z : List Clocks). base_tick m z (section_start before) s) l ∙ ap (λ (n : ℕ). base_tick m lines n s) t in
         fits-same (in_order (pulses s before)) (ap (λ (z : List Clocks). (clocks_at z (stepper_at m s).board).first.freq) l) base (plan-is i turn s before b t l inside)
         (fits-first _ _ (in_order (pulses s before)) (pulses_before s rest) _ (fits s inside))
 
@@ -209,22 +209,22 @@ module _ (through : Type 0) (m : Machine) (sections : List Section) (lines : Lis
         → ready_behind cut turn (section_end m lines (section_at sections i).moves turn) + (section_at sections (suc i)).dwell ≤ at → IsOpen i turn cut before → IsOpen (suc i) at false (line.Section j at kind ∷ before)
     section-on i turn cut before j at kind number there same due h =
         let moves = (section_at sections i).moves in
-        let end : end_by m sections (clocks m fs before) (begun before) (start before) ≡ section_end m lines moves turn =
-        ap (λ (n : ℕ). end_by m sections (clocks m fs before) n (start before)) h.begun_is ∙ ap (λ (z : List Clocks). section_end m z moves (start before)) h.lines_are ∙ ap (λ (n : ℕ). section_end m lines moves n) h.start_is in
-        let from : ready (is_cut before) (begun before) (start before) (end_by m sections (clocks m fs before) (begun before) (start before)) ≡ ready_behind cut turn (section_end m lines moves turn) =
-        ap (λ (n : ℕ). ready (is_cut before) (begun before) (start before) n) end ∙ ap (λ (n : ℕ). ready (is_cut before) (begun before) n (section_end m lines moves turn)) h.start_is
+        let end : end_by m sections (clocks m fs before) (begun before) (section_start before) ≡ section_end m lines moves turn =
+        ap (λ (n : ℕ). end_by m sections (clocks m fs before) n (section_start before)) h.begun_is ∙ ap (λ (z : List Clocks). section_end m z moves (section_start before)) h.lines_are ∙ ap (λ (n : ℕ). section_end m lines moves n) h.start_is in
+        let from : ready (is_cut before) (begun before) (section_start before) (end_by m sections (clocks m fs before) (begun before) (section_start before)) ≡ ready_behind cut turn (section_end m lines moves turn) =
+        ap (λ (n : ℕ). ready (is_cut before) (begun before) (section_start before) n) end ∙ ap (λ (n : ℕ). ready (is_cut before) (begun before) n (section_end m lines moves turn)) h.start_is
         ∙ ap (λ (n : ℕ). ready (is_cut before) n turn (section_end m lines moves turn)) h.begun_is ∙ ap (λ (b : Bool). ready b (suc i) turn (section_end m lines moves turn)) h.cut_is ∙ ready-is cut i turn (section_end m lines moves turn) in
-        let Next : ℕ → Type 0 = λ n. IsNext m sections fs before n at kind in
+        let Next : ℕ → Type 0 = λ n. IsNextSection m sections fs before n at kind in
         let next : Next j = subst Next (sym number) (record { number = sym h.begun_is; there = there; same = same; due = omega (arith, from, due) }) in
         record { fronted = (h.going, (next, ap length h.lines_are ∙ boards), λ s inside. tt, h.fronted); going = h.going; begun_is = ap suc h.begun_is; start_is = refl; lines_are = h.lines_are; cut_is = refl }
 
     -- where this was not cut, in its turn
     timely-on : (i turn : ℕ) (cut : Bool) (before : List LogLine) (j at : ℕ) → j ≡ suc i → (cut ≡ false → section_end m lines (section_at sections i).moves turn + 260 + (section_at sections (suc i)).dwell ≡ at) → IsOpen i turn cut before → is_cut before ≡ false
-        → at ≡ next_turn m sections fs before (begun before) + (section_at sections j).dwell
+        → at ≡ earliest_turn m sections fs before (begun before) + (section_at sections j).dwell
     timely-on i turn cut before j at number due h uncut =
         let moves = (section_at sections i).moves in
-        let end : section_end m (clocks m fs before) moves (start before) ≡ section_end m lines moves turn = ap (λ (z : List Clocks). section_end m z moves (start before)) h.lines_are ∙ ap (λ (n : ℕ). section_end m lines moves n) h.start_is in
-        let from : next_turn m sections fs before (begun before) ≡ section_end m lines moves turn + 260 = ap (λ (n : ℕ). next_turn m sections fs before n) h.begun_is ∙ ap (λ (n : ℕ). n + 260) end in
+        let end : section_end m (clocks m fs before) moves (section_start before) ≡ section_end m lines moves turn = ap (λ (z : List Clocks). section_end m z moves (section_start before)) h.lines_are ∙ ap (λ (n : ℕ). section_end m lines moves n) h.start_is in
+        let from : earliest_turn m sections fs before (begun before) ≡ section_end m lines moves turn + 260 = ap (λ (n : ℕ). earliest_turn m sections fs before n) h.begun_is ∙ ap (λ (n : ℕ). n + 260) end in
         let dwell = ap (λ (n : ℕ). (section_at sections n).dwell) number in
         let is = due (sym h.cut_is ∙ uncut) in
         omega (arith, from, dwell, is)
@@ -327,9 +327,9 @@ lines-follow through m sections fs lines head at kind rest stand heads told boar
     let x = heads-before through m sections fs 0 head (report.Section 0 at kind ∷ rest) [] stand heads empty tt in
     let h = x.0.1 in
     let before = onto (map logged head) [] in
-    let from : ready (is_cut before) (begun before) (start before) (end_by m sections (clocks m fs before) (begun before) (start before)) ≡ first_turn =
-    ap (λ (k : ℕ). ready (is_cut before) k (start before) (end_by m sections (clocks m fs before) k (start before))) h.none ∙ ready-first (is_cut before) (start before) 0 in
-    let next : IsNext m sections fs before 0 at kind = record { number = sym h.none; there = some; same = same; due = omega (arith, from, due) } in
+    let from : ready (is_cut before) (begun before) (section_start before) (end_by m sections (clocks m fs before) (begun before) (section_start before)) ≡ first_turn =
+    ap (λ (k : ℕ). ready (is_cut before) k (section_start before) (end_by m sections (clocks m fs before) k (section_start before))) h.none ∙ ready-first (is_cut before) (section_start before) 0 in
+    let next : IsNextSection m sections fs before 0 at kind = record { number = sym h.none; there = some; same = same; due = omega (arith, from, due) } in
     go through m sections lines fs boards 0 at false (λ s. length (pulses_before s rest)) rest (line.Section 0 at kind ∷ before) fits (λ s. omega arith) goes stands of
     (record { fronted = (h.going, (next, ap length told ∙ boards), λ s inside. tt, h.fronted); going = h.going; begun_is = ap suc h.none; start_is = refl; lines_are = told; cut_is = refl })
-    (λ uncut. (timely ∙ ap (λ (n : ℕ). next_turn m sections fs before n + (section_at sections 0).dwell) (sym h.none), λ s inside why. ap length (h.silent s) ∙ sym (ap length (no-plan m sections fs before s h.none))), x.1)
+    (λ uncut. (timely ∙ ap (λ (n : ℕ). earliest_turn m sections fs before n + (section_at sections 0).dwell) (sym h.none), λ s inside why. ap length (h.silent s) ∙ sym (ap length (no-plan m sections fs before s h.none))), x.1)

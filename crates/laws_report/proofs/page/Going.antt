@@ -19,7 +19,7 @@ use Rattle.laws_report.specs.reports.Within.{ready_behind}
 use Rattle.laws_run.specs.home_headline.Cuts.{cuts_of}
 use Rattle.laws_report.specs.reports.Cuts.{cuts_in, lines_before}
 use Rattle.laws_report.specs.reports.Shown.{lines_behind, pulses_before, pulses_in, section_turn, sections_shown}
-use Rattle.laws_report.specs.reports.Stands.{AreBehind}
+use Rattle.laws_report.specs.reports.Stands.{AreOfSections}
 use Rattle.laws_report.specs.page.Log.{TellsPulseOf}
 use Rattle.laws_report.proofs.reports.Bridging.{IsOneCut, is-first, is-here, is-later}
 use Rattle.laws_report.proofs.page.Front.{Goes, StartsBehind}
@@ -127,7 +127,7 @@ module _ (through : Type 0) (m : Machine) (sections : List Section) (clocks line
         whole = λ s h inside why. sym (ap length (is-here (j == i) (pulses_before s rest) (pulses_in i s rest) self)) ∙ ahead.whole i at s (omega arith) now h inside (told_so i s (omega arith) why);
       })
 
-  goes : (i turn : ℕ) (cut : Bool) (total : ℕ → ℕ) (rest : List ReportLine) → AreBehind true rest → Ahead through m sections clocks lines (suc i) (is_home (section_at sections i).kind) (Soon i turn) rest → Now through m sections clocks lines i turn cut total rest → Goes through m sections lines i turn cut total rest
+  goes : (i turn : ℕ) (cut : Bool) (total : ℕ → ℕ) (rest : List ReportLine) → AreOfSections true rest → Ahead through m sections clocks lines (suc i) (is_home (section_at sections i).kind) (Soon i turn) rest → Now through m sections clocks lines i turn cut total rest → Goes through m sections lines i turn cut total rest
   goes i turn cut total [] behind ahead now = λ uncut s inside gone. now.whole s (moving i cut uncut (λ h. either-cut cut [] refl (now.ended (inl gone) h))) inside (inl gone)
   goes i turn cut total (report.Section j at kind ∷ rest) behind ahead now =
       let e : report.Section j at kind ≡ report.Section (suc i) ahead.shown.0 (section_at sections (suc i)).kind = ahead.shown.1 in
@@ -186,5 +186,5 @@ module _ (through : Type 0) (m : Machine) (sections : List Section) (clocks line
   goes i turn cut total (report.End c ∷ rest) behind ahead now = absurd behind
 
   -- the lines behind that of the first section
-  pub goes-on : (at : ℕ) (home : Bool) (soon : ℕ) (kind : SectionKind) (rest : List ReportLine) → AreBehind true rest → Ahead through m sections clocks lines 0 home soon (report.Section 0 at kind ∷ rest) → Goes through m sections lines 0 at false (λ s. length (pulses_before s rest)) rest
+  pub goes-on : (at : ℕ) (home : Bool) (soon : ℕ) (kind : SectionKind) (rest : List ReportLine) → AreOfSections true rest → Ahead through m sections clocks lines 0 home soon (report.Section 0 at kind ∷ rest) → Goes through m sections lines 0 at false (λ s. length (pulses_before s rest)) rest
   goes-on at home soon kind rest behind ahead = begun 0 0 at home soon kind rest ahead refl (λ a n. goes 0 at false (λ s. length (pulses_before s rest)) rest behind a n)

@@ -21,15 +21,15 @@ use Rattle.log_check.specs.Behind.{pulses}
 use Rattle.log_check.specs.Faults.{have_room}
 use Rattle.laws_report.specs.logs.Follows.{in_order}
 use Rattle.laws_report.specs.reports.Retold.{HaveLines, PlansAlike, all_retold, retold}
-use Rattle.laws_report.specs.reports.Stands.{AreBehind, BeginSection, IsPlannedAlike, StandInOrder}
-use Rattle.laws_report.specs.reports.Through.{AreHeads, told}
-use Rattle.laws_report.specs.reports.Within.{AreWithin, GoWithin, TellAllWithin, TellsWithin, has_cut, ready_behind}
+use Rattle.laws_report.specs.reports.Stands.{AreOfSections, BeginSection, IsPlannedAlike, StandInOrder}
+use Rattle.laws_report.specs.reports.Through.{AreHeads, told_pulses}
+use Rattle.laws_report.specs.reports.Within.{AreInSection, GoWithin, TellAllWithin, TellsWithin, has_cut, ready_behind}
 use Rattle.laws_report.proofs.reports.Retelling.{alike}
 use Rattle.laws_report.proofs.reports.Running.{told-more}
 use Rattle.laws_run.specs.home_headline.Cuts.{cuts_of}
 use Rattle.laws_report.specs.reports.Cuts.{cuts_in, lines_before}
 use Rattle.laws_report.specs.reports.Shown.{lines_behind, pulses_before, pulses_in, section_turn, sections_shown}
-use Rattle.laws_report.specs.reports.Headline.{kind_of, moves_of, plan_by}
+use Rattle.laws_report.specs.reports.Headline.{section_kind, moves_of, plan_by}
 use Rattle.laws_report.specs.reports.Promises.{FollowsPlanBy}
 use Rattle.laws_report.proofs.reports.Ends.{section_end-after}
 
@@ -48,7 +48,7 @@ abbrev pub IsOneCut : ℕ → List ReportLine → Type 0
 IsOneCut i lines = (board pin tick from : ℕ) × (lines ≡ report.Cut i board pin tick from ∷ [])
 
 -- where there are none
-within-none : (i : ℕ) (block : List ReportLine) → AreLoose block → cuts_of block ≡ [] → AreWithin i block × (has_cut block ≡ false)
+within-none : (i : ℕ) (block : List ReportLine) → AreLoose block → cuts_of block ≡ [] → AreInSection i block × (has_cut block ≡ false)
 within-none i [] loose e = (tt, refl)
 within-none i (report.Pulse board stepper tick up ∷ block) loose e = within-none i block loose e
 within-none i (report.Machine corexy boards steppers ∷ block) loose e = within-none i block loose e
@@ -64,7 +64,7 @@ within-none i (report.Fit section stepper pulses planned early late ∷ block) l
 within-none i (report.End c ∷ block) loose e = absurd loose
 
 -- or one
-within-one : (i : ℕ) (block : List ReportLine) → AreLoose block → IsOneCut i (cuts_of block) → AreWithin i block × (has_cut block ≡ true)
+within-one : (i : ℕ) (block : List ReportLine) → AreLoose block → IsOneCut i (cuts_of block) → AreInSection i block × (has_cut block ≡ true)
 within-one i [] loose one = absurd (let f : [] ≡ report.Cut i one.0 one.1 one.2 one.3 ∷ [] = one.4 in cc)
 within-one i (report.Pulse board stepper tick up ∷ block) loose one = within-one i block loose one
 within-one i (report.Machine corexy boards steppers ∷ block) loose one = within-one i block loose one
@@ -88,7 +88,7 @@ if-told true p others = refl
 if-told false p others = refl
 
 -- the pulses up to the next section
-before-told : (s i : ℕ) (block rest : List ReportLine) → AreWithin i block → BeginSection rest → pulses_before s (block ++ rest) ≡ told s block
+before-told : (s i : ℕ) (block rest : List ReportLine) → AreInSection i block → BeginSection rest → pulses_before s (block ++ rest) ≡ told_pulses s block
 before-told s i [] [] are begins = refl
 before-told s i [] (report.Section j turn kind ∷ rest) are begins = refl
 before-told s i [] (report.Pulse board stepper tick up ∷ rest) are begins = absurd begins
@@ -122,16 +122,16 @@ record IsCut (homes : Bool) (lines rest : List ReportLine) : Type 0 where
   are : lines ≡ lines_before lines ++ rest
   loose : AreLoose (lines_before lines)
   begins : BeginSection rest
-  behind : AreBehind homes rest
+  behind : AreOfSections homes rest
   shown : sections_shown lines ≡ sections_shown rest
   turns : (j : ℕ) → section_turn j lines ≡ section_turn j rest
   later : (j s : ℕ) → pulses_in j s lines ≡ pulses_in j s rest
   later_lines : (j : ℕ) → lines_behind j lines ≡ lines_behind j rest
 
-cut-at : (homes : Bool) (i turn : ℕ) (kind : SectionKind) (lines : List ReportLine) → AreBehind homes lines → IsCut homes (report.Section i turn kind ∷ lines) (report.Section i turn kind ∷ lines)
+cut-at : (homes : Bool) (i turn : ℕ) (kind : SectionKind) (lines : List ReportLine) → AreOfSections homes lines → IsCut homes (report.Section i turn kind ∷ lines) (report.Section i turn kind ∷ lines)
 cut-at homes i turn kind lines behind = record { are = refl; loose = tt; begins = tt; behind = behind; shown = refl; turns = λ j. refl; later = λ j s. refl; later_lines = λ j. refl }
 
-cut-lines : (homes : Bool) (lines : List ReportLine) → AreBehind homes lines → (rest : List ReportLine) × IsCut homes lines rest
+cut-lines : (homes : Bool) (lines : List ReportLine) → AreOfSections homes lines → (rest : List ReportLine) × IsCut homes lines rest
 cut-lines homes [] behind = ([], record { are = refl; loose = tt; begins = tt; behind = tt; shown = refl; turns = λ j. refl; later = λ j s. refl; later_lines = λ j. refl })
 cut-lines homes (report.Section i turn kind ∷ lines) behind = (report.Section i turn kind ∷ lines, cut-at homes i turn kind lines behind)
 cut-lines homes (report.Pulse board stepper tick up ∷ lines) behind =
@@ -163,7 +163,7 @@ cut-lines homes (report.End c ∷ lines) behind = absurd behind
 
 -- a section is cut, and homes; or it isn't
 abbrev pub IsCutOrNot : List Section → Bool → ℕ → List ReportLine → Type 0
-IsCutOrNot sections cut j lines = ((cut ≡ false) × (cuts_in j lines ≡ [])) ⊎ ((cut ≡ true) × IsOneCut j (cuts_in j lines) × ((axis : ℕ) × (kind_of sections j ≡ Home axis)))
+IsCutOrNot sections cut j lines = ((cut ≡ false) × (cuts_in j lines ≡ [])) ⊎ ((cut ≡ true) × IsOneCut j (cuts_in j lines) × ((axis : ℕ) × (section_kind sections j ≡ Home axis)))
 
 -- a section is planned alike whose cut lines and pulses are the same
 alike-same : (m : Machine) (short clocks : List Clocks) (sections : List Section) (said body : List ReportLine) (j turn : ℕ) → cuts_in j said ≡ cuts_in j body → ((s : ℕ) → pulses_in j s said ≡ pulses_in j s body) → IsPlannedAlike m short clocks sections said j turn
@@ -219,9 +219,9 @@ follow-later m sections clocks short cuts homes ready i turn kind lines rest fol
       ];
     }
 
-same-kind-of : (sections past secs : List Section) (s : Section) (i : ℕ) → sections ≡ past ++ s ∷ secs → i ≡ length past → kind_of sections i ≡ s.kind
+same-kind-of : (sections past secs : List Section) (s : Section) (i : ℕ) → sections ≡ past ++ s ∷ secs → i ≡ length past → section_kind sections i ≡ s.kind
 same-kind-of sections past secs s i are at =
-    ap (λ (ss : List Section). kind_of ss i) are ∙ (ap (λ (n : ℕ). kind_of (past ++ s ∷ secs) n) at ∙ ap (λ (x : Section). x.kind) (get_or-append_seam past s secs no_section))
+    ap (λ (ss : List Section). section_kind ss i) are ∙ (ap (λ (n : ℕ). section_kind (past ++ s ∷ secs) n) at ∙ ap (λ (x : Section). x.kind) (get_or-append_seam past s secs no_section))
 
 same-moves : (sections past secs : List Section) (s : Section) (i : ℕ) → sections ≡ past ++ s ∷ secs → i ≡ length past → moves_of sections i ≡ s.moves
 same-moves sections past secs s i are at =
@@ -254,16 +254,16 @@ tell-one m sections past secs clocks short cuts homes ready i turn s kind lines 
     let kind_is = same-kind-of sections past secs s i are at in
     let told_same = alike m short s.moves ready turn valid one order in
     let cuts_are : cuts_in i here ≡ cuts_of block = ap (λ (z : List ReportLine). cuts_of (lines_before z)) (is-here (i == i) lines (lines_behind i lines) self) in
-    let found : AreWithin i block × (has_cut block ≡ cuts i) × (cuts i ≡ true → (axis : ℕ) × (s.kind ≡ Home axis)) = elim (follow.cuts i turn (omega arith) shows) [
+    let found : AreInSection i block × (has_cut block ≡ cuts i) × (cuts i ≡ true → (axis : ℕ) × (s.kind ≡ Home axis)) = elim (follow.cuts i turn (omega arith) shows) [
       | inl e ↦ let w = within-none i block cut.loose (sym cuts_are ∙ e.1) in (w.0, w.1 ∙ sym e.0, λ yes. absurd (let f : false ≡ true = sym e.0 ∙ yes in cc))
       | inr e ↦ let w = within-one i block cut.loose (e.1.0, e.1.1, e.1.2, e.1.3, sym cuts_are ∙ e.1.4) in (w.0, w.1 ∙ sym e.0, λ yes. (e.2.0, sym kind_is ∙ e.2.1))
     ] in
-    let pulses_are : (q : ℕ) → pulses_in i q here ≡ told q block = λ q. is-here (i == i) (pulses_before q lines) (pulses_in i q lines) self ∙ ap (pulses_before q) cut.are ∙ before-told q i block rest found.0 cut.begins in
+    let pulses_are : (q : ℕ) → pulses_in i q here ≡ told_pulses q block = λ q. is-here (i == i) (pulses_before q lines) (pulses_in i q lines) self ∙ ap (pulses_before q) cut.are ∙ before-told q i block rest found.0 cut.begins in
     let fits_by : (cs : List Clocks) (q : ℕ) → Fits (clocks_at cs (stepper_at m q).board).first.freq (base_tick m cs turn q) (pulses_in i q here) (plan_by cs m sections i turn q)
-    → Fits (clocks_at cs (stepper_at m q).board).first.freq (base_tick m cs turn q) (told q block) (stepper_plan m cs s.moves turn q) = λ cs q fit.
+    → Fits (clocks_at cs (stepper_at m q).board).first.freq (base_tick m cs turn q) (told_pulses q block) (stepper_plan m cs s.moves turn q) = λ cs q fit.
     let freq = (clocks_at cs (stepper_at m q).board).first.freq in
     let base = base_tick m cs turn q in
-    subst (λ (ms : List Move). Fits freq base (told q block) (stepper_plan m cs ms turn q)) moves (subst (λ (ps : List Pulse). Fits freq base ps (plan_by cs m sections i turn q)) (pulses_are q) fit) in
+    subst (λ (ms : List Move). Fits freq base (told_pulses q block) (stepper_plan m cs ms turn q)) moves (subst (λ (ps : List Pulse). Fits freq base ps (plan_by cs m sections i turn q)) (pulses_are q) fit) in
     let homes : has_cut block ≡ true → (axis : ℕ) × (s.kind ≡ Home axis) = λ yes. found.2 (sym found.1 ∙ yes) in
     let room : have_room (all_retold ready short) (length s.moves) turn ≡ true = ap (λ (ms : List Move). have_room (all_retold ready short) (length ms) turn) (sym moves) ∙ follow.rooms i turn (omega arith) shows in
     elim (follow.alike i turn (omega arith) shows) [
@@ -274,7 +274,7 @@ tell-one m sections past secs clocks short cuts homes ready i turn s kind lines 
               are = found.0;
               homes = homes;
               fits = λ q inside.
-                  fits-same (told q block) (told_same.freq q ∙ same.freq q inside) (told_same.base q ∙ same.base q inside) (told_same.steps q ∙ same.steps q inside) (fits_by clocks q (follow.fits i turn q (omega arith) shows inside));
+                  fits-same (told_pulses q block) (told_same.freq q ∙ same.freq q inside) (told_same.base q ∙ same.base q inside) (told_same.steps q ∙ same.steps q inside) (fits_by clocks q (follow.fits i turn q (omega arith) shows inside));
               whole = λ uncut q inside.
                   sym (ap length (pulses_are q)) ∙ (follow.whole i turn q (omega arith) shows (sym found.1 ∙ uncut) inside ∙ (ap (λ (ms : List Move). length (stepper_plan m clocks ms turn q)) moves ∙ ap length (sym (told_same.steps q ∙ same.steps q inside))));
               room = room;
@@ -288,7 +288,7 @@ tell-one m sections past secs clocks short cuts homes ready i turn s kind lines 
             tells = record {
               are = found.0;
               homes = homes;
-              fits = λ q inside. fits-same (told q block) (told_same.freq q) (told_same.base q) (told_same.steps q) (fits_by short q (own.1 q inside));
+              fits = λ q inside. fits-same (told_pulses q block) (told_same.freq q) (told_same.base q) (told_same.steps q) (fits_by short q (own.1 q inside));
               whole = λ uncut q inside. absurd (let f : true ≡ false = sym yes ∙ sym found.1 ∙ uncut in cc);
               room = room;
             };
@@ -306,7 +306,7 @@ ready-low true turn end low = omega arith
 ready-low false turn end low = omega (arith, low)
 
 tell-all : (m : Machine) (sections : List Section) (clocks short : List Clocks) (cuts : ℕ → Bool) (homes : Bool) (ready : ℕ) → IsValidMachine m → HaveLines m short ready → (secs past : List Section) (i soon : ℕ) (body : List ReportLine) → sections ≡ past ++ secs → i ≡ length past → ready ≤ soon → BeginSection body
-    → AreBehind homes body → AreDue m clocks cuts soon i secs (sections_shown body) → Follow m sections clocks short cuts ready i body → TellAllWithin m (all_retold ready short) i soon secs body
+    → AreOfSections homes body → AreDue m clocks cuts soon i secs (sections_shown body) → Follow m sections clocks short cuts ready i body → TellAllWithin m (all_retold ready short) i soon secs body
 tell-all m sections clocks short cuts homes ready valid one [] past i soon [] are at order begins behind due follow = tt
 tell-all m sections clocks short cuts homes ready valid one (s ∷ secs) past i soon [] are at order begins behind due follow = absurd due
 tell-all m sections clocks short cuts homes ready valid one [] past i soon (report.Section j u h ∷ lines) are at order begins behind due follow = absurd due

@@ -28,17 +28,17 @@ use Rattle.cfg_lines.specs.declared.table.Kind.TheVariants as kinds
 use Rattle.cfg_lines.specs.declared.value.Value.{Value}
 use Rattle.cfg_lines.specs.declared.value.Value.TheVariants as values
 use Rattle.cfg_lines.specs.Faults.{◌>>=◌}
-use Rattle.cfg_lines.specs.Items.{boards_behind, entries, first_fault, has_name, items, meant, opened, option_in, passed_over, place_behind, start, steppers_behind, with_key, with_motor, with_name, with_value}
-use Rattle.cfg_lines.specs.Said.{Said, Nothing, Begins, Continues, Sets, Neither, said}
+use Rattle.cfg_lines.specs.Items.{boards_behind, entries, first_fault, has_name, items, meant, opened, option_in, passed_over, place_behind, first_place, steppers_behind, with_key, with_motor, with_name, with_value}
+use Rattle.cfg_lines.specs.Said.{ConfigurationLine, Nothing, Begins, Continues, Sets, Neither, said}
 use Rattle.cfg_lines.specs.Sections.{behind_text, board_section, drive_of, is_board_name, is_name_byte, section_of, simulated_section, stepper_of, stepper_section, with_digit}
-use Rattle.cfg_lines.specs.Table.{key_named, row_of}
+use Rattle.cfg_lines.specs.Table.{key_named, option_row}
 use Rattle.cfg_lines.specs.Values.{any_position, decimal, inverts, is_microsteps, is_pin_byte, is_pin_name, is_pin_sign, is_whole, is_within, judged, judged_as, microsteps, microsteps_of, offset, offset_within, one_of, pin_of, pin_on, position, spelled, unsigned_pin, whole, whole_within}
 use Rattle.cfg_lines.proofs.Distinct.{AreDistinct, with_name_distinct}
 use Rattle.cfg_text.specs.declared.wiring.Use.{Use}
 use Rattle.cfg_text.specs.Building.{board_defs, fan_def, joined, machine_of, motor_name, pins_on, stepper_def, stepper_defs, wire_of}
 use Rattle.cfg_text.specs.Holding.{last_set, or_earlier, sets}
 use Rattle.cfg_text.specs.Missing.{missing}
-use Rattle.cfg_text.specs.Reading.{assembled, axes, reading, reading_of_items, reading_of_uses, unless}
+use Rattle.cfg_text.specs.Reading.{assembled, axes, machine_of_text, reading_of_items, reading_of_uses, machine_unless}
 use Rattle.cfg_text.specs.Wiring.{all_uses, put, put_some, use_in, use_of, uses_of, wired, wiring_fault, with_pins_of}
 use Rattle.cfg_text.proofs.Parts.{boards_differ}
 use Rattle.laws_report.specs.reports.Names.{HasNames, is_plain, is_word}
@@ -200,7 +200,7 @@ judged-good kinds.Refused text = tt
 
 good-judged : (key : Key) (text : List ℕ) → IsGoodResult (judged key text)
 unfolding judged
-good-judged key text = judged-good (row_of key).kind text
+good-judged key text = judged-good (option_row key).kind text
 
 good-value : (section : Section) (key : Key) (r : Result Value CfgKind) → IsGoodResult r → IsGood (with_value section key r)
 good-value section key (Ok value) good = good
@@ -230,7 +230,7 @@ good-opened sections.Simulation good = tt
 good-opened (sections.Stepper m) good = good
 good-opened sections.Fan good = tt
 
-good-meant : (place : Place) (s : Said) → IsGood (meant place s)
+good-meant : (place : Place) (s : ConfigurationLine) → IsGood (meant place s)
 good-meant place Nothing = tt
 good-meant place (Begins name) = good-opened (section_of name) (good-section name)
 good-meant place Continues = by place.lenient where
@@ -395,7 +395,7 @@ bound : {A B : Type 0} (r : Result A CfgFault) (f : A → Result B CfgFault) (y 
 bound (Ok x) f y e = (x, refl, e)
 bound (Err fault) f y e = cc
 
-after : (o : Option CfgFault) (r : Result Machine CfgFault) (m : Machine) → unless o r ≡ Ok m → r ≡ Ok m
+after : (o : Option CfgFault) (r : Result Machine CfgFault) (m : Machine) → machine_unless o r ≡ Ok m → r ≡ Ok m
 after None r m e = e
 after (Some fault) r m e = cc
 
@@ -488,6 +488,6 @@ read-by : (b : Bool) (r : Result Machine CfgFault) (fault : CfgFault) (m : Machi
 read-by true r fault m e = cc
 read-by false r fault m e = e
 
-pub names-of-reading : (text : List ℕ) (m : Machine) → reading text ≡ Ok m → HasNames m
-unfolding reading
-names-of-reading text m e = named-by (items start (lines_of text)) m (good-items start (lines_of text)) (read-by (nat_lt 1_048_576 (length text)) _ _ m e)
+pub names-of-reading : (text : List ℕ) (m : Machine) → machine_of_text text ≡ Ok m → HasNames m
+unfolding machine_of_text
+names-of-reading text m e = named-by (items first_place (lines_of text)) m (good-items first_place (lines_of text)) (read-by (nat_lt 1_048_576 (length text)) _ _ m e)

@@ -17,7 +17,7 @@ use Rattle.host_reactor.specs.declared.ordered.Begun.{Begun}
 use Rattle.host_reactor.specs.declared.ordered.Known.{Known}
 use Rattle.host_reactor.specs.Notes.{is_out, news_of, noted}
 use Rattle.host_reactor.specs.Reactor.{reacts, unless_ended}
-use Rattle.host_reactor.specs.Report.{drift_line, drift_lines, first_lines, machine_line, place_of, pulse_at, pulse_line, pulse_lines, section_line}
+use Rattle.host_reactor.specs.Report.{drift_line, drift_lines, first_lines, machine_line, stepper_place, pulse_at, pulse_line, pulse_lines, section_line}
 use Rattle.host_reactor.specs.Rows.{IsOwn}
 use Rattle.host_reactor.specs.Running.{any_out, late, or_cause}
 use Rattle.host_reactor.specs.Runs.{Came, known_by}
@@ -87,7 +87,7 @@ pulse_none m b p (Some place) = refl
 
 pulses_none : (m : Machine) (b : ℕ) (ps : List Pulse) → counts_of (flat_map (pulse_line m b) ps) ≡ []
 pulses_none m b [] = refl
-pulses_none m b (p ∷ ps) = both_none (pulse_line m b p) (flat_map (pulse_line m b) ps) (pulse_none m b p (place_of 0 b p.stepper m.steppers)) (pulses_none m b ps)
+pulses_none m b (p ∷ ps) = both_none (pulse_line m b p) (flat_map (pulse_line m b) ps) (pulse_none m b p (stepper_place 0 b p.stepper m.steppers)) (pulses_none m b ps)
 
 states_none : (m : Machine) (b : ℕ) (states : List State) → counts_of (pulse_lines m b states) ≡ []
 states_none m b [] = refl

@@ -53,7 +53,7 @@ use Rattle.laws_run.proofs.home_wholes.Axes.{HasAxis, HaveAxes, have_axes}
 use Rattle.wire_scene.specs.declared.scene.Switch.{Switch}
 use Rattle.laws_report.specs.reports.Checks.{check_cause}
 use Rattle.laws_report.specs.reports.Cuts.{IsCutOf, cuts_in, lines_before, scene_line}
-use Rattle.laws_report.specs.reports.Headline.{kind_of, moves_of, plan_by}
+use Rattle.laws_report.specs.reports.Headline.{section_kind, moves_of, plan_by}
 use Rattle.laws_report.proofs.reports.Homes.{IsCompleteOfMovesBy, ShowsHomes}
 use Rattle.laws_report.specs.reports.Promises.{FollowsPlanBy, sections_over}
 use Rattle.laws_report.specs.reports.Shown.{begins, lines_behind, pulses_in, section_turn, sections_shown}
@@ -90,7 +90,7 @@ begun_kinds i (s ∷ begun) kinds = (kinds.0, begun_kinds (i + 1) begun kinds.1)
 
 -- whether a section of a text homes
 abbrev homes_at : List Section → ℕ → Bool
-homes_at sections j = is_home (kind_of sections j)
+homes_at sections j = is_home (section_kind sections j)
 
 uncut_moves : (k : SectionKind) → is_home k ≡ false → k ≡ Moves
 uncut_moves Moves e = refl
@@ -433,36 +433,36 @@ module _ (m : Machine) (switches : List Switch) (text : List ℕ) (c : Cause) (s
       record { from = d.from; inside = omega (arith, inside, size, many); late = d.late }
 
   -- its cut lines: none in a section of moves, one at most in one that homes, and one there where the next section is shown or the run went through
-  uncut_at : (j turn : ℕ) → section_turn j said ≡ Some turn → kind_of Text j ≡ Moves → cuts_in j said ≡ []
+  uncut_at : (j turn : ℕ) → section_turn j said ≡ Some turn → section_kind Text j ≡ Moves → cuts_in j said ≡ []
   uncut_at j turn e is = shows.cuts.moves j is
 
   one_cut : (j axis : ℕ) → IsCutOf m switches j axis (cuts_in j said) → IsOneCut j (cuts_in j said)
   one_cut j axis one = ((axis_at m axis).board, (axis_at m axis).pin, one.0, scene_line m switches axis one.0, one.1)
 
   one_at : (j turn : ℕ) → section_turn j said ≡ Some turn → (cuts_in j said ≡ []) ⊎ IsOneCut j (cuts_in j said)
-  one_at j turn e = by (kind_of Text j) refl
+  one_at j turn e = by (section_kind Text j) refl
     where
-      by : (k : SectionKind) → kind_of Text j ≡ k → (cuts_in j said ≡ []) ⊎ IsOneCut j (cuts_in j said)
+      by : (k : SectionKind) → section_kind Text j ≡ k → (cuts_in j said ≡ []) ⊎ IsOneCut j (cuts_in j said)
       by Moves is = inl (shows.cuts.moves j is)
       by (Home axis) is = elim (shows.cuts.homes j axis is) [ inl none ↦ inl none | inr one ↦ inr (one_cut j axis one) ]
 
-  ended_at : (j turn : ℕ) → section_turn j said ≡ Some turn → ((next : ℕ) × (section_turn (j + 1) said ≡ Some next)) ⊎ GoesThrough c → is_home (kind_of Text j) ≡ true → IsOneCut j (cuts_in j said)
-  ended_at j turn e why homes = by (kind_of Text j) refl
+  ended_at : (j turn : ℕ) → section_turn j said ≡ Some turn → ((next : ℕ) × (section_turn (j + 1) said ≡ Some next)) ⊎ GoesThrough c → is_home (section_kind Text j) ≡ true → IsOneCut j (cuts_in j said)
+  ended_at j turn e why homes = by (section_kind Text j) refl
     where
-      by : (k : SectionKind) → kind_of Text j ≡ k → IsOneCut j (cuts_in j said)
+      by : (k : SectionKind) → section_kind Text j ≡ k → IsOneCut j (cuts_in j said)
       by Moves is = absurd (let f : false ≡ true = sym (ap is_home is) ∙ homes in cc)
       by (Home axis) is = one_cut j axis (shows.cuts.ended j axis is why)
 
   -- they are small
   cut_small : (j turn : ℕ) → section_turn j said ≡ Some turn → AreSmall m (cuts_in j said)
-  cut_small j turn e = by (kind_of Text j) refl
+  cut_small j turn e = by (section_kind Text j) refl
     where
-      kind_low : (ss : List Section) (i : ℕ) → HaveKinds ss → i < 0 + length ss → IsKind (kind_of ss i)
+      kind_low : (ss : List Section) (i : ℕ) → HaveKinds ss → i < 0 + length ss → IsKind (section_kind ss i)
       kind_low [] i ks lt = absurd (omega (arith, lt))
       kind_low (s ∷ ss) zero ks lt = ks.0
       kind_low (s ∷ ss) (suc i) ks lt = kind_low ss i ks.1 (omega (arith, lt))
 
-      by : (k : SectionKind) → kind_of Text j ≡ k → AreSmall m (cuts_in j said)
+      by : (k : SectionKind) → section_kind Text j ≡ k → AreSmall m (cuts_in j said)
       by Moves is = subst (λ (z : List ReportLine). AreSmall m z) (sym (shows.cuts.moves j is)) tt
       by (Home axis) is = elim (shows.cuts.homes j axis is) [
         | inl none ↦ subst (λ (z : List ReportLine). AreSmall m z) (sym none) tt
@@ -509,7 +509,7 @@ module _ (m : Machine) (switches : List Switch) (text : List ℕ) (c : Cause) (s
   follows = shows.told short.short (λ b h. short-lines m shows.clocks short.short (further_told (map logged said)) shows.last b (short.each b h))
 
   -- by what is told a section of moves is planned as it was where the next one is shown or the run went through: the others hold from behind its end
-  same_plan : (j turn : ℕ) → section_turn j said ≡ Some turn → kind_of Text j ≡ Moves → ((next : ℕ) × (section_turn (j + 1) said ≡ Some next)) ⊎ GoesThrough c → PlansAlike m short.short shows.clocks (moves_of Text j) turn
+  same_plan : (j turn : ℕ) → section_turn j said ≡ Some turn → section_kind Text j ≡ Moves → ((next : ℕ) × (section_turn (j + 1) said ≡ Some next)) ⊎ GoesThrough c → PlansAlike m short.short shows.clocks (moves_of Text j) turn
   unfolding facts
   same_plan j turn e is why =
       let over = shows.over j turn e is why in
@@ -555,15 +555,15 @@ module _ (m : Machine) (switches : List Switch) (text : List ℕ) (c : Cause) (s
             let a = same j at e in
             subst (λ (ps : List Pulse). Fits (clocks_at Told_lines (stepper_at m s).board).first.freq (base_tick m Told_lines at s) ps (stepper_plan m Told_lines (moves_of Text j) at s)) (pulses_are j s)
             (fits-same (pulses_in j s said) (a.freq s) (a.base s) (a.steps s) (follows j at s (turns j ∙ e) inside));
-        ends = λ j at after late e f home. (same j at e).end ∙ (same_plan j at (turns j ∙ e) (uncut_moves (kind_of Text j) home) (inl (after, next j after f))).end;
-        uncut = λ j at late e home. sym (cuts_are j) ∙ uncut_at j at (turns j ∙ e) (uncut_moves (kind_of Text j) home);
+        ends = λ j at after late e f home. (same j at e).end ∙ (same_plan j at (turns j ∙ e) (uncut_moves (section_kind Text j) home) (inl (after, next j after f))).end;
+        uncut = λ j at late e home. sym (cuts_are j) ∙ uncut_at j at (turns j ∙ e) (uncut_moves (section_kind Text j) home);
         one = λ j at late e. subst (λ (z : List ReportLine). (z ≡ []) ⊎ IsOneCut j z) (cuts_are j) (one_at j at (turns j ∙ e));
         ended = λ j at late e why home none.
             let one = ended_at j at (turns j ∙ e) (why_so j why) home in
             let g : [] ≡ report.Cut j one.0 one.1 one.2 one.3 ∷ [] = sym (cuts_are j ∙ none) ∙ one.4 in
             cc;
         whole = λ j at s late e home inside why.
-            let is = uncut_moves (kind_of Text j) home in
+            let is = uncut_moves (section_kind Text j) home in
             let shown_so : GoesThrough c ⊎ IsShown (suc j) From = elim why [ inl g ↦ inl g | inr x ↦ inr x.0 ] in
             let plans = same_plan j at (turns j ∙ e) is (why_so j shown_so) in
             let count : length (pulses_in j s said) ≡ length (plan_by shows.clocks m Text j at s) = elim why [
@@ -648,17 +648,17 @@ module _ (m : Machine) (switches : List Switch) (text : List ℕ) (c : Cause) (s
     begun_all = (shows.all through).1
 
     cut_or_not : (j turn : ℕ) → section_turn j said ≡ Some turn → IsCutOrNot Text (homes_at Text j) j said
-    cut_or_not j turn e = by (kind_of Text j) refl
+    cut_or_not j turn e = by (section_kind Text j) refl
       where
-        by : (k : SectionKind) → kind_of Text j ≡ k → IsCutOrNot Text (homes_at Text j) j said
+        by : (k : SectionKind) → section_kind Text j ≡ k → IsCutOrNot Text (homes_at Text j) j said
         by Moves is = inl (ap is_home is, uncut_at j turn e is)
         by (Home axis) is = inr (ap is_home is, ended_at j turn e (inr through) (ap is_home is), (axis, is))
 
     -- each section of moves is planned as it was, and one that homes is cut
     planned_alike : (j turn : ℕ) → section_turn j said ≡ Some turn → IsPlannedAlike m short.short shows.clocks Text said j turn
-    planned_alike j turn e = by (kind_of Text j) refl
+    planned_alike j turn e = by (section_kind Text j) refl
       where
-        by : (k : SectionKind) → kind_of Text j ≡ k → IsPlannedAlike m short.short shows.clocks Text said j turn
+        by : (k : SectionKind) → section_kind Text j ≡ k → IsPlannedAlike m short.short shows.clocks Text said j turn
         by Moves is = inl (same_plan j turn e is (inr through))
         by (Home axis) is = inr (some_cut Text (homes_at Text j) j said (cut_or_not j turn e) (ap is_home is), λ s lt. follows j turn s e lt)
 
@@ -669,4 +669,4 @@ module _ (m : Machine) (switches : List Switch) (text : List ℕ) (c : Cause) (s
         let order = stands true m shows.clocks shows.ready shows.last Text said valid kinds_are f.apart heads f.sound f.boards told short limits planned_alike in
         let Due : List Section → Type 0 = λ z. AreDue m shows.clocks (homes_at Text) shows.ready 0 z (begun_lines 0 shows.begun) in
         let Shown : List ReportLine → Type 0 = λ z. AreDue m shows.clocks (homes_at Text) shows.ready 0 Text z in
-        cut-checks m text shows.clocks (homes_at Text) shows.ready said c names shows.prefix (λ j turn s e uncut inside. whole j turn s e (uncut_moves (kind_of Text j) uncut) inside) cut_or_not (subst Shown (sym begun_all) (subst Due (shows.all through).0 due)) order on
+        cut-checks m text shows.clocks (homes_at Text) shows.ready said c names shows.prefix (λ j turn s e uncut inside. whole j turn s e (uncut_moves (section_kind Text j) uncut) inside) cut_or_not (subst Shown (sym begun_all) (subst Due (shows.all through).0 due)) order on

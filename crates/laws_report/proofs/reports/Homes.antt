@@ -16,7 +16,7 @@ use Rattle.laws_run.specs.run_headline.Timely.{AreSound}
 use Rattle.laws_run.specs.run_lines.Due.{BoardsHave, StandApart, begun_lines}
 use Rattle.laws_report.specs.reports.Body.{cause_of}
 use Rattle.laws_report.specs.reports.Cuts.{HaveCuts}
-use Rattle.laws_report.specs.reports.Headline.{kind_of, moves_of, plan_by}
+use Rattle.laws_report.specs.reports.Headline.{section_kind, moves_of, plan_by}
 use Rattle.laws_report.specs.reports.Promises.{FollowsPlanBy, lines_line, sections_over}
 use Rattle.laws_report.specs.reports.Shown.{lines_behind, pulses_in, section_turn, sections_shown}
 use Rattle.laws_board.specs.plans.Lines.{pulses_of}
@@ -26,13 +26,13 @@ use Rattle.plan_types.specs.Machines.{stepper_at}
 -- Whole, of the sections of moves among others: there are as many of them as planned steps.
 abbrev pub IsCompleteOfMovesBy : List Clocks → Machine → List Section → List ReportLine → Type 0
 IsCompleteOfMovesBy clocks m sections lines =
-    (i turn s : ℕ) → section_turn i lines ≡ Some turn → kind_of sections i ≡ Moves → s < length m.steppers → length (pulses_in i s lines) ≡ length (plan_by clocks m sections i turn s)
+    (i turn s : ℕ) → section_turn i lines ≡ Some turn → section_kind sections i ≡ Moves → s < length m.steppers → length (pulses_in i s lines) ≡ length (plan_by clocks m sections i turn s)
 
 -- Whole, of the sections of moves before a fault: there are as many of them as planned steps where, behind the line of the next section,
 -- any stepper of the same board has a pulse.
 abbrev pub IsCompleteOfMovesBefore : List Clocks → Machine → List Section → List ReportLine → Type 0
 IsCompleteOfMovesBefore clocks m sections lines =
-    (i turn s other : ℕ) → section_turn i lines ≡ Some turn → kind_of sections i ≡ Moves → s < length m.steppers → other < length m.steppers → (stepper_at m other).board ≡ (stepper_at m s).board →
+    (i turn s other : ℕ) → section_turn i lines ≡ Some turn → section_kind sections i ≡ Moves → s < length m.steppers → other < length m.steppers → (stepper_at m other).board ≡ (stepper_at m s).board →
     pulses_of other (lines_behind (i + 1) lines) ≢ [] → length (pulses_in i s lines) ≡ length (plan_by clocks m sections i turn s)
 
 -- What the lines of a run over links show of a text, of moves or homing, as they were written, with those of pulses.
@@ -77,5 +77,5 @@ pub record ShowsHomes (m : Machine) (switches : List Switch) (text : List ℕ) (
       TellsFurther b (clocks_at clocks b).held last said
   pub first : (i turn : ℕ) → section_turn i said ≡ Some turn → BoardsFirst said
   pub named : (i turn : ℕ) → section_turn i said ≡ Some turn → AreNamed m said
-  pub over : (i turn : ℕ) → section_turn i said ≡ Some turn → kind_of (sections_over m text) i ≡ Moves → ((next : ℕ) × (section_turn (i + 1) said ≡ Some next)) ⊎ GoesThrough c → section_end m clocks (moves_of (sections_over m text) i) turn < last
+  pub over : (i turn : ℕ) → section_turn i said ≡ Some turn → section_kind (sections_over m text) i ≡ Moves → ((next : ℕ) × (section_turn (i + 1) said ≡ Some next)) ⊎ GoesThrough c → section_end m clocks (moves_of (sections_over m text) i) turn < last
   pub told : (short : List Clocks) → ((b : ℕ) → b < length m.boards → AreFirstLines (clocks_at short b) (clocks_at clocks b) last) → FollowsPlanBy short m (sections_over m text) said

@@ -33,7 +33,7 @@ use Rattle.session_run.specs.Reported.{IsReported}
 use Rattle.wire_scene.specs.declared.scene.Scene.{Scene}
 use Rattle.wire_scene.specs.declared.scene.Switch.{Switch}
 use Rattle.laws_board.specs.plans.Lines.{head_in, heads_of}
-use Rattle.laws_board.specs.plans.Planned.{AreToldBy, Plans, Seen, put_of}
+use Rattle.laws_board.specs.plans.Planned.{AreToldBy, Plans, PlannerInput, put_of}
 use Rattle.laws_board.proofs.plans.Spreading.{plans_spread}
 use Rattle.laws_run.specs.run_ends.Boards.{board_in, boards_of}
 use Rattle.laws_run.specs.run_ends.Ends.{GoesThrough}
@@ -81,7 +81,7 @@ use Rattle.laws_report.proofs.reports.Wide.{long_uncut, turn_long, turns_long}
 use Rattle.laws_report.proofs.reports.Limits.{HaveLongCuts}
 
 -- sections that have their line were begun
-begun_some : (m : Machine) (seen : Seen) (clocks : List Clocks) (at : ℕ) (c : Cause) (first : ReactorTurn) (rest : List ReactorTurn) → ShowHomes m seen clocks at c first rest → heads_of (gather (λ t. t.lines) (first ∷ rest)) ≢ [] → seen.begun ≢ []
+begun_some : (m : Machine) (seen : PlannerInput) (clocks : List Clocks) (at : ℕ) (c : Cause) (first : ReactorTurn) (rest : List ReactorTurn) → ShowHomes m seen clocks at c first rest → heads_of (gather (λ t. t.lines) (first ∷ rest)) ≢ [] → seen.begun ≢ []
 begun_some m seen clocks at c first rest shows some none =
     let front = first_heads m seen clocks at first rest (record { late = shows.late; started = shows.started; boards = shows.boards; lines = shows.lines; early = shows.early }) in
     let e : [] ≡ heads_of (gather (λ (t : ReactorTurn). t.lines) (first ∷ rest)) ++ front.0 = sym (ap (begun_lines 0) none) ∙ front.1 in

@@ -30,7 +30,7 @@ use Rattle.laws_run.specs.home_headline.Cuts.{EndsIn, TellEnds, TellsSwitch, cut
 use Rattle.laws_run.proofs.home_headline.Ended.{cut_same}
 use Rattle.laws_report.specs.reports.Cuts.{HaveCuts, IsCutOf, cuts_in, lines_before, scene_line}
 use Rattle.plan_types.specs.Sections.{no_section}
-use Rattle.laws_report.specs.reports.Headline.{kind_of}
+use Rattle.laws_report.specs.reports.Headline.{section_kind}
 use Rattle.laws_report.specs.reports.Shown.{begins, lines_behind, section_turn}
 use Rattle.log_check.specs.Points.{section_at}
 use Rattle.laws_report.proofs.reports.Behind.{AreNumbered, behind_past, next_begun}
@@ -526,7 +526,7 @@ section_here sections more begun j h are =
     let place : j ≡ length past = sym h.place ∙ sym (length-map h.past (λ (x : Started). x.section)) in
     ap (λ (ss : List Section). section_at ss j) all ∙ ap (λ (n : ℕ). section_at (past ++ h.s.section ∷ (later ++ more)) n) place ∙ get_or-append_seam past h.s.section (later ++ more) no_section
 
-pub kind_at : (sections more : List Section) (begun : List Started) (j : ℕ) (h : HasPlace begun j) → sections ≡ map (λ x. x.section) begun ++ more → kind_of sections j ≡ h.s.section.kind
+pub kind_at : (sections more : List Section) (begun : List Started) (j : ℕ) (h : HasPlace begun j) → sections ≡ map (λ x. x.section) begun ++ more → section_kind sections j ≡ h.s.section.kind
 kind_at sections more begun j h are = ap (λ (x : Section). x.kind) (section_here sections more begun j h are)
 
 -- what has no line has no cuts behind it
@@ -554,7 +554,7 @@ none_behind i (report.Fit section stepper many planned early late ∷ lines) e =
 none_behind i (report.End c ∷ lines) e = none_behind i lines e
 
 -- a section that homes is there
-home_inside : (sections : List Section) (i axis : ℕ) → kind_of sections i ≡ Home axis → i < length sections
+home_inside : (sections : List Section) (i axis : ℕ) → section_kind sections i ≡ Home axis → i < length sections
 home_inside [] i axis e = absurd (let f : Moves ≡ Home axis = e in cc)
 home_inside (s ∷ sections) zero axis e = omega arith
 home_inside (s ∷ sections) (suc i) axis e = (let h = home_inside sections i axis e in omega (arith, h))
@@ -575,7 +575,7 @@ module _ (m : Machine) (switches : List Switch) (sections more : List Section) (
   either_at i None e = inl (none_behind i said e)
   either_at i (Some turn) e = inr (place_of begun i (begun_at i turn e))
 
-  own_kind : (i : ℕ) (k : SectionKind) (p : HasPlace begun i) → kind_of sections i ≡ k → p.s.section.kind ≡ k
+  own_kind : (i : ℕ) (k : SectionKind) (p : HasPlace begun i) → section_kind sections i ≡ k → p.s.section.kind ≡ k
   own_kind i k p e = sym (kind_at sections more begun i p of_text) ∙ e
 
   pub have_cuts : HaveCuts m switches c sections said

@@ -66,13 +66,13 @@ use Rattle.std.proofs.lemmas.Grind.{flat_map-append}
 use Rattle.plan_types.specs.Sections.{section_end}
 use Rattle.laws_board.specs.plans.Lines.{head_in, heads_of}
 use Rattle.laws_run.specs.run_headline.Further.{TellFurther}
-use Rattle.laws_board.specs.plans.Planned.{Seen}
+use Rattle.laws_board.specs.plans.Planned.{PlannerInput}
 use Rattle.laws_run.specs.run_lines.Due.{AreFirst, begun_lines}
 use Rattle.laws_run.proofs.run_lines.Further.{Reach, reach}
 use Rattle.laws_run.proofs.run_lines.Heads.{ShowStarts, first_heads, whole_heads}
 use Rattle.laws_run.specs.run_ends.Boards.{counts_of}
 use Rattle.laws_report.specs.reports.Body.{cause_of}
-use Rattle.laws_report.specs.reports.Headline.{kind_of, moves_of}
+use Rattle.laws_report.specs.reports.Headline.{section_kind, moves_of}
 use Rattle.laws_board.proofs.plans.Rows.{begun_row}
 use Rattle.laws_run.specs.home_headline.Cuts.{TellEnds}
 use Rattle.laws_run.specs.home_headline.Follow.{AllShowBegun, AllShowHomes, HaveBegunLines, ShowHomes, ShowBegun}
@@ -145,7 +145,7 @@ planned_at : (m : Machine) (clocks : List Clocks) (ready : ℕ) (past : List Sta
 planned_at m clocks ready [] s later h = h.0.planned
 planned_at m clocks ready (x ∷ past) s later h = planned_at m clocks (x.end + 260) past s later h.1
 
-module _ (m : Machine) (seen : Seen) (text : List ℕ) (first : ReactorTurn) (rest : List ReactorTurn) (spread : Spread 260 seen.begun) (of_text : map (λ s. s.section) seen.begun ≡ take (length seen.begun) (program_sections m seen.text))
+module _ (m : Machine) (seen : PlannerInput) (text : List ℕ) (first : ReactorTurn) (rest : List ReactorTurn) (spread : Spread 260 seen.begun) (of_text : map (λ s. s.section) seen.begun ≡ take (length seen.begun) (program_sections m seen.text))
     (lines : TellTurns m seen.begun 0 (first ∷ rest)) (same : seen.text ≡ text) where
   -- a section's line, with the section that was begun and its turns
   record Part (i turn s : ℕ) : Type 0 where
@@ -161,7 +161,7 @@ module _ (m : Machine) (seen : Seen) (text : List ℕ) (first : ReactorTurn) (re
     ends : (to ≡ length rest) ⊎ NextAt m seen.begun spread s (to + 1) later
     pulses : pulses_of s (lines_between from to rest) ≡ pulses_in i s (gather (λ t. t.lines) (first ∷ rest))
     moves : moves_of (sections_over m text) i ≡ x.section.moves
-    kind : kind_of (sections_over m text) i ≡ x.section.kind
+    kind : section_kind (sections_over m text) i ≡ x.section.kind
 
   sections_of : (past : List Started) (x : Started) (later : List Started) → seen.begun ≡ past ++ x ∷ later → get_or (sections_over m text) (length past) no_section ≡ x.section
   sections_of past x later cut =
@@ -197,11 +197,11 @@ module _ (m : Machine) (seen : Seen) (text : List ℕ) (first : ReactorTurn) (re
         pulses = ap (λ n. pulses_of s (gather (λ (t : ReactorTurn). t.lines) (take n (drop from rest)))) count
             ∙ sym (x.pulses ∙ ap (λ n. pulses_of s (gather (λ (t : ReactorTurn). t.lines) (take x.many (drop n (first ∷ rest))))) place);
         moves = ap (λ n. moves_of (sections_over m text) n) (sym x.place_is) ∙ ap (λ (z : Section). z.moves) (sections_of x.past x.s x.later x.cut);
-        kind = ap (λ n. kind_of (sections_over m text) n) (sym x.place_is) ∙ ap (λ (z : Section). z.kind) (sections_of x.past x.s x.later x.cut);
+        kind = ap (λ n. section_kind (sections_over m text) n) (sym x.place_is) ∙ ap (λ (z : Section). z.kind) (sections_of x.past x.s x.later x.cut);
       }
 
   -- the end of a section of moves
-  part_end : (clocks : List Clocks) (ready : ℕ) → AreStarted m clocks ready seen.begun → (i turn : ℕ) (e : section_turn i (gather (λ t. t.lines) (first ∷ rest)) ≡ Some turn) → kind_of (sections_over m text) i ≡ Moves
+  part_end : (clocks : List Clocks) (ready : ℕ) → AreStarted m clocks ready seen.begun → (i turn : ℕ) (e : section_turn i (gather (λ t. t.lines) (first ∷ rest)) ≡ Some turn) → section_kind (sections_over m text) i ≡ Moves
       → (part_of i turn 0 e).x.end ≡ section_end m clocks (moves_of (sections_over m text) i) turn
   part_end clocks ready started i turn e moves =
       let x = part_of i turn 0 e in
@@ -212,7 +212,7 @@ module _ (m : Machine) (seen : Seen) (text : List ℕ) (first : ReactorTurn) (re
 
   -- a section of moves with its line ended by the last turn, where all did
   part_over : (clocks : List Clocks) (ready : ℕ) → AreStarted m clocks ready seen.begun → All (λ y. y.end + 5 ≤ length rest) seen.begun → (i turn : ℕ) → section_turn i (gather (λ t. t.lines) (first ∷ rest)) ≡ Some turn
-      → kind_of (sections_over m text) i ≡ Moves → section_end m clocks (moves_of (sections_over m text) i) turn < length rest
+      → section_kind (sections_over m text) i ≡ Moves → section_end m clocks (moves_of (sections_over m text) i) turn < length rest
   part_over clocks ready started over i turn e moves =
       let x = part_of i turn 0 e in
       let Over : List Started → Type 0 = λ z. All (λ y. y.end + 5 ≤ length rest) z in
@@ -222,7 +222,7 @@ module _ (m : Machine) (seen : Seen) (text : List ℕ) (first : ReactorTurn) (re
 
   -- and by it where the next section has its line
   part_next : (clocks : List Clocks) (ready : ℕ) → AreStarted m clocks ready seen.begun → (i turn next : ℕ) → section_turn i (gather (λ t. t.lines) (first ∷ rest)) ≡ Some turn → section_turn (i + 1) (gather (λ t. t.lines) (first ∷ rest)) ≡ Some next
-      → kind_of (sections_over m text) i ≡ Moves → section_end m clocks (moves_of (sections_over m text) i) turn < length rest
+      → section_kind (sections_over m text) i ≡ Moves → section_end m clocks (moves_of (sections_over m text) i) turn < length rest
   part_next clocks ready started i turn next e f moves =
       let x = part_of i turn 0 e in
       let y = part_of (i + 1) next 0 f in
@@ -379,12 +379,12 @@ some_turns [] x = (x, [], refl)
 some_turns (y ∷ xs) x = (y, xs ++ x ∷ [], refl)
 
 -- what the turns of a run in which axes may home show
-homes_follow : (m : Machine) (seen : Seen) (clocks : List Clocks) (ready : ℕ) (c : Cause) (text : List ℕ) (first : ReactorTurn) (rest : List ReactorTurn) → Spread 260 seen.begun → ShowHomes m seen clocks ready c first rest → seen.text ≡ text
+homes_follow : (m : Machine) (seen : PlannerInput) (clocks : List Clocks) (ready : ℕ) (c : Cause) (text : List ℕ) (first : ReactorTurn) (rest : List ReactorTurn) → Spread 260 seen.begun → ShowHomes m seen clocks ready c first rest → seen.text ≡ text
     → FollowsPlanBy clocks m (sections_over m text) (gather (λ t. t.lines) (first ∷ rest))
 homes_follow m seen clocks ready c text first rest spread h same = fits_follow m seen text first rest spread h.of_text h.lines same clocks h.fit
 
 -- where the sections of moves of its turns are whole, those of its lines are
-module _ (m : Machine) (seen : Seen) (clocks : List Clocks) (ready : ℕ) (c : Cause) (text : List ℕ) (first : ReactorTurn) (rest : List ReactorTurn) (spread : Spread 260 seen.begun) (h : ShowHomes m seen clocks ready c first rest)
+module _ (m : Machine) (seen : PlannerInput) (clocks : List Clocks) (ready : ℕ) (c : Cause) (text : List ℕ) (first : ReactorTurn) (rest : List ReactorTurn) (spread : Spread 260 seen.begun) (h : ShowHomes m seen clocks ready c first rest)
     (same : seen.text ≡ text) where
   home_piece : (i turn s : ℕ) → section_turn i (gather (λ t. t.lines) (first ∷ rest)) ≡ Some turn → Part m seen text first rest spread h.of_text h.lines same i turn s
   home_piece i turn s e = part_of m seen text first rest spread h.of_text h.lines same i turn s e
@@ -459,7 +459,7 @@ take_in k (suc from) (suc n) [] h = refl
 take_in k (suc from) (suc n) (x ∷ xs) h = take_in k from n xs (omega (arith, h))
 
 -- the section lines of those that were written have their numbers
-pub numbered_said : (m : Machine) (seen : Seen) (clocks : List Clocks) (ready : ℕ) (own : Cause) (first : ReactorTurn) (later : List ReactorTurn) (said rest : List ReportLine) → ShowBegun m seen clocks ready own first later → gather (λ t. t.lines) (first ∷ later) ≡ said ++ rest → AreNumbered 0 (heads_of said)
+pub numbered_said : (m : Machine) (seen : PlannerInput) (clocks : List Clocks) (ready : ℕ) (own : Cause) (first : ReactorTurn) (later : List ReactorTurn) (said rest : List ReportLine) → ShowBegun m seen clocks ready own first later → gather (λ t. t.lines) (first ∷ later) ≡ said ++ rest → AreNumbered 0 (heads_of said)
 numbered_said m seen clocks ready own first later said rest h shown_all =
     let Numbered : List ReportLine → Type 0 = λ z. AreNumbered 0 z in
     let its = begun_heads m seen clocks ready own first later h in
@@ -467,7 +467,7 @@ numbered_said m seen clocks ready own first later said rest h shown_all =
     numbered_front 0 (heads_of said) (heads_of rest) (subst Numbered (ap heads_of shown_all ∙ flat_map-append head_in said rest) all)
 
 -- the cut lines of those that were written
-module _ (m : Machine) (switches : List Switch) (seen : Seen) (clocks : List Clocks) (ready : ℕ) (own c : Cause) (text : List ℕ) (said rest : List ReportLine) (spread : Spread 260 seen.begun) (same : seen.text ≡ text) (through : GoesThrough c → (rest ≡ []) × (c ≡ own)) where
+module _ (m : Machine) (switches : List Switch) (seen : PlannerInput) (clocks : List Clocks) (ready : ℕ) (own c : Cause) (text : List ℕ) (said rest : List ReportLine) (spread : Spread 260 seen.begun) (same : seen.text ≡ text) (through : GoesThrough c → (rest ≡ []) × (c ≡ own)) where
   cuts_shown : (first : ReactorTurn) (later : List ReactorTurn) → ShowBegun m seen clocks ready own first later → TellEnds m switches seen.begun 0 (first ∷ later) → gather (λ t. t.lines) (first ∷ later) ≡ said ++ rest → HaveCuts m switches c (sections_over m text) said
   cuts_shown first later h ends shown_all =
       have_cuts m switches (sections_over m text) (drop (length seen.begun) (sections_over m text)) seen.begun of_sections spread ready (begun_row m clocks ready seen.begun h.started) (first ∷ later) h.lines ends c said rest shown_all
@@ -491,14 +491,14 @@ module _ (m : Machine) (switches : List Switch) (seen : Seen) (clocks : List Clo
   all_cuts (first ∷ later) some h ends shown_all = cuts_shown first later h ends shown_all
 
 -- the pulses of those that were written
-said_follow : (m : Machine) (seen : Seen) (clocks : List Clocks) (ready : ℕ) (own : Cause) (text : List ℕ) (said rest : List ReportLine) → Spread 260 seen.begun → seen.text ≡ text → (first : ReactorTurn) (later : List ReactorTurn)
+said_follow : (m : Machine) (seen : PlannerInput) (clocks : List Clocks) (ready : ℕ) (own : Cause) (text : List ℕ) (said rest : List ReportLine) → Spread 260 seen.begun → seen.text ≡ text → (first : ReactorTurn) (later : List ReactorTurn)
     → ShowHomes m seen clocks ready own first later → gather (λ t. t.lines) (first ∷ later) ≡ said ++ rest → FollowsPlanBy clocks m (sections_over m text) said
 said_follow m seen clocks ready own text said rest spread same first later h shown_all =
     let At : List ReportLine → Type 0 = λ z. FollowsPlanBy clocks m (sections_over m text) z in
     follow_front clocks m text said rest (subst At shown_all (homes_follow m seen clocks ready own text first later spread h same))
 
 -- those that were written show it
-module _ (m : Machine) (switches : List Switch) (seen : Seen) (clocks : List Clocks) (ready : ℕ) (own c : Cause) (text : List ℕ) (said rest : List ReportLine) (spread : Spread 260 seen.begun) (same : seen.text ≡ text) (through : GoesThrough c → (rest ≡ []) × (c ≡ own)) where
+module _ (m : Machine) (switches : List Switch) (seen : PlannerInput) (clocks : List Clocks) (ready : ℕ) (own c : Cause) (text : List ℕ) (said rest : List ReportLine) (spread : Spread 260 seen.begun) (same : seen.text ≡ text) (through : GoesThrough c → (rest ≡ []) × (c ≡ own)) where
   pub homes_shown : (turns : List ReactorTurn) → (x : ReactorTurn) × (xs : List ReactorTurn) × (turns ≡ x ∷ xs) → AllShowHomes m seen clocks ready own turns → HaveCuts m switches c (sections_over m text) said → AllWholeHomes m seen clocks own turns → gather (λ t. t.lines) turns ≡ said ++ rest → ShowsHomes m switches text c said
   homes_shown [] some all cuts wholes shown_all = absurd (let e : [] ≡ some.0 ∷ some.1 = some.2 in cc)
   homes_shown (first ∷ later) some h cuts wholes shown_all = record {
@@ -603,7 +603,7 @@ module _ (m : Machine) (switches : List Switch) (seen : Seen) (clocks : List Clo
       whole g = shown_all ∙ ap (λ z. said ++ z) (through g).0 ∙ append-nil said
 
 -- and what is not of pulses
-module _ (Keeps : Type 0) (m : Machine) (seen : Seen) (clocks : List Clocks) (ready : ℕ) (own c : Cause) (text : List ℕ) (said rest : List ReportLine) (spread : Spread 260 seen.begun) (same : seen.text ≡ text) (through : GoesThrough c → (rest ≡ []) × (c ≡ own)) where
+module _ (Keeps : Type 0) (m : Machine) (seen : PlannerInput) (clocks : List Clocks) (ready : ℕ) (own c : Cause) (text : List ℕ) (said rest : List ReportLine) (spread : Spread 260 seen.begun) (same : seen.text ≡ text) (through : GoesThrough c → (rest ≡ []) × (c ≡ own)) where
   begun_shown : (turns : List ReactorTurn) → (x : ReactorTurn) × (xs : List ReactorTurn) × (turns ≡ x ∷ xs) → AllShowBegun m seen clocks ready own turns → (Keeps → AllShowHomes m seen clocks ready own turns) → gather (λ t. t.lines) turns ≡ said ++ rest → ShowsBegun Keeps m text c said
   begun_shown [] some h homes shown_all = absurd (let e : [] ≡ some.0 ∷ some.1 = some.2 in cc)
   begun_shown (first ∷ later) some h homes shown_all = record {
@@ -656,7 +656,7 @@ module _ (Keeps : Type 0) (m : Machine) (seen : Seen) (clocks : List Clocks) (re
 abbrev BegunSo : Type 0 → Machine → List ℕ → Cause → List ReportLine → Type 0
 BegunSo Keeps m text c said = (begun : ShowsBegun Keeps m text c said) × ((i turn : ℕ) → section_turn i said ≡ Some turn → (b : ℕ) → b < length m.boards → IsTimed begun.clocks begun.ready b)
 
-module _ (Keeps : Type 0) (m : Machine) (seen : Seen) (clocks : List Clocks) (ready : ℕ) (own c : Cause) (text : List ℕ) (said rest : List ReportLine) (spread : Spread 260 seen.begun) (same : seen.text ≡ text) (through : GoesThrough c → (rest ≡ []) × (c ≡ own)) where
+module _ (Keeps : Type 0) (m : Machine) (seen : PlannerInput) (clocks : List Clocks) (ready : ℕ) (own c : Cause) (text : List ℕ) (said rest : List ReportLine) (spread : Spread 260 seen.begun) (same : seen.text ≡ text) (through : GoesThrough c → (rest ≡ []) × (c ≡ own)) where
   front_shown : (turns : List ReactorTurn) → (x : ReactorTurn) × (xs : List ReactorTurn) × (turns ≡ x ∷ xs) → AllShowBegun m seen clocks ready own turns → (Keeps → AllShowHomes m seen clocks ready own turns) → (seen.begun ≢ [] → (b : ℕ) → b < length m.boards → IsTimed clocks ready b) → gather (λ t. t.lines) turns ≡ said ++ rest
       → BegunSo Keeps m text c said
   unfolding begun_shown

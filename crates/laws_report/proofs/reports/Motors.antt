@@ -10,7 +10,7 @@ use Rattle.cfg_lines.specs.declared.section.Drive.{Drive}
 use Rattle.cfg_lines.specs.declared.section.Drive.TheVariants.{X, Y, Z, E}
 use Rattle.cfg_lines.specs.declared.section.Motor.{Motor}
 use Rattle.cfg_lines.specs.Items.{has_motor, has_name, with_motor, with_name}
-use Rattle.cfg_lines.specs.Sections.{number_of, same_motor}
+use Rattle.cfg_lines.specs.Sections.{drive_number, same_motor}
 use Rattle.cfg_text.specs.Building.{letter_of, motor_name}
 use Rattle.laws_report.specs.reports.Names.{is_plain, is_word}
 use Rattle.laws_report.proofs.reports.Naming.{other-text, same-text}
@@ -61,7 +61,7 @@ other-letter name other a b i p q apart =
 
 pub same-name : (x y : Motor) → x.digit < 10 → y.digit < 10 → bytes_eq (motor_name x) (motor_name y) ≡ same_motor x y
 same-name x y p q = by x.drive y.drive where
-  by : (d e : Drive) → bytes_eq (with_digit (letter_of d) x.digit) (with_digit (letter_of e) y.digit) ≡ ((number_of d == number_of e) && (x.digit == y.digit))
+  by : (d e : Drive) → bytes_eq (with_digit (letter_of d) x.digit) (with_digit (letter_of e) y.digit) ≡ ((drive_number d == drive_number e) && (x.digit == y.digit))
   by X X = same-digit (codes "stepper_x") x.digit y.digit p q
   by Y Y = same-digit (codes "stepper_y") x.digit y.digit p q
   by Z Z = same-digit (codes "stepper_z") x.digit y.digit p q

@@ -22,11 +22,11 @@ use Rattle.log_text.specs.declared.line.LogLine.{LogLine}
 use Rattle.log_text.specs.declared.line.LogLine.TheVariants as line
 use Rattle.text_core.specs.Bytes.{Text}
 use Rattle.log_check.specs.declared.further.Further.{Further}
-use Rattle.log_check.specs.Behind.{begun, clocks, further_of, further_said, is_cut, is_ended, pulses, start, told as told_so, told_line, with_further, with_one}
+use Rattle.log_check.specs.Behind.{begun, clocks, further_of, further_said, is_cut, is_ended, pulses, section_start, told_clocks as told_so, told_line, with_further, with_one}
 use Rattle.log_check.specs.Faults.{fault_at, fault_if, have_room, is_short, may_cut, may_follow, may_start, ready}
 use Rattle.log_check.specs.Points.{end_by, plans, plans_by, point, section_at}
 use Rattle.log_check.specs.Verdicts.{verdict}
-use Rattle.laws_report.specs.logs.Follows.{FitsHere, IsNext, IsWholeHere, base_at, freq_at, in_order, plan_at}
+use Rattle.laws_report.specs.logs.Follows.{FitsHere, IsNextSection, IsWholeHere, base_at, freq_at, in_order, plan_at}
 use Rattle.laws_report.proofs.logs.Fitting.{length-in_order}
 use Rattle.laws_report.proofs.logs.Following.{Fine, listed, no-plan, said-listed}
 use Rattle.laws_report.proofs.logs.Standing.{all-done, may-start, never-short, none-board, onto, open-only, pulse-none, section-none, whole-lacks}
@@ -34,8 +34,8 @@ use Rattle.laws_report.specs.reports.Further.{AllMayStand, MayStand, further_tol
 use Rattle.laws_report.specs.reports.Logged.{AreOfRun, IsCauseOn, IsOfRun, logged}
 use Rattle.laws_report.specs.reports.Names.{HasNames}
 use Rattle.laws_report.specs.reports.Spelled.{numbered}
-use Rattle.laws_report.specs.reports.Through.{AreHeads, AreNotes, ArePulses, GoThrough, TellSections, told}
-use Rattle.laws_report.specs.reports.Within.{AreWithin, GoWithin, TellAllWithin, has_cut, ready_behind}
+use Rattle.laws_report.specs.reports.Through.{AreHeads, AreNotes, ArePulses, GoThrough, TellSections, told_pulses}
+use Rattle.laws_report.specs.reports.Within.{AreInSection, GoWithin, TellAllWithin, has_cut, ready_behind}
 use Rattle.laws_report.proofs.reports.Reading.{lines-read, words-said}
 use Rattle.report_text.specs.Text.{report_text}
 use Rattle.text_core.specs.Lines.{lines_of}
@@ -112,7 +112,7 @@ unbegun-append (line.Cut i ∷ xs) ys un and = unbegun-append xs ys un and
 unbegun-append (line.End ∷ xs) ys un and = unbegun-append xs ys un and
 
 -- the first line of those behind a section's, and the others
-first-inner : (i : ℕ) (l : ReportLine) (lines : List ReportLine) → AreWithin i (l ∷ lines) → IsInner i (logged l) × AreWithin i lines
+first-inner : (i : ℕ) (l : ReportLine) (lines : List ReportLine) → AreInSection i (l ∷ lines) → IsInner i (logged l) × AreInSection i lines
 first-inner i (report.Machine corexy boards steppers) lines are = (tt, are)
 first-inner i (report.Board board freq turn tick) lines are = absurd are
 first-inner i (report.Section j turn kind) lines are = absurd are
@@ -126,28 +126,28 @@ first-inner i (report.Count stepper pulses) lines are = absurd are
 first-inner i (report.Fit section stepper pulses planned early late) lines are = absurd are
 first-inner i (report.End c) lines are = absurd are
 
-pulses-unbegun : (i : ℕ) (lines : List ReportLine) → AreWithin i lines → Unbegun (in_order (map logged lines))
+pulses-unbegun : (i : ℕ) (lines : List ReportLine) → AreInSection i lines → Unbegun (in_order (map logged lines))
 pulses-unbegun i [] are = tt
 pulses-unbegun i (l ∷ lines) are = (let h = first-inner i l lines are in unbegun-append (in_order (map logged lines)) (logged l ∷ []) (pulses-unbegun i lines h.1) (inner-unbegun i (logged l) [] h.0 tt))
 
 -- a line before the others
-pub told-more : (s i : ℕ) (l : ReportLine) (lines : List ReportLine) → AreWithin i (l ∷ lines) → told s (l ∷ lines) ≡ in_order (pulses s (logged l ∷ [])) ++ told s lines
+pub told-more : (s i : ℕ) (l : ReportLine) (lines : List ReportLine) → AreInSection i (l ∷ lines) → told_pulses s (l ∷ lines) ≡ in_order (pulses s (logged l ∷ [])) ++ told_pulses s lines
 told-more s i l lines are =
     let h = first-inner i l lines are in
     ap in_order (pulses-append s (in_order (map logged lines)) (logged l ∷ []) (pulses-unbegun i lines h.1)) ∙ in-order-append (pulses s (in_order (map logged lines))) (pulses s (logged l ∷ []))
 
 -- a line more, of one before another
-step-pulses : (s i : ℕ) (l : ReportLine) (lines : List ReportLine) (before : List LogLine) → AreWithin i (l ∷ lines) → in_order (pulses s (logged l ∷ before)) ++ told s lines ≡ in_order (pulses s before) ++ told s (l ∷ lines)
+step-pulses : (s i : ℕ) (l : ReportLine) (lines : List ReportLine) (before : List LogLine) → AreInSection i (l ∷ lines) → in_order (pulses s (logged l ∷ before)) ++ told_pulses s lines ≡ in_order (pulses s before) ++ told_pulses s (l ∷ lines)
 step-pulses s i l lines before are =
     let h = first-inner i l lines are in
     let alone = inner-unbegun i (logged l) [] h.0 tt in
     let one = in_order (pulses s (logged l ∷ [])) in
     let front : in_order (pulses s (logged l ∷ before)) ≡ in_order (pulses s before) ++ one = ap in_order (pulses-append s (logged l ∷ []) before alone) ∙ in-order-append (pulses s (logged l ∷ [])) (pulses s before) in
     let back = told-more s i l lines are in
-    ap (λ (ps : List Pulse). ps ++ told s lines) front ∙ (append_assoc (in_order (pulses s before)) one (told s lines) ∙ ap (λ (ps : List Pulse). in_order (pulses s before) ++ ps) (sym back))
+    ap (λ (ps : List Pulse). ps ++ told_pulses s lines) front ∙ (append_assoc (in_order (pulses s before)) one (told_pulses s lines) ∙ ap (λ (ps : List Pulse). in_order (pulses s before) ++ ps) (sym back))
 
 -- whether one of the lines is a cut line, one line more
-step-cut : (l : ReportLine) (lines : List ReportLine) (before : List LogLine) (i : ℕ) → AreWithin i (l ∷ lines) → (if has_cut lines then true else is_cut (logged l ∷ before)) ≡ (if has_cut (l ∷ lines) then true else is_cut before)
+step-cut : (l : ReportLine) (lines : List ReportLine) (before : List LogLine) (i : ℕ) → AreInSection i (l ∷ lines) → (if has_cut lines then true else is_cut (logged l ∷ before)) ≡ (if has_cut (l ∷ lines) then true else is_cut before)
 step-cut (report.Machine corexy boards steppers) lines before i are = refl
 step-cut (report.Board board freq turn tick) lines before i are = absurd are
 step-cut (report.Section j turn kind) lines before i are = absurd are
@@ -189,7 +189,7 @@ fits-front freq before (x ∷ xs) ys (q ∷ plan) fits = (fits.0, fits-front fre
 record IsOpen (m : Machine) (sections : List Section) (fs : List Further) (lines : List Clocks) (i turn : ℕ) (moves : List Move) (before : List LogLine) : Type 0 where
   going : is_ended before ≡ false
   begun_is : begun before ≡ suc i
-  start_is : start before ≡ turn
+  start_is : section_start before ≡ turn
   lines_are : clocks m fs before ≡ lines
   moves_are : (section_at sections i).moves ≡ moves
 
@@ -205,9 +205,9 @@ open-more m sections fs lines i turn moves before line.End inner o = absurd inne
 -- its plan
 plan-open : (m : Machine) (sections : List Section) (fs : List Further) (lines : List Clocks) (i turn : ℕ) (moves : List Move) (before : List LogLine) (s : ℕ) → IsOpen m sections fs lines i turn moves before → s < length m.steppers → plan_at m sections fs before s ≡ stepper_plan m lines moves turn s
 plan-open m sections fs lines i turn moves before s o inside =
-    ap (λ (n : ℕ). slice_index_or (plans_by m sections (clocks m fs before) n (start before)) s []) o.begun_is
-    ∙ (ap (λ (c : List Clocks). slice_index_or (section_plans m c (section_at sections i).moves (start before)) s []) o.lines_are
-    ∙ (ap (λ (ms : List Move). slice_index_or (section_plans m lines ms (start before)) s []) o.moves_are
+    ap (λ (n : ℕ). slice_index_or (plans_by m sections (clocks m fs before) n (section_start before)) s []) o.begun_is
+    ∙ (ap (λ (c : List Clocks). slice_index_or (section_plans m c (section_at sections i).moves (section_start before)) s []) o.lines_are
+    ∙ (ap (λ (ms : List Move). slice_index_or (section_plans m lines ms (section_start before)) s []) o.moves_are
     ∙ (ap (λ (t : ℕ). slice_index_or (section_plans m lines moves t) s []) o.start_is
     ∙ get_or-map-range_with_len (stepper_plan m lines moves turn) 0 (length m.steppers) s s [] inside (omega arith))))
 
@@ -218,7 +218,7 @@ fits-open m sections fs lines i turn moves before s o inside fits =
     let plan = stepper_plan m lines moves turn s in
     let b = (stepper_at m s).board in
     let At : ℕ → Type 0 = λ t. Fits (clocks_at lines b).first.freq (base_tick m lines t s) ps plan in
-    let By : List Clocks → Type 0 = λ c. Fits (clocks_at c b).first.freq (base_tick m c (start before) s) ps plan in
+    let By : List Clocks → Type 0 = λ c. Fits (clocks_at c b).first.freq (base_tick m c (section_start before) s) ps plan in
     let Of : List Planned → Type 0 = λ p. Fits (freq_at m fs before s) (base_at m fs before s) ps p in
     subst Of (sym (plan-open m sections fs lines i turn moves before s o inside)) (subst By (sym o.lines_are) (subst At (sym o.start_is) fits))
 
@@ -294,29 +294,29 @@ record AreTold (m : Machine) (sections : List Section) (fs : List Further) (line
   fine : Fine m sections fs behind
   open_is : IsOpen m sections fs lines i turn moves behind
   cut_is : is_cut behind ≡ (if has_cut block then true else is_cut before)
-  pulses_are : (s : ℕ) → in_order (pulses s behind) ≡ in_order (pulses s before) ++ told s block
+  pulses_are : (s : ℕ) → in_order (pulses s behind) ≡ in_order (pulses s before) ++ told_pulses s block
 
-section-told : (m : Machine) (sections : List Section) (fs : List Further) (lines : List Clocks) (i turn : ℕ) (moves : List Move) (block : List ReportLine) (before : List LogLine) → IsOpen m sections fs lines i turn moves before → Fine m sections fs before → AllMayStand m before (map logged block) → AreWithin i block → AreOfRun m block
+section-told : (m : Machine) (sections : List Section) (fs : List Further) (lines : List Clocks) (i turn : ℕ) (moves : List Move) (block : List ReportLine) (before : List LogLine) → IsOpen m sections fs lines i turn moves before → Fine m sections fs before → AllMayStand m before (map logged block) → AreInSection i block → AreOfRun m block
     → (has_cut block ≡ true → is_home (section_at sections i).kind ≡ true)
-    → ((s : ℕ) → s < length m.steppers → Fits (clocks_at lines (stepper_at m s).board).first.freq (base_tick m lines turn s) (in_order (pulses s before) ++ told s block) (stepper_plan m lines moves turn s))
+    → ((s : ℕ) → s < length m.steppers → Fits (clocks_at lines (stepper_at m s).board).first.freq (base_tick m lines turn s) (in_order (pulses s before) ++ told_pulses s block) (stepper_plan m lines moves turn s))
     → AreTold m sections fs lines i turn moves before (onto (map logged block) before) block
 section-told m sections fs lines i turn moves [] before o fine stand are of homes fits = record { fine = fine; open_is = o; cut_is = refl; pulses_are = λ s. sym (append-nil (in_order (pulses s before))) }
 section-told m sections fs lines i turn moves (l ∷ block) before o fine stand are of homes fits =
     let h = first-inner i l block are in
     let next = open-more m sections fs lines i turn moves before (logged l) h.0 o in
     let P : ℕ → List Pulse → Type 0 = λ s ps. Fits (clocks_at lines (stepper_at m s).board).first.freq (base_tick m lines turn s) ps (stepper_plan m lines moves turn s) in
-    let fits' : (s : ℕ) → s < length m.steppers → P s (in_order (pulses s (logged l ∷ before)) ++ told s block) = λ s inside. subst (P s) (sym (step-pulses s i l block before are)) (fits s inside) in
-    let here = λ (s : ℕ) (inside : s < length m.steppers). fits-open m sections fs lines i turn moves (logged l ∷ before) s next inside (fits-front _ _ (in_order (pulses s (logged l ∷ before))) (told s block) _ (fits' s inside)) in
+    let fits' : (s : ℕ) → s < length m.steppers → P s (in_order (pulses s (logged l ∷ before)) ++ told_pulses s block) = λ s inside. subst (P s) (sym (step-pulses s i l block before are)) (fits s inside) in
+    let here = λ (s : ℕ) (inside : s < length m.steppers). fits-open m sections fs lines i turn moves (logged l ∷ before) s next inside (fits-front _ _ (in_order (pulses s (logged l ∷ before))) (told_pulses s block) _ (fits' s inside)) in
     let none = inner-none m sections fs i before (logged l) stand.0 h.0 o.going o.begun_is (λ e. homes (line-cuts l block e)) (has-stepper m l of.0) here in
     let later = section-told m sections fs lines i turn moves block (logged l ∷ before) next (none, fine) stand.1 h.1 of.1 (λ e. homes (cut-later l block e)) fits' in
     record { fine = later.fine; open_is = later.open_is; cut_is = later.cut_is ∙ step-cut l block before i are; pulses_are = λ s. later.pulses_are s ∙ step-pulses s i l block before are }
 
 -- all pulses of a section are told
-whole-told : (m : Machine) (sections : List Section) (fs : List Further) (lines : List Clocks) (i turn : ℕ) (moves : List Move) (before behind : List LogLine) (block : List ReportLine) (s : ℕ) → AreTold m sections fs lines i turn moves before behind block → s < length m.steppers → pulses s before ≡ [] → length (told s block) ≡ length (stepper_plan m lines moves turn s)
+whole-told : (m : Machine) (sections : List Section) (fs : List Further) (lines : List Clocks) (i turn : ℕ) (moves : List Move) (before behind : List LogLine) (block : List ReportLine) (s : ℕ) → AreTold m sections fs lines i turn moves before behind block → s < length m.steppers → pulses s before ≡ [] → length (told_pulses s block) ≡ length (stepper_plan m lines moves turn s)
     → IsWholeHere m sections fs behind s
 whole-told m sections fs lines i turn moves before behind block s are inside none whole =
     let count = length-in_order (pulses s behind) in
-    let all : length (in_order (pulses s behind)) ≡ length (told s block) = ap length (are.pulses_are s ∙ ap (λ (ps : List Pulse). in_order ps ++ told s block) none) in
+    let all : length (in_order (pulses s behind)) ≡ length (told_pulses s block) = ap length (are.pulses_are s ∙ ap (λ (ps : List Pulse). in_order ps ++ told_pulses s block) none) in
     let plan = ap length (plan-open m sections fs lines i turn moves behind s are.open_is inside) in
     sym count ∙ all ∙ whole ∙ sym plan
 
@@ -327,7 +327,7 @@ record MayGoOn (m : Machine) (sections : List Section) (fs : List Further) (line
   begun_is : begun before ≡ i
   lines_are : clocks m fs before ≡ lines
   whole : is_cut before ≡ false → (s : ℕ) → s < length m.steppers → IsWholeHere m sections fs before s
-  due : ready (is_cut before) (begun before) (start before) (end_by m sections (clocks m fs before) (begun before) (start before)) ≤ soon
+  due : ready (is_cut before) (begun before) (section_start before) (end_by m sections (clocks m fs before) (begun before) (section_start before)) ≤ soon
 
 -- a section begins
 section-begins : (m : Machine) (sections : List Section) (fs : List Further) (past secs : List Section) (s : Section) (lines : List Clocks) (i soon turn : ℕ) (before : List LogLine) → sections ≡ past ++ s ∷ secs → i ≡ length past → length lines ≡ length m.boards → have_room lines (length s.moves) turn ≡ true → soon + s.dwell ≤ turn
@@ -339,7 +339,7 @@ section-begins m sections fs past secs s lines i soon turn before are at boards 
     let inside : i < length sections = omega (arith, at, count, long) in
     let due = may.due in
     let dwell : (section_at sections i).dwell ≡ s.dwell = ap (λ (x : Section). x.dwell) is in
-    let next : IsNext m sections fs before i turn s.kind = record { number = sym may.begun_is; there = inside; same = sym (ap (λ (x : Section). x.kind) is); due = omega (arith, due, dwell, late) } in
+    let next : IsNextSection m sections fs before i turn s.kind = record { number = sym may.begun_is; there = inside; same = sym (ap (λ (x : Section). x.kind) is); due = omega (arith, due, dwell, late) } in
     let have : have_room (clocks m fs before) (length (section_at sections i).moves) turn ≡ true = ap (λ (c : List Clocks). have_room c (length (section_at sections i).moves) turn) may.lines_are ∙ (ap (λ (x : Section). have_room lines (length x.moves) turn) is ∙ room) in
     let told_boards : length (clocks m fs before) ≡ length m.boards = ap length may.lines_are ∙ boards in
     let short = never-short (is_cut before) (plans m sections fs before) (point m sections fs before).tallies (λ cut. whole-lacks m sections fs before (may.whole cut)) in
@@ -353,12 +353,12 @@ section-over m sections fs lines i turn moves before behind block are uncut whol
     let o = are.open_is in
     let one : begun behind ≡ i + 1 = o.begun_is ∙ omega arith in
     let cut : is_cut behind ≡ has_cut block = are.cut_is ∙ ap (λ (b : Bool). if has_cut block then true else b) uncut ∙ itself (has_cut block) in
-    let end : ready (is_cut behind) (begun behind) (start behind) (end_by m sections (clocks m fs behind) (begun behind) (start behind)) ≡ ready_behind (has_cut block) turn (section_end m lines moves turn) =
-    ap (λ (c : Bool). ready c (begun behind) (start behind) (end_by m sections (clocks m fs behind) (begun behind) (start behind))) cut
-    ∙ (ap (λ (n : ℕ). ready (has_cut block) n (start behind) (end_by m sections (clocks m fs behind) n (start behind))) o.begun_is
-    ∙ (by-cut (has_cut block) (start behind) (section_end m (clocks m fs behind) (section_at sections i).moves (start behind))
-    ∙ (ap (λ (c : List Clocks). ready_behind (has_cut block) (start behind) (section_end m c (section_at sections i).moves (start behind))) o.lines_are
-    ∙ (ap (λ (ms : List Move). ready_behind (has_cut block) (start behind) (section_end m lines ms (start behind))) o.moves_are
+    let end : ready (is_cut behind) (begun behind) (section_start behind) (end_by m sections (clocks m fs behind) (begun behind) (section_start behind)) ≡ ready_behind (has_cut block) turn (section_end m lines moves turn) =
+    ap (λ (c : Bool). ready c (begun behind) (section_start behind) (end_by m sections (clocks m fs behind) (begun behind) (section_start behind))) cut
+    ∙ (ap (λ (n : ℕ). ready (has_cut block) n (section_start behind) (end_by m sections (clocks m fs behind) n (section_start behind))) o.begun_is
+    ∙ (by-cut (has_cut block) (section_start behind) (section_end m (clocks m fs behind) (section_at sections i).moves (section_start behind))
+    ∙ (ap (λ (c : List Clocks). ready_behind (has_cut block) (section_start behind) (section_end m c (section_at sections i).moves (section_start behind))) o.lines_are
+    ∙ (ap (λ (ms : List Move). ready_behind (has_cut block) (section_start behind) (section_end m lines ms (section_start behind))) o.moves_are
     ∙ ap (λ (t : ℕ). ready_behind (has_cut block) t (section_end m lines moves t)) o.start_is)))) in
     record { fine = are.fine; going = o.going; begun_is = one; lines_are = o.lines_are; whole = λ e. whole (sym cut ∙ e); due = omega (arith, end) }
   where
@@ -474,8 +474,8 @@ heads-before m sections fs b (report.End c ∷ lines) before stand are h = absur
 -- the first section may start from the first turn on
 may-begin : (m : Machine) (sections : List Section) (fs : List Further) (lines : List Clocks) (soon n : ℕ) (before : List LogLine) → IsBefore m sections fs n before → clocks m fs before ≡ lines → first_turn ≤ soon → MayGoOn m sections fs lines 0 soon before
 may-begin m sections fs lines soon n before h are low =
-    let first : ready (is_cut before) (begun before) (start before) (end_by m sections (clocks m fs before) (begun before) (start before)) ≡ first_turn =
-    ap (λ (k : ℕ). ready (is_cut before) k (start before) (end_by m sections (clocks m fs before) k (start before))) h.none ∙ at-first (is_cut before) (start before) 0 in
+    let first : ready (is_cut before) (begun before) (section_start before) (end_by m sections (clocks m fs before) (begun before) (section_start before)) ≡ first_turn =
+    ap (λ (k : ℕ). ready (is_cut before) k (section_start before) (end_by m sections (clocks m fs before) k (section_start before))) h.none ∙ at-first (is_cut before) (section_start before) 0 in
     record {
       fine = h.fine;
       going = h.going;
@@ -542,7 +542,7 @@ within-checks m sections lines soon said c valid names go on =
     ap (λ (ws : List (ℕ × List Text)). (verdict m sections (further_said m ws) 0 [] ws).cause) read ∙ (ap (λ (f : List Further). (verdict m sections f 0 [] (numbered m 1 all)).cause) found ∙ h.0)
 
 -- a report of moves goes through so
-pulses-within : (i : ℕ) (lines : List ReportLine) → ArePulses lines → AreWithin i lines × (has_cut lines ≡ false)
+pulses-within : (i : ℕ) (lines : List ReportLine) → ArePulses lines → AreInSection i lines × (has_cut lines ≡ false)
 pulses-within i [] are = (tt, refl)
 pulses-within i (report.Pulse board stepper tick up ∷ lines) are = pulses-within i lines are
 pulses-within i (report.Machine corexy boards steppers ∷ lines) are = pulses-within i lines are

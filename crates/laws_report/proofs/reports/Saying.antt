@@ -31,7 +31,7 @@ use Rattle.report_text.specs.Text.{end_text, kinematics_word, line_text, pin_nam
 use Rattle.report_text.specs.Words.{axis_word, cfg_word, line_word, mesh_word, misfit_word, scene_word, trace_word}
 use Rattle.log_text.specs.declared.line.LogLine.TheVariants as line
 use Rattle.log_text.specs.Names.{board_from, stepper_from}
-use Rattle.log_text.specs.Said.{Said, board_freq, board_tick, board_told, board_turn, counts_passed, counts_with, cut_with, drift_from, drift_tick, drift_told, drift_turn, is_corexy, is_up, kind_of, known, line_said, machine_boards, machine_if, machine_with, pulse_told, pulse_with, same, section_turn, section_with}
+use Rattle.log_text.specs.Said.{Said, board_freq, board_tick, board_told, board_turn, counts_passed, counts_with, cut_with, drift_from, drift_tick, drift_told, drift_turn, is_corexy, is_up, kind_said, board_said, line_said, machine_boards, machine_if, machine_with, pulse_told, pulse_with, same, section_turn, section_with}
 use Rattle.log_text.specs.Words.{is_turn, labelled, number, with_words}
 use Rattle.laws_report.specs.reports.Logged.{IsCauseOn, IsKind, IsOfRun, logged}
 use Rattle.laws_report.specs.reports.Names.{HasNames, is_word}
@@ -280,7 +280,7 @@ section-said m i turn kind long t axis =
     ∙ (ap (λ (n : Option ℕ). section_turn n (Some (turn, kind_words kind))) (number-decimal i long)
     ∙ (ap (section_with i turn) (kind-back kind axis)
     ∙ ok-if (is_turn turn) (Ok (line.Section i turn kind)) (Err BadLine) (is-turn turn t))) where
-      kind-back : (kind : SectionKind) → IsKind kind → kind_of (kind_words kind) ≡ Some kind
+      kind-back : (kind : SectionKind) → IsKind kind → kind_said (kind_words kind) ≡ Some kind
       kind-back Moves k = refl
       kind-back (Home zero) k = refl
       kind-back (Home (suc zero)) k = refl
@@ -309,7 +309,7 @@ cut-said m i board pin tick from names a inside b c =
     ap (λ (n : Option ℕ). cut_with m name n (number (decimal tick)) (number (decimal from))) (number-decimal i a)
     ∙ (ap (λ (n : Option ℕ). cut_with m name (Some i) n (number (decimal from))) (number-decimal tick b)
     ∙ (ap (cut_with m name (Some i) (Some tick)) (number-decimal from c)
-    ∙ ap (λ (n : Option ℕ). known n (line.Cut i)) (board-at m.boards board no_board inside names.boards_differ)))
+    ∙ ap (λ (n : Option ℕ). board_said n (line.Cut i)) (board-at m.boards board no_board inside names.boards_differ)))
 
 drift-said : (m : Machine) (board sent clock from : ℕ) → HasNames m → board < length m.boards → sent < 2 ^ 64 → clock < 2 ^ 64 → from < 2 ^ 64 → line_said m (words_said m (report.Drift board sent clock from)) ≡ Ok (line.Line board sent clock from)
 drift-said m board sent clock from names inside a b c =

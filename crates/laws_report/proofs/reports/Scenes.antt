@@ -21,7 +21,7 @@ use Rattle.wire_scene.specs.declared.scene.Switch.{Switch}
 use Rattle.wire_scene.specs.declared.scene.Way.{Way}
 use Rattle.wire_scene.specs.declared.scene.Way.TheVariants.{Down, Up}
 use Rattle.wire_scene.specs.Entries.{at_board, at_pin, board_from, connect_item, deed_in, entry_item, line_item, meant, meant_by, moment_of, on_line, pin_from, pin_item, pins_on, switch_item}
-use Rattle.wire_scene.specs.Reading.{first_fault, items, reading, scene_of, switch_of, switches_among, unless}
+use Rattle.wire_scene.specs.Reading.{first_fault, items, scene_of_text, scene_of, switch_of, switches_among, scene_unless}
 use Rattle.wire_scene.specs.Words.{number_in}
 use Rattle.laws_report.specs.reports.Read.{IsSceneFor}
 use Rattle.laws_run.proofs.run_limits.Few.{lines_few}
@@ -96,21 +96,21 @@ items_under boards n limit (line ∷ lines) low =
     item_under n limit (meant boards n line) (switches_among (items boards (n + 1) lines)) (omega (arith, low)) (words_at boards n (words_of (before 35 (without_return line)))) (items_under boards (n + 1) limit lines (omega (arith, low)))
 
 -- and one that is read has at most 16 MiB
-read_is : (o : Option SceneFault) (x s : Scene) → unless o x ≡ Ok s → x ≡ s
+read_is : (o : Option SceneFault) (x s : Scene) → scene_unless o x ≡ Ok s → x ≡ s
 read_is None x s e = cc
 read_is (Some fault) x s e = cc
 
-pub read_under : (m : Machine) (text : List ℕ) (s : Scene) → reading m text ≡ Ok s → All (λ w. w.line < 2 ^ 64) s.switches
-unfolding reading
+pub read_under : (m : Machine) (text : List ℕ) (s : Scene) → scene_of_text m text ≡ Ok s → All (λ w. w.line < 2 ^ 64) s.switches
+unfolding scene_of_text
 read_under m text s e = elim (leb_tells (suc 16_777_216) (length text)) [
   | inl p ↦
       let all = items m.boards 1 (lines_of text) in
-      let At_size : Bool → Result Scene SceneFault = λ b. if b then Err (At 0 TooLarge) else unless (first_fault [] [] 1 all) (scene_of all) in
+      let At_size : Bool → Result Scene SceneFault = λ b. if b then Err (At 0 TooLarge) else scene_unless (first_fault [] [] 1 all) (scene_of all) in
       let f : Err (At 0 TooLarge) ≡ Ok s = sym (ap At_size p.0) ∙ e in
       cc
   | inr p ↦
       let all = items m.boards 1 (lines_of text) in
-      let At_size : Bool → Result Scene SceneFault = λ b. if b then Err (At 0 TooLarge) else unless (first_fault [] [] 1 all) (scene_of all) in
+      let At_size : Bool → Result Scene SceneFault = λ b. if b then Err (At 0 TooLarge) else scene_unless (first_fault [] [] 1 all) (scene_of all) in
       let is = read_is (first_fault [] [] 1 all) (scene_of all) s (sym (ap At_size p.0) ∙ e) in
       let few = lines_few text in
       subst (λ (x : Scene). AreUnder (2 ^ 64) x.switches) is (items_under m.boards 1 (2 ^ 64) (lines_of text) (omega (arith, few, p.1)))

@@ -23,7 +23,7 @@ use Rattle.laws_run.specs.run_lines.Due.{BoardsHave, StandApart}
 use Rattle.laws_run.specs.home_headline.Cuts.{cuts_of}
 use Rattle.laws_report.specs.reports.Cuts.{lines_before}
 use Rattle.laws_report.specs.reports.Shown.{begins, lines_behind, section_turn, sections_shown}
-use Rattle.laws_report.specs.reports.Stands.{AreBehind, IsPlannedAlike, StandInOrder}
+use Rattle.laws_report.specs.reports.Stands.{AreOfSections, IsPlannedAlike, StandInOrder}
 use Rattle.laws_report.proofs.reports.Limits.{AreSmall, KeepLimits}
 use Rattle.laws_report.proofs.reports.Shorts.{here_at}
 
@@ -79,7 +79,7 @@ are_heads homes m ready b cs (report.Fit section stepper pulses planned early la
 are_heads homes m ready b cs (report.End c ∷ lines) told uncut none still boards = absurd told.0
 
 -- and those from it on
-pub are_behind : (homes : Bool) (m : Machine) (lines : List ReportLine) → AreTold homes m lines → boards_of lines ≡ [] → AreBehind homes lines
+pub are_behind : (homes : Bool) (m : Machine) (lines : List ReportLine) → AreTold homes m lines → boards_of lines ≡ [] → AreOfSections homes lines
 are_behind homes m [] told none = tt
 are_behind homes m (report.Machine corexy many others ∷ lines) told none = are_behind homes m lines told.1 none
 are_behind homes m (report.Board board freq turn tick ∷ lines) told none = absurd (let e : report.Board board freq turn tick ∷ boards_of lines ≡ [] = none in cc)

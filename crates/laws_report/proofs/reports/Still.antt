@@ -13,7 +13,7 @@ use Rattle.wire_scene.specs.declared.scene.Entry.{Entry}
 use Rattle.step_feed.specs.Units.{StepUnit}
 use Rattle.board_sim.specs.Fair.{Meant}
 use Rattle.board_world.specs.Orders.{plain, units_orders}
-use Rattle.board_world.specs.World.{Core, Step, run, start}
+use Rattle.board_world.specs.World.{Core, Step, run_world, new_world}
 use Rattle.link_work.specs.Runs.{queued_in}
 use Rattle.link_work.specs.Stands.{first_state}
 use Rattle.link_work.specs.Turn.{LinkState, Orders}
@@ -21,7 +21,7 @@ use Rattle.section_units.specs.Sections.{BoardSection, IsSection, of_stepper}
 use Rattle.step_feed.specs.Pacing.{units_of}
 use Rattle.laws_board.specs.sections.Events.{AreTurnsOf}
 use Rattle.laws_board.specs.sections.Links.{AreTold, pulses_in, steps_of, turns_told}
-use Rattle.laws_board.specs.sections.Parts.{AreOrdersOf, AreTracked, IsControl, IsRun, MakesIn}
+use Rattle.laws_board.specs.sections.Parts.{AreOrdersOf, AreTracked, IsControl, IsBoardRun, MakesIn}
 use Rattle.laws_board.specs.sections.Timely.{AreTimely, TakesSoon}
 use Rattle.laws_board.proofs.sections.Unmoved as unmoved
 use Rattle.laws_board.proofs.sections.Lasting.{controls_timely}
@@ -64,7 +64,7 @@ takes_none n all own turn [] steps h t low = tt
 takes_none n all own turn (o ∷ os) steps h t low =
     let none : 0 ≡ turn - n = omega (arith, low) in
     let Took : ℕ → Type 0 = λ k. (more : List Meant) × (flat_map queued_in (take k all) ++ more ≡ h.taken) in
-    (subst Took none (h.taken, refl), takes_none n all own (turn + 1) os t.1 (run t.0 h) t.4 (omega (arith, low)))
+    (subst Took none (h.taken, refl), takes_none n all own (turn + 1) os t.1 (run_world t.0 h) t.4 (omega (arith, low)))
 
 -- a clock line that a board may have
 abbrev some_clocks : BoardDef → Clocks
@@ -83,7 +83,7 @@ still_tracked b own v =
       ahead = λ k low high. absurd (omega (arith, low, high));
     }
 
-still_run : (b : BoardDef) (own : ℕ → ℕ) (os : List Orders) → IsValidBoard b → AreStill os → IsRun own (some_clocks b) b.freq b.slots 1 [] os
+still_run : (b : BoardDef) (own : ℕ → ℕ) (os : List Orders) → IsValidBoard b → AreStill os → IsBoardRun own (some_clocks b) b.freq b.slots 1 [] os
 still_run b own os v still =
     let Section : BoardSection → Type 0 = λ s. IsSection (some_clocks b) b.freq b.slots s in
     record {
@@ -95,11 +95,11 @@ still_run b own os v still =
     }
 
 -- such a board makes no pulses
-none_made : (b : BoardDef) (pins : List (List Level)) (os : List Orders) (steps : List Step) → IsValidBoard b → AreStill os → AreTurnsOf (board_tick (clock_of b)) 0 os steps → (run steps (start b pins)).made ≡ (start b pins).made
+none_made : (b : BoardDef) (pins : List (List Level)) (os : List Orders) (steps : List Step) → IsValidBoard b → AreStill os → AreTurnsOf (board_tick (clock_of b)) 0 os steps → (run_world steps (new_world b pins)).made ≡ (new_world b pins).made
 none_made b pins os steps v still turns =
     let own = board_tick (clock_of b) in
     let ticks = valid_ticks b v in
-    let timely = lasting_timely b pins own (length os) os steps turns ticks (first_tick b) (still_lasting own (length os) os still) (takes_none (length os) os own 0 os steps (start b pins) turns (omega arith)) in
+    let timely = lasting_timely b pins own (length os) os steps turns ticks (first_tick b) (still_lasting own (length os) os still) (takes_none (length os) os own 0 os steps (new_world b pins) turns (omega arith)) in
     unmoved.none_made b pins own (some_clocks b) 1 os steps ticks (first_tick b) (still_run b own os v still) turns timely
 
 no_pulses : (ps : List Pulse) (states : List State) → ps ++ pulses_in states ≡ [] → (ps ≡ []) × (pulses_in states ≡ [])

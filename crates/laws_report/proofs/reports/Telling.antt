@@ -18,7 +18,7 @@ use Rattle.clock_line.proofs.Turns.{last_from-above}
 use Rattle.log_text.specs.declared.line.LogLine.{LogLine}
 use Rattle.log_text.specs.declared.line.LogLine.TheVariants as line
 use Rattle.log_check.specs.declared.further.Further.{Further}
-use Rattle.log_check.specs.Behind.{clocks, told, told_line, with_further}
+use Rattle.log_check.specs.Behind.{clocks, told_clocks, told_line, with_further}
 use Rattle.log_check.specs.Faults.{may_follow}
 use Rattle.laws_report.proofs.logs.Standing.{onto}
 use Rattle.laws_report.specs.reports.Further.{AllMayStand, further_told}
@@ -268,7 +268,7 @@ either : (a b : ℕ) {P : Type 0} → (a ≡ b → P) → ((a ≡ b → ⊥) →
 either a b f g = elim (eqb_tells a b) [ inl p ↦ f p.1 | inr p ↦ g p.1 ]
 
 -- behind the boards' lines each further one may stand
-stand-behind : (m : Machine) (lines now : List Clocks) (ls before : List LogLine) → NoneBoards ls → told m before ≡ now → length now ≡ length lines → ((b : ℕ) → b < length lines → HoldWell m b (clocks_at lines b).first (clocks_at lines b).held) → ((b : ℕ) → b < length lines → IsLeft lines now (further_told ls) b) → AreAmong (length lines) (further_told ls)
+stand-behind : (m : Machine) (lines now : List Clocks) (ls before : List LogLine) → NoneBoards ls → told_clocks m before ≡ now → length now ≡ length lines → ((b : ℕ) → b < length lines → HoldWell m b (clocks_at lines b).first (clocks_at lines b).held) → ((b : ℕ) → b < length lines → IsLeft lines now (further_told ls) b) → AreAmong (length lines) (further_told ls)
     → AllMayStand m before ls
 stand-behind m lines now [] before none is long ok left among = tt
 stand-behind m lines now (line.Note ∷ ls) before none is long ok left among = (tt, stand-behind m lines now ls (line.Note ∷ before) none is long ok left among)
@@ -286,8 +286,8 @@ stand-behind m lines now (line.Line b turn tick from ∷ ls) before none is long
     let c = added_where (clocks_at now b) from (told_line m b turn tick) in
     let next = set now b c in
     let count : length next ≡ length now = length-set now b c in
-    let grown : told m (line.Line b turn tick from ∷ before) ≡ next = ap (λ (z : List Clocks). set z b (added_where (clocks_at z b) from (told_line m b turn tick))) is in
-    let stands : may_follow m (told m before) b turn tick from ≡ true = ap (λ (z : List Clocks). may_follow m z b turn tick from) is ∙ both-true (nat_lt b (length now)) (may_hold (clocks_at now b) from (told_line m b turn tick)) (lt-true b (length now) inside) one.may in (
+    let grown : told_clocks m (line.Line b turn tick from ∷ before) ≡ next = ap (λ (z : List Clocks). set z b (added_where (clocks_at z b) from (told_line m b turn tick))) is in
+    let stands : may_follow m (told_clocks m before) b turn tick from ≡ true = ap (λ (z : List Clocks). may_follow m z b turn tick from) is ∙ both-true (nat_lt b (length now)) (may_hold (clocks_at now b) from (told_line m b turn tick)) (lt-true b (length now) inside) one.may in (
       stands,
       stand-behind m lines next ls (line.Line b turn tick from ∷ before) none grown (count ∙ long) ok
           (λ k low. either k b {P = IsLeft lines next fs k} (λ same. subst (λ (n : ℕ). IsLeft lines next fs n) (sym same) one.left) (λ other. left-other lines now fs b k f c refl other (left k low))) among.1,
@@ -316,14 +316,14 @@ pub record TellLines (m : Machine) (lines : List Clocks) (ls before : List LogLi
   pub furthers : (b : ℕ) → b < length lines → of_board b (further_told ls) ≡ held_told b (clocks_at lines b).held
   pub among : AreAmong (length lines) (further_told ls)
 
-begin-behind : (m : Machine) (lines : List Clocks) (b turn tick from : ℕ) (ls before : List LogLine) → told m before ≡ clocks m [] before → TellLines m lines (line.Line b turn tick from ∷ ls) before → AllMayStand m before (line.Line b turn tick from ∷ ls)
+begin-behind : (m : Machine) (lines : List Clocks) (b turn tick from : ℕ) (ls before : List LogLine) → told_clocks m before ≡ clocks m [] before → TellLines m lines (line.Line b turn tick from ∷ ls) before → AllMayStand m before (line.Line b turn tick from ∷ ls)
 begin-behind m lines b turn tick from ls before is t =
     let all = line.Line b turn tick from ∷ ls in
-    let now : told m before ≡ map alone lines = is ∙ sym (none-more m all before t.order) ∙ t.firsts in
+    let now : told_clocks m before ≡ map alone lines = is ∙ sym (none-more m all before t.order) ∙ t.firsts in
     stand-behind m lines (map alone lines) all before t.order now (length-map lines alone) t.well
     (λ k low. record { done = []; rest = (clocks_at lines k).held; now_is = get_or-map alone lines k _ _ low; are = refl; left = t.furthers k low }) t.among
 
-pub all-stand : (m : Machine) (lines : List Clocks) (ls before : List LogLine) → told m before ≡ clocks m [] before → TellLines m lines ls before → AllMayStand m before ls
+pub all-stand : (m : Machine) (lines : List Clocks) (ls before : List LogLine) → told_clocks m before ≡ clocks m [] before → TellLines m lines ls before → AllMayStand m before ls
 all-stand m lines [] before is t = tt
 all-stand m lines (line.Note ∷ ls) before is t = (tt, all-stand m lines ls (line.Note ∷ before) is (record { firsts = t.firsts; order = t.order; well = t.well; furthers = t.furthers; among = t.among }))
 all-stand m lines (line.Board b turn tick ∷ ls) before is t =

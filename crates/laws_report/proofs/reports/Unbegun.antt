@@ -45,7 +45,7 @@ use Rattle.session_work.specs.declared.table.ReactorTurn.{ReactorTurn}
 use Rattle.session_work.specs.Heads.{IsRow}
 use Rattle.session_work.specs.Rows.{gather, item}
 use Rattle.session_run.specs.Boards.{AreReactorTurns, came_from, came_in}
-use Rattle.laws_run.specs.lanes.Boards.{behind, orders_of, states_of}
+use Rattle.laws_run.specs.lanes.Boards.{turns_behind, orders_of, states_of}
 use Rattle.laws_board.specs.plans.Boards.{TookStates}
 use Rattle.laws_run.specs.lanes.Turns.{came_before}
 use Rattle.laws_board.specs.plans.Given.{TookControls}
@@ -440,7 +440,7 @@ module _ (m : Machine) (v : IsValidMachine m) (s : Scene) (ts : List MotionTurn)
     board_still b h =
         let w = f.boards b first rest h refl in
         let pins = pins_of (board_at m b) b s.switches in
-        let turns = behind [] w.made in
+        let turns = turns_behind [] w.made in
         let valid = valid_at m.boards b h v.boards in
         let run_first : IsInRun m s.switches pins s.entries b (came_before [] (first ∷ rest ++ end ∷ [])) turns = record { board = h; goes_on = w.goes_on; turns_are = w.turns_are; both = w.both; in_range = w.in_range } in
         let Run : List Came → Type 0 = λ z. IsInRun m s.switches pins s.entries b z turns in

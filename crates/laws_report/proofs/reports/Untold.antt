@@ -27,7 +27,7 @@ use Rattle.host_reactor.specs.declared.ordered.Known.{Known}
 use Rattle.host_reactor.specs.declared.ordered.Phase.TheVariants.{Connecting, Running}
 use Rattle.host_reactor.specs.Notes.{noted}
 use Rattle.host_reactor.specs.Reactor.{Reacted}
-use Rattle.host_reactor.specs.Runs.{Came, known_by, last_turn}
+use Rattle.host_reactor.specs.Runs.{Came, known_by, last_reacted}
 use Rattle.laws_board.specs.turns.Turns.{BoardTurn}
 use Rattle.laws_board.specs.clocks.Runs.{IsInRun}
 use Rattle.laws_board.specs.clocks.Samples.{IsSampled, line_at, lines_told}
@@ -42,10 +42,10 @@ use Rattle.session_work.specs.declared.table.ReactorTurn.{ReactorTurn}
 use Rattle.session_work.specs.Leads.{last_words}
 use Rattle.session_work.specs.Rows.{gather}
 use Rattle.session_run.specs.Boards.{AreReactorTurns, came_from, came_in}
-use Rattle.laws_run.specs.lanes.Boards.{behind}
+use Rattle.laws_run.specs.lanes.Boards.{turns_behind}
 use Rattle.laws_run.specs.lanes.Turns.{came_before}
 use Rattle.laws_board.specs.plans.Planned as planned
-use Rattle.laws_board.specs.plans.Planned.{Plans, heard_in, put_of, words_in}
+use Rattle.laws_board.specs.plans.Planned.{Plans, connecting_heard, put_of, words_in}
 use Rattle.laws_run.proofs.run_ends.Connecting as connecting
 use Rattle.laws_run.proofs.run_headline.Boarded.{came_cut, came_split}
 use Rattle.laws_run.proofs.run_headline.Facts.{came_long, turns_cut}
@@ -64,9 +64,9 @@ record Ended (m : Machine) (switches : List Switch) (before : List Came) (rs : L
   turn : ReactorTurn
   later : List ReactorTurn
   are : rs ≡ past ++ turn ∷ later
-  goes_on : (last_turn m switches (came_in turn) (came_from before past)).ordered.end ≡ None
-  word_is : turn.word ≡ (last_turn m switches (came_in turn) (came_from before past)).ordered.word
-  ends : connecting.Connects (noted m turn.note (known_by m switches (came_from before past))) (length (came_from before past)) (last_turn m switches (came_in turn) (came_from before past))
+  goes_on : (last_reacted m switches (came_in turn) (came_from before past)).ordered.end ≡ None
+  word_is : turn.word ≡ (last_reacted m switches (came_in turn) (came_from before past)).ordered.word
+  ends : connecting.Connects (noted m turn.note (known_by m switches (came_from before past))) (length (came_from before past)) (last_reacted m switches (came_in turn) (came_from before past))
 
 find_ended : (m : Machine) (switches : List Switch) (before : List Came) (rs : List ReactorTurn) → AreReactorTurns m switches before rs → (known_by m switches before).phase ≡ Connecting → (known_by m switches (came_from before rs)).phase ≡ Running → Ended m switches before rs
 find_ended m switches before [] h p q = absurd (let e : Connecting ≡ Running = sym p ∙ q in cc)
@@ -133,17 +133,17 @@ words_cut [] turn later = refl
 words_cut (r ∷ past) turn later = ap (λ (z : List WordMsg). r.word ∷ z) (words_cut past turn later)
 
 -- what is told of connecting stays so
-heard_some : (m : Machine) (k : ℕ) (ws : List WordMsg) (t : Told) → heard_in m k ws (Some t) ≡ Some t
+heard_some : (m : Machine) (k : ℕ) (ws : List WordMsg) (t : Told) → connecting_heard m k ws (Some t) ≡ Some t
 heard_some m k [] t = refl
 heard_some m k (w ∷ ws) t = heard_some m k ws t
 
-word_heard : (m : Machine) (k : ℕ) (w : WordMsg) (ws : List WordMsg) (clocks : List Clocks) → told_of m w ≡ Some clocks → Among w ws → (o : Option Told) → heard_in m k ws o ≡ None → ⊥
+word_heard : (m : Machine) (k : ℕ) (w : WordMsg) (ws : List WordMsg) (clocks : List Clocks) → told_of m w ≡ Some clocks → Among w ws → (o : Option Told) → connecting_heard m k ws o ≡ None → ⊥
 word_heard m k w [] clocks tells among o e = among
 word_heard m k w (x ∷ ws) clocks tells among (Some t) e = (let f : Some t ≡ None = sym (heard_some m k ws t) ∙ e in cc)
 word_heard m k w (x ∷ ws) clocks tells (inl same) None e =
     let own : told_of m x ≡ Some clocks = ap (told_of m) same ∙ tells in
     let t : Told = record { first = first_start (max k x.turn); clocks = clocks } in
-    let At : Option (List Clocks) → Type 0 = λ o. heard_in m k ws (told_at (max k x.turn) o) ≡ None in
+    let At : Option (List Clocks) → Type 0 = λ o. connecting_heard m k ws (told_at (max k x.turn) o) ≡ None in
     let f : Some t ≡ None = sym (heard_some m k ws t) ∙ subst At own e in
     cc
 word_heard m k w (x ∷ ws) clocks tells (inr among) None e = word_heard m k w ws clocks tells among (heard m k x None) e
@@ -156,9 +156,9 @@ told_some m k (x ∷ ts) t e =
 
 made_told : (m : Machine) (k : ℕ) (ts : List MotionTurn) (w : WordMsg) (clocks : List Clocks) → told_of m w ≡ Some clocks → Among w (words_in ts) → planned.told_of m k ts None ≡ None → ⊥
 made_told m k [] w clocks tells among e = among
-made_told m k (t ∷ ts) w clocks tells among e = by (heard_in m k t.words None) refl (among_either w t.words (words_in ts) among) (λ a f. made_told m (k + 1) ts w clocks tells a f)
+made_told m k (t ∷ ts) w clocks tells among e = by (connecting_heard m k t.words None) refl (among_either w t.words (words_in ts) among) (λ a f. made_told m (k + 1) ts w clocks tells a f)
   where
-    by : (o : Option Told) → heard_in m k t.words None ≡ o → Among w t.words ⊎ Among w (words_in ts) → (Among w (words_in ts) → planned.told_of m (k + 1) ts None ≡ None → ⊥) → ⊥
+    by : (o : Option Told) → connecting_heard m k t.words None ≡ o → Among w t.words ⊎ Among w (words_in ts) → (Among w (words_in ts) → planned.told_of m (k + 1) ts None ≡ None → ⊥) → ⊥
     by (Some y) is a later =
         let Behind : Option Told → Type 0 = λ o. planned.told_of m (k + 1) ts (told_on t.note.news o) ≡ None in
         told_some m (k + 1) ts (record { first = y.first; clocks = noted_lines t.note.news y.clocks }) (subst Behind is e)
@@ -180,12 +180,12 @@ word_tells m w k lines at low news fit =
 
 module _ (m : Machine) (v : IsValidMachine m) (s : Scene) (ts : List MotionTurn) (p : Plans m (length m.boards) ts) (end : ReactorTurn) (c : Cause) (first : ReactorTurn) (rest : List ReactorTurn) (f : Facts m s ts (first ∷ rest) end c) (untold : p.seen.told ≡ None) where
   -- a board's line, where connecting ended in a turn, is that of a sample
-  board_sampled : (past : List ReactorTurn) (turn : ReactorTurn) (later : List ReactorTurn) (lines : List Line) → first ∷ rest ≡ past ++ turn ∷ later → (last_turn m s.switches (came_in turn) (came_from [] past)).ordered.word.news ≡ word.Lines lines ∷ []
+  board_sampled : (past : List ReactorTurn) (turn : ReactorTurn) (later : List ReactorTurn) (lines : List Line) → first ∷ rest ≡ past ++ turn ∷ later → (last_reacted m s.switches (came_in turn) (came_from [] past)).ordered.word.news ≡ word.Lines lines ∷ []
       → (b : ℕ) → b < length m.boards → (l : Line) → line_at b lines ≡ l ∷ [] → is_fit (get_or m.boards b no_board) (length (came_from [] past)) l ≡ true
   board_sampled past turn later lines are news b low l at =
       let w = f.boards b first rest low refl in
       let pins = pins_of (board_at m b) b s.switches in
-      let turns = behind [] w.made in
+      let turns = turns_behind [] w.made in
       let before = came_from [] past in
       let clock = clock_of (board_at m b) in
       let Run : List Came → Type 0 = λ z. IsInRun m s.switches pins s.entries b z turns in
@@ -216,7 +216,7 @@ module _ (m : Machine) (v : IsValidMachine m) (s : Scene) (ts : List MotionTurn)
       let r = known_by m s.switches before in
       let now = noted m e.turn.note r in
       let lines = e.ends.lines in
-      let y = last_turn m s.switches (came_in e.turn) before in
+      let y = last_reacted m s.switches (came_in e.turn) before in
       let goes = turning.goes m s.switches r k e.turn.states e.turn.note e.goes_on in
       let same = told_lines m now k e.turn.states y lines goes e.ends.news e.ends.before in
       let askings = ready_all m 0 (listen_all now.askings.items e.turn.states) in

@@ -20,7 +20,7 @@ use Rattle.session_run.specs.Reported.{IsReported}
 use Rattle.wire_scene.specs.declared.scene.Scene.{Scene}
 use Rattle.laws_board.specs.causes.Short.{HaveShortDictionaries}
 use Rattle.laws_board.specs.plans.Lines.{TellTurns}
-use Rattle.laws_board.specs.plans.Planned.{Plans, Seen}
+use Rattle.laws_board.specs.plans.Planned.{Plans, PlannerInput}
 use Rattle.laws_board.proofs.plans.Spreading.{plans_spread}
 use Rattle.laws_run.specs.run_ends.Ends.{GoesThrough}
 use Rattle.laws_run.specs.run_headline.Timely.{clocks_heard, ready_heard}
@@ -40,12 +40,12 @@ use Rattle.laws_report.proofs.reports.Inside.{have_cuts}
 use Rattle.laws_report.proofs.reports.Linked.{KeepsUp, front_written, homes_shown, lines_of, none_through, none_written, numbered_said, some_turns}
 
 -- the section lines of sections that were begun
-lines_begun : (m : Machine) (seen : Seen) (clocks : List Clocks) (ready : ℕ) (own : Cause) (turns : List ReactorTurn) → AllShowBegun m seen clocks ready own turns → TellTurns m seen.begun 0 turns
+lines_begun : (m : Machine) (seen : PlannerInput) (clocks : List Clocks) (ready : ℕ) (own : Cause) (turns : List ReactorTurn) → AllShowBegun m seen clocks ready own turns → TellTurns m seen.begun 0 turns
 lines_begun m seen clocks ready own [] h = tt
 lines_begun m seen clocks ready own (first ∷ later) h = h.lines
 
 -- the cut lines of a front of a run
-front_cuts : (m : Machine) (s : Scene) (seen : Seen) (clocks : List Clocks) (ready : ℕ) (own c : Cause) (text : List ℕ) (said rest : List ReportLine) (turns : List ReactorTurn) → (x : ReactorTurn) × (xs : List ReactorTurn) × (turns ≡ x ∷ xs) → seen.text ≡ text → (GoesThrough c → ⊥)
+front_cuts : (m : Machine) (s : Scene) (seen : PlannerInput) (clocks : List Clocks) (ready : ℕ) (own c : Cause) (text : List ℕ) (said rest : List ReportLine) (turns : List ReactorTurn) → (x : ReactorTurn) × (xs : List ReactorTurn) × (turns ≡ x ∷ xs) → seen.text ≡ text → (GoesThrough c → ⊥)
     → AllShowBegun m seen clocks ready own turns → AreSwitched m s.switches seen.begun turns → lines_of turns ≡ said ++ rest → HaveCuts m s.switches c (sections_over m text) said
 front_cuts m s seen clocks ready own c text said rest [] some same not h switched are = absurd (let e : [] ≡ some.0 ∷ some.1 = some.2 in cc)
 front_cuts m s seen clocks ready own c text said rest (first ∷ later) some same not h switched are =

@@ -33,7 +33,7 @@ use Rattle.trigger_group.specs.declared.round.Phase.TheVariants.{Goes, Rests, Se
 use Rattle.trigger_group.specs.declared.round.Phase.{Phase as GroupPhase}
 use Rattle.trigger_group.specs.declared.seen.Fired.{Fired}
 use Rattle.trigger_group.specs.declared.seen.Seen.{Seen}
-use Rattle.trigger_group.specs.Group.{GroupState, after_in, all_fired, answer, came, ended, expired, first, first_expired, first_switched, hears_from, later, new_group, or_else, or_none, phase, switched, unseen}
+use Rattle.trigger_group.specs.Group.{GroupState, after_in, all_fired, answer, came, ended, expired, first_fired, first_expired, first_switched, hears_from, later, new_group, or_else, or_none, phase, switched, unseen}
 use Rattle.trigger_group.specs.Kept.{may_be}
 use Rattle.axis_homing.specs.declared.homing.Homing.{Homing}
 use Rattle.axis_homing.specs.declared.homing.HomingTurn.{HomingTurn}
@@ -45,7 +45,7 @@ use Rattle.host_reactor.specs.declared.ordered.Known.{Known}
 use Rattle.host_reactor.specs.declared.ordered.Phase.{Phase}
 use Rattle.host_reactor.specs.declared.ordered.Phase.TheVariants.{Connecting, Running, Stopping}
 use Rattle.host_reactor.specs.declared.ordered.Reading.{Reading}
-use Rattle.host_reactor.specs.Notes.{is_out, news_of, noted, told, told_all}
+use Rattle.host_reactor.specs.Notes.{is_out, news_of, noted, known_behind, told_all}
 use Rattle.host_reactor.specs.Reactor.{Reacted, after_homing, asks_boards, by_phase, carries_on, cut_line, finishes, is_connected_now, reacts, unless_ended, unless_given_up, unless_homing_ends, unless_late_stale, unless_stale}
 use Rattle.host_reactor.specs.Report.{count_lines, first_lines}
 use Rattle.host_reactor.specs.Running.{first_cause, is_finished, stop_of}
@@ -72,14 +72,14 @@ unseen_small : (ms : List Member) → AllSmall (map unseen ms)
 unseen_small [] = tt
 unseen_small (m ∷ ms) = (tt, unseen_small ms)
 
-first_small : (o : Option Fired) (f : Fired) → HasSmall o → f.tick < 2 ^ 64 → HasSmall (Some (first o f))
+first_small : (o : Option Fired) (f : Fired) → HasSmall o → f.tick < 2 ^ 64 → HasSmall (Some (first_fired o f))
 first_small None f h low = low
 first_small (Some g) f h low = h
 
 hears_small : (board : ℕ) (s : TrigState) (tick turn : ℕ) (m : Seen) → tick < 2 ^ 64 → HasSmall m.fired → HasSmall (hears_from board s tick turn m).fired
 hears_small board s tick turn m low h = by (m.member.board == board) s.can
   where
-    by : (a b : Bool) → HasSmall (if a then (if b then record m { heard = Some (later m.heard turn) } else record m { fired = Some (first m.fired (record { reason = s.reason; tick = tick; turn = turn })) }) else m).fired
+    by : (a b : Bool) → HasSmall (if a then (if b then record m { heard = Some (later m.heard turn) } else record m { fired = Some (first_fired m.fired (record { reason = s.reason; tick = tick; turn = turn })) }) else m).fired
     by false b = h
     by true true = h
     by true false = first_small m.fired (record { reason = s.reason; tick = tick; turn = turn }) h low
@@ -146,7 +146,7 @@ begun_small m section (Home axis) turn last moving =
     let ms = members_from m (axis_at m axis) moving 0 m.boards in
     with_small (may_be (map unseen ms) turn last) section axis turn turn last ms
 
-told_small : (m : Machine) (r : Known) (n : NoteNews) → IsSmallHoming r.homing → IsSmallHoming (told m r n).homing
+told_small : (m : Machine) (r : Known) (n : NoteNews) → IsSmallHoming r.homing → IsSmallHoming (known_behind m r n).homing
 told_small m r (news.Start section kind turn last moving) h = begun_small m section kind turn last moving
 told_small m r (news.Done section turn) h = h
 told_small m r (news.Read x sections) h = h
@@ -154,7 +154,7 @@ told_small m r (news.Line board line from) h = h
 
 all_small : (m : Machine) (ns : List NoteNews) (r : Known) → IsSmallHoming r.homing → IsSmallHoming (told_all m ns r).homing
 all_small m [] r h = h
-all_small m (n ∷ ns) r h = all_small m ns (told m r n) (told_small m r n h)
+all_small m (n ∷ ns) r h = all_small m ns (known_behind m r n) (told_small m r n h)
 
 noted_small : (m : Machine) (note : Option Note) (r : Known) → IsSmallHoming r.homing → IsSmallHoming (noted m note r).homing
 noted_small m None r h = h

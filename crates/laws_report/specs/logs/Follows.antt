@@ -7,7 +7,7 @@ use Rattle.log_text.specs.declared.line.LogLine.TheVariants as line
 use Rattle.log_text.specs.Said.{Said, line_said}
 use Rattle.text_core.specs.Bytes.{Text}
 use Rattle.log_check.specs.declared.further.Further.{Further}
-use Rattle.log_check.specs.Behind.{begun, clocks, further_of, is_cut, is_ended, pulses, start, told, with_one}
+use Rattle.log_check.specs.Behind.{begun, clocks, further_of, is_cut, is_ended, pulses, section_start, told_clocks, with_one}
 use Rattle.log_check.specs.Faults.{have_room, may_cut, may_follow, ready}
 use Rattle.log_check.specs.Points.{end_by, plans, section_at}
 use Rattle.plan_types.specs.declared.machine.Machine.{Machine}
@@ -39,7 +39,7 @@ freq_at m further lines s = (clocks_at (clocks m further lines) (stepper_at m s)
 
 -- the tick of a stepper's board at which the open section begins, by the clocks that the lines told
 abbrev pub base_at : Machine → List Further → List LogLine → ℕ → ℕ
-base_at m further lines s = base_tick m (clocks m further lines) (start lines) s
+base_at m further lines s = base_tick m (clocks m further lines) (section_start lines) s
 
 -- Prefix: the pulses of a stepper in the open section fit its planned steps.
 abbrev pub FitsHere : Machine → List Section → List Further → List LogLine → ℕ → Type 0
@@ -52,13 +52,14 @@ abbrev pub IsWholeHere : Machine → List Section → List Further → List LogL
 IsWholeHere m sections further lines s = length (pulses s lines) ≡ length (plan_at m sections further lines s)
 
 -- Sections: a section behind some lines is the next one of the text, and starts when it may, or later.
-pub record IsNext (m : Machine) (sections : List Section) (further : List Further) (lines : List LogLine) (i turn : ℕ)
+pub record IsNextSection (m : Machine) (sections : List Section) (further : List Further) (lines : List LogLine)
+    (i turn : ℕ)
     (kind : SectionKind) : Type 0 where
   pub number : i ≡ begun lines
   pub there : i < length sections
   pub same : kind ≡ (section_at sections i).kind
-  pub due : ready (is_cut lines) (begun lines) (start lines)
-      (end_by m sections (clocks m further lines) (begun lines) (start lines))
+  pub due : ready (is_cut lines) (begun lines) (section_start lines)
+      (end_by m sections (clocks m further lines) (begun lines) (section_start lines))
       + (section_at sections i).dwell ≤ turn
 
 -- The lines of a log follow the plan of a file: behind each line the pulses of every stepper fit, and where a
@@ -72,7 +73,8 @@ pub record FollowsPlan (m : Machine) (sections : List Section) (lines : List Log
   pub last_whole : is_cut lines ≡ false → (s : ℕ) → s < length m.steppers →
       IsWholeHere m sections (further_among lines) lines s
   pub next : (later before : List LogLine) (i turn : ℕ) (kind : SectionKind) →
-      lines ≡ later ++ line.Section i turn kind ∷ before → IsNext m sections (further_among lines) before i turn kind
+      lines ≡ later ++ line.Section i turn kind ∷ before →
+      IsNextSection m sections (further_among lines) before i turn kind
 
 -- what a line of a log says that is well formed
 abbrev pub ok_line : LogLine → Said
@@ -91,7 +93,7 @@ pub record StandsWell (m : Machine) (sections : List Section) (lines : List LogL
   pub boards : (later before : List LogLine) (b turn tick : ℕ) → lines ≡ later ++ line.Board b turn tick ∷ before →
       (begun before ≡ 0) × (b ≡ length (clocks m (further_among lines) before))
   pub furthers : (later before : List LogLine) (b turn tick from : ℕ) →
-      lines ≡ later ++ line.Line b turn tick from ∷ before → may_follow m (told m before) b turn tick from ≡ true
+      lines ≡ later ++ line.Line b turn tick from ∷ before → may_follow m (told_clocks m before) b turn tick from ≡ true
   pub rooms : (later before : List LogLine) (i turn : ℕ) (kind : SectionKind) →
       lines ≡ later ++ line.Section i turn kind ∷ before →
       (length (clocks m (further_among lines) before) ≡ length m.boards)

@@ -8,10 +8,10 @@ use Rattle.plan_types.specs.declared.plan.SectionKind.TheVariants.{Moves, Home}
 use Rattle.plan_types.specs.Machines.{axis_at}
 use Rattle.plan_types.specs.Moves.{move_length}
 use Rattle.gcode_state.specs.States.{differs}
-use Rattle.gcode_program.specs.Cuts.{closed, left}
+use Rattle.gcode_program.specs.Cuts.{closed, dwell_left}
 use Rattle.gcode_program.specs.Homes.{homing_move, placed_on}
 use Rattle.bed_mesh.specs.declared.mesh.Mesh.{Mesh}
-use Rattle.bed_mesh.specs.Cuts.{ends}
+use Rattle.bed_mesh.specs.Cuts.{cut_ends}
 use Rattle.bed_mesh.specs.BentLines.{at, raised}
 
 -- a place with the bed's height there added to its z
@@ -44,7 +44,7 @@ parts_to t m from (place ∷ places) = part_if m from (raised_place t place) ++ 
 -- the parts of moves that stand in their place over a bed, from a place on: of each move those to its ends
 abbrev pub bent_moves : Mesh → List ℤ → List Move → List Move
 bent_moves t from [] = []
-bent_moves t from (m ∷ ms) = parts_to t m from (ends t m) ++ bent_moves t (raised_place t m.to) ms
+bent_moves t from (m ∷ ms) = parts_to t m from (cut_ends t m) ++ bent_moves t (raised_place t m.to) ms
 
 -- the place to which they lead
 abbrev pub led_to : Mesh → List ℤ → List Move → List ℤ
@@ -64,7 +64,7 @@ abbrev pub bent_by : Machine → Mesh → List ℤ → ℕ → ℕ → SectionKi
     List Section
 bent_by m t place a dwell Moves moves rest =
     closed dwell (bent_moves t place moves)
-    ++ rest (led_to t place moves) (last_acceleration a moves) (left dwell (bent_moves t place moves))
+    ++ rest (led_to t place moves) (last_acceleration a moves) (dwell_left dwell (bent_moves t place moves))
 bent_by m t place a dwell (Home axis) moves rest =
     record { kind = Home axis; moves = homing_move m place a axis ∷ []; dwell = dwell }
     ∷ rest (placed_on place axis (axis_at m axis).endstop) a 0

@@ -14,7 +14,7 @@ use Rattle.gcode_program.specs.Programs.{outcome_of}
 use Rattle.gcode_program.specs.Reader.{HasNoEnd}
 use Rattle.gcode_program.specs.Readings.{Deed}
 use Rattle.bed_mesh.specs.declared.mesh.Mesh.{Mesh}
-use Rattle.bed_mesh.specs.Files.{accepted, mesh_code, mesh_end}
+use Rattle.bed_mesh.specs.Files.{accepted_state, mesh_code, mesh_end}
 use Rattle.bed_mesh.specs.BentLines.{lines_by}
 use Rattle.laws_report.specs.meshes.Bent.{bent_sections, origin}
 
@@ -51,8 +51,9 @@ pub record IsRefusedThere (m : Machine) (t : Mesh) (text : List ℕ) : Type 0 wh
   pub deeds : (outcome_of m text).deeds ≡ before ++ next ∷ behind
   pub count : (mesh_end m t text).lines ≡ length before
   pub stop : (mesh_end m t text).stop ≡ Refused (1 + length before) kind
-  pub goes : accepted 0 (initial m) (lines_of (mesh_code m t text)) ≡ Ok modes
-  pub refused : accepted (length (mesh_code m t text)) modes (lines_by t modes.acceleration next.action) ≡ Err kind
+  pub goes : accepted_state 0 (initial m) (lines_of (mesh_code m t text)) ≡ Ok modes
+  pub refused : accepted_state (length (mesh_code m t text)) modes (lines_by t modes.acceleration next.action)
+      ≡ Err kind
 
 -- the sections that a text's first so many accepted lines make
 abbrev pub first_sections : ℕ → Machine → List ℕ → List Section

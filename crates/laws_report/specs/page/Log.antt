@@ -4,10 +4,10 @@ use Rattle.plan_types.specs.Sections.{first_turn}
 use Rattle.log_check.specs.declared.further.Further.{Further}
 use Rattle.log_text.specs.declared.line.LogLine.{LogLine}
 use Rattle.log_text.specs.declared.line.LogLine.TheVariants as line
-use Rattle.log_check.specs.Behind.{begun, clocks, is_cut, is_ended, start, told}
+use Rattle.log_check.specs.Behind.{begun, clocks, is_cut, is_ended, section_start, told_clocks}
 use Rattle.log_check.specs.Faults.{may_cut, may_follow}
 use Rattle.log_check.specs.Points.{end_by, section_at}
-use Rattle.laws_report.specs.logs.Follows.{FitsHere, IsNext, IsWholeHere, all_said, further_among, in_order, ok_line}
+use Rattle.laws_report.specs.logs.Follows.{FitsHere, IsNextSection, IsWholeHere, all_said, further_among, in_order, ok_line}
 use Rattle.plan_types.specs.declared.machine.Machine.{Machine}
 use Rattle.plan_types.specs.declared.plan.Section.{Section}
 use Rattle.plan_types.specs.declared.plan.SectionKind.{SectionKind}
@@ -33,20 +33,22 @@ board_turn (_ ∷ lines) = board_turn lines
 
 -- The turn from which on the next section may start, where no cut stands in the one before: the turn that the
 -- boards' lines tell; or 260 turns behind that in which the plan of the one before ends.
-abbrev pub next_turn : Machine → List Section → List Further → List LogLine → ℕ → ℕ
-next_turn m sections further lines zero = board_turn lines
-next_turn m sections further lines (suc i) = end_by m sections (clocks m further lines) (suc i) (start lines) + 260
+abbrev pub earliest_turn : Machine → List Section → List Further → List LogLine → ℕ → ℕ
+earliest_turn m sections further lines zero = board_turn lines
+earliest_turn m sections further lines (suc i) =
+    end_by m sections (clocks m further lines) (suc i) (section_start lines) + 260
 
 -- A line stands behind others in a log as it may, by the further clock lines of the log: a board's line
 -- before the first section, in the order of the boards; a further clock line behind those of its board; a
--- section, the next one of the text, not before its turn (`IsNext`), behind the lines of all boards; a pulse
+-- section, the next one of the text, not before its turn (`IsNextSection`), behind the lines of all boards; a pulse
 -- of a stepper that is there; a cut in the section that it names, which homes.
 abbrev pub StandsBehind : Machine → List Section → List Further → List LogLine → LogLine → Type 0
 StandsBehind m sections further lines (line.Board b turn tick) =
     (begun lines ≡ 0) × (b ≡ length (clocks m further lines))
-StandsBehind m sections further lines (line.Line b turn tick from) = may_follow m (told m lines) b turn tick from ≡ true
+StandsBehind m sections further lines (line.Line b turn tick from) =
+    may_follow m (told_clocks m lines) b turn tick from ≡ true
 StandsBehind m sections further lines (line.Section i turn kind) =
-    IsNext m sections further lines i turn kind × (length (clocks m further lines) ≡ length m.boards)
+    IsNextSection m sections further lines i turn kind × (length (clocks m further lines) ≡ length m.boards)
 StandsBehind m sections further lines (line.Pulse s tick up) = s < length m.steppers
 StandsBehind m sections further lines (line.Cut i) = may_cut sections (begun lines) i ≡ true
 StandsBehind m sections further lines _ = Unit {0}
@@ -91,5 +93,5 @@ pub record Follows (through : Type 0) (m : Machine) (sections : List Section) (l
 pub record StartsOnTime (through : Type 0) (m : Machine) (sections : List Section) (log : List LogLine) : Type 0 where
   pub due : (later lines : List LogLine) (i turn : ℕ) (kind : SectionKind) →
       log ≡ later ++ line.Section i turn kind ∷ lines → is_cut lines ≡ false →
-      turn ≡ next_turn m sections (further_among log) lines (begun lines) + (section_at sections i).dwell
+      turn ≡ earliest_turn m sections (further_among log) lines (begun lines) + (section_at sections i).dwell
   pub all : through → begun log ≡ length sections

@@ -11,7 +11,7 @@ use Rattle.report_text.specs.declared.line.ReportLine.{ReportLine}
 use Rattle.report_text.specs.declared.line.ReportLine.TheVariants as report
 use Rattle.laws_run.specs.run_ends.Ends.{GoesThrough}
 use Rattle.laws_run.specs.home_headline.Cuts.{cuts_of}
-use Rattle.laws_report.specs.reports.Headline.{kind_of}
+use Rattle.laws_report.specs.reports.Headline.{section_kind}
 use Rattle.laws_report.specs.reports.Shown.{lines_behind, section_turn}
 
 -- the lines up to the next section line, or to the end
@@ -41,9 +41,9 @@ IsCutOf m switches i axis lines =
 pub record HaveCuts (m : Machine) (switches : List Switch) (c : Cause) (sections : List Section)
     (said : List ReportLine) : Type 0 where
   pub before : cuts_of (lines_before said) ≡ []
-  pub moves : (i : ℕ) → kind_of sections i ≡ Moves → cuts_in i said ≡ []
-  pub homes : (i axis : ℕ) → kind_of sections i ≡ Home axis →
+  pub moves : (i : ℕ) → section_kind sections i ≡ Moves → cuts_in i said ≡ []
+  pub homes : (i axis : ℕ) → section_kind sections i ≡ Home axis →
       (cuts_in i said ≡ []) ⊎ IsCutOf m switches i axis (cuts_in i said)
-  pub ended : (i axis : ℕ) → kind_of sections i ≡ Home axis →
+  pub ended : (i axis : ℕ) → section_kind sections i ≡ Home axis →
       ((turn : ℕ) × (section_turn (i + 1) said ≡ Some turn)) ⊎ GoesThrough c →
       IsCutOf m switches i axis (cuts_in i said)

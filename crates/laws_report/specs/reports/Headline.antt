@@ -14,8 +14,8 @@ abbrev pub moves_of : List Section → ℕ → List Move
 moves_of sections i = (section_at sections i).moves
 
 -- what the section of a number does
-abbrev pub kind_of : List Section → ℕ → SectionKind
-kind_of sections i = (section_at sections i).kind
+abbrev pub section_kind : List Section → ℕ → SectionKind
+section_kind sections i = (section_at sections i).kind
 
 -- the planned steps of a stepper in a section of a number that starts in a turn, by the boards' clock lines
 abbrev pub plan_by : List Clocks → Machine → List Section → ℕ → ℕ → ℕ → List Planned

@@ -24,7 +24,7 @@ use Rattle.laws_run.specs.run_clocks.Printed.{TellKnownLines}
 use Rattle.laws_run.specs.run_ends.Boards.{boards_of}
 use Rattle.laws_run.specs.run_ends.Ends.{GoesThrough}
 use Rattle.laws_run.specs.run_headline.Timely.{AreOfMoves}
-use Rattle.session_run.specs.Desks.{lines_of}
+use Rattle.session_run.specs.Desks.{reported_lines}
 use Rattle.motion_work.specs.Told.{Told as Heard}
 use Rattle.laws_run.specs.home_headline.Little.{SendsOut}
 use Rattle.laws_run.specs.home_headline.Near.{AllKeepUp, AllReadAsTold, AllTakeNear, ShownKeepUp, ShownTakeNear}
@@ -152,8 +152,9 @@ pub record IsLinkReport {F S : Type 0} (f : Files F) (o : Sink S) (m : Machine) 
       × AreTimed m s reported.told.cause reported.runs.runs.0 reported.runs.runs.1 reported.runs.runs.2
       made.plans.seen) ∥₁
   pub board_lines : (reported.told.cause ≡ cause.Memory → ⊥) →
-      (boards_of (lines_of (reported.runs.runs.1 ++ reported.runs.runs.2 ∷ [])) ≡ [])
-      ⊎ TellKnownLines m s.switches reported.runs.runs.1 (lines_of (reported.runs.runs.1 ++ reported.runs.runs.2 ∷ []))
+      (boards_of (reported_lines (reported.runs.runs.1 ++ reported.runs.runs.2 ∷ [])) ≡ [])
+      ⊎ TellKnownLines m s.switches reported.runs.runs.1
+      (reported_lines (reported.runs.runs.1 ++ reported.runs.runs.2 ∷ []))
   -- Causes: a cause of the run's own is so in the reactor's last turn, the first one that is, and in no
   -- earlier turn was any; and what each says of links, boards and switches
   pub names : IsOwn c → (c ≡ cause.Memory → ⊥) → IsNamed m s reported.runs.runs.1 reported.runs.runs.2 c

@@ -11,4 +11,4 @@ no_scene = record { entries = []; switches = [] }
 -- a scene of a run: the one without entries and switches, where no scene is asked for, or one that a text
 -- tells for the machine
 abbrev pub IsSceneFor : Machine → Scene → Type 0
-IsSceneFor m s = (s ≡ no_scene) ⊎ ((text : List ℕ) × (scenes.reading m text ≡ Ok s))
+IsSceneFor m s = (s ≡ no_scene) ⊎ ((text : List ℕ) × (scenes.scene_of_text m text ≡ Ok s))

@@ -26,15 +26,15 @@ BeginSection (report.Section i turn kind ∷ lines) = Unit {0}
 BeginSection (_ ∷ lines) = ⊥
 
 -- lines of sections, of pulses, and notes, and in a run that homes of cuts
-abbrev pub AreBehind : Bool → List ReportLine → Type 0
-AreBehind homes [] = Unit {0}
-AreBehind homes (report.Section i turn kind ∷ lines) = AreBehind homes lines
-AreBehind homes (report.Pulse board stepper tick up ∷ lines) = AreBehind homes lines
-AreBehind homes (report.Machine corexy boards steppers ∷ lines) = AreBehind homes lines
-AreBehind homes (report.Cut i board pin tick from ∷ lines) = (homes ≡ true) × AreBehind homes lines
-AreBehind homes (report.Drift board sent clock from ∷ lines) = AreBehind homes lines
-AreBehind homes (report.Lines accepted passed ∷ lines) = AreBehind homes lines
-AreBehind homes (_ ∷ lines) = ⊥
+abbrev pub AreOfSections : Bool → List ReportLine → Type 0
+AreOfSections homes [] = Unit {0}
+AreOfSections homes (report.Section i turn kind ∷ lines) = AreOfSections homes lines
+AreOfSections homes (report.Pulse board stepper tick up ∷ lines) = AreOfSections homes lines
+AreOfSections homes (report.Machine corexy boards steppers ∷ lines) = AreOfSections homes lines
+AreOfSections homes (report.Cut i board pin tick from ∷ lines) = (homes ≡ true) × AreOfSections homes lines
+AreOfSections homes (report.Drift board sent clock from ∷ lines) = AreOfSections homes lines
+AreOfSections homes (report.Lines accepted passed ∷ lines) = AreOfSections homes lines
+AreOfSections homes (_ ∷ lines) = ⊥
 
 -- The plan of a section by the clock lines that are told is that by others; or a cut line is told of it, and
 -- its pulses fit the first steps of its plan by those that are told.
@@ -61,7 +61,7 @@ pub record StandInOrder (homes : Bool) (m : Machine) (lines : List Clocks) (read
   pub may : AllMayStand m [] (map logged said)
   pub heads : AreHeads 0 head
   pub begins : BeginSection body
-  pub behind : AreBehind homes body
+  pub behind : AreOfSections homes body
   pub told_lines : List Clocks
   pub lines_told : clocks m (further_told (map logged said)) (in_order (map logged head)) ≡ all_retold ready told_lines
   pub have : HaveLines m told_lines ready

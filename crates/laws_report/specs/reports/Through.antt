@@ -44,8 +44,8 @@ ArePulses (report.Lines accepted passed ∷ lines) = ArePulses lines
 ArePulses (_ ∷ lines) = ⊥
 
 -- the pulses of a stepper that such lines tell
-abbrev pub told : ℕ → List ReportLine → List Pulse
-told s lines = in_order (pulses s (in_order (map logged lines)))
+abbrev pub told_pulses : ℕ → List ReportLine → List Pulse
+told_pulses s lines = in_order (pulses s (in_order (map logged lines)))
 
 -- The lines behind that of a section of moves which starts in a turn: the pulses of each stepper fit its
 -- plan, and are as many as planned. The boards' clock lines have ticks for the section.
@@ -53,9 +53,10 @@ pub record TellsSection (m : Machine) (lines : List Clocks) (moves : List Move) 
     : Type 0 where
   pub are : ArePulses behind
   pub fits : (s : ℕ) → s < length m.steppers →
-      Fits (clocks_at lines (stepper_at m s).board).first.freq (base_tick m lines turn s) (told s behind)
+      Fits (clocks_at lines (stepper_at m s).board).first.freq (base_tick m lines turn s) (told_pulses s behind)
       (stepper_plan m lines moves turn s)
-  pub whole : (s : ℕ) → s < length m.steppers → length (told s behind) ≡ length (stepper_plan m lines moves turn s)
+  pub whole : (s : ℕ) → s < length m.steppers →
+      length (told_pulses s behind) ≡ length (stepper_plan m lines moves turn s)
   pub room : have_room lines (length moves) turn ≡ true
 
 -- Some sections, the first of which has a number and may start in a turn: each has its line in the turn in

@@ -10,7 +10,7 @@ use Rattle.motion_work.specs.Seen.{Started}
 use Rattle.motion_work.specs.Told.{Told}
 use Rattle.session_work.specs.declared.table.MotionTurn.{MotionTurn}
 use Rattle.session_work.specs.declared.table.ReactorTurn.{ReactorTurn}
-use Rattle.laws_board.specs.plans.Planned.{Seen}
+use Rattle.laws_board.specs.plans.Planned.{PlannerInput}
 use Rattle.laws_run.specs.run_clocks.First.{AreFirstTaken}
 use Rattle.laws_run.specs.run_turns.Ends.{EndsWithAnswer}
 use Rattle.laws_run.specs.run_turns.Starts.{StartsBehindConnecting}
@@ -20,7 +20,7 @@ use Rattle.laws_run.specs.run_turns.Starts.{StartsBehindConnecting}
 -- answered, and that turn's line of a switch is its own. And where no entry of the scene was used on a
 -- board's link while connecting, the board's first clock line is taken at once.
 pub record AreTimed (m : Machine) (s : Scene) (c : Cause) (planned : List MotionTurn) (turns : List ReactorTurn)
-    (last : ReactorTurn) (seen : Seen) : Type 0 where
+    (last : ReactorTurn) (seen : PlannerInput) : Type 0 where
   pub first : (t : Told) → seen.told ≡ Some t → StartsBehindConnecting m s.switches turns t.first seen.begun
   pub ends : (past : List Started) (x : Started) (others : List Started) (axis : ℕ) → seen.begun ≡ past ++ x ∷ others →
       x.section.kind ≡ Home axis → x.end ≢ no_end → EndsWithAnswer m s.switches turns (length past) axis x

@@ -15,17 +15,17 @@ use Rattle.log_check.specs.Faults.{have_room}
 use Rattle.laws_report.specs.logs.Follows.{in_order}
 use Rattle.laws_report.specs.reports.Further.{AllMayStand, further_told}
 use Rattle.laws_report.specs.reports.Logged.{AreOfRun, logged}
-use Rattle.laws_report.specs.reports.Through.{AreHeads, AreNotes, told}
+use Rattle.laws_report.specs.reports.Through.{AreHeads, AreNotes, told_pulses}
 
 -- lines behind that of the section of a number: pulses, notes, and cut lines of this section
-abbrev pub AreWithin : ℕ → List ReportLine → Type 0
-AreWithin i [] = Unit {0}
-AreWithin i (report.Pulse board stepper tick up ∷ lines) = AreWithin i lines
-AreWithin i (report.Cut j board pin tick from ∷ lines) = (j ≡ i) × AreWithin i lines
-AreWithin i (report.Machine corexy boards steppers ∷ lines) = AreWithin i lines
-AreWithin i (report.Drift board sent clock from ∷ lines) = AreWithin i lines
-AreWithin i (report.Lines accepted passed ∷ lines) = AreWithin i lines
-AreWithin i (_ ∷ lines) = ⊥
+abbrev pub AreInSection : ℕ → List ReportLine → Type 0
+AreInSection i [] = Unit {0}
+AreInSection i (report.Pulse board stepper tick up ∷ lines) = AreInSection i lines
+AreInSection i (report.Cut j board pin tick from ∷ lines) = (j ≡ i) × AreInSection i lines
+AreInSection i (report.Machine corexy boards steppers ∷ lines) = AreInSection i lines
+AreInSection i (report.Drift board sent clock from ∷ lines) = AreInSection i lines
+AreInSection i (report.Lines accepted passed ∷ lines) = AreInSection i lines
+AreInSection i (_ ∷ lines) = ⊥
 
 -- one of some lines is a cut line
 abbrev pub has_cut : List ReportLine → Bool
@@ -38,13 +38,13 @@ has_cut (_ ∷ lines) = has_cut lines
 -- boards' clock lines have ticks for the section.
 pub record TellsWithin (m : Machine) (lines : List Clocks) (s : Section) (i turn : ℕ) (behind : List ReportLine)
     : Type 0 where
-  pub are : AreWithin i behind
+  pub are : AreInSection i behind
   pub homes : has_cut behind ≡ true → (axis : ℕ) × (s.kind ≡ Home axis)
   pub fits : (q : ℕ) → q < length m.steppers →
-      Fits (clocks_at lines (stepper_at m q).board).first.freq (base_tick m lines turn q) (told q behind)
+      Fits (clocks_at lines (stepper_at m q).board).first.freq (base_tick m lines turn q) (told_pulses q behind)
       (stepper_plan m lines s.moves turn q)
   pub whole : has_cut behind ≡ false → (q : ℕ) → q < length m.steppers →
-      length (told q behind) ≡ length (stepper_plan m lines s.moves turn q)
+      length (told_pulses q behind) ≡ length (stepper_plan m lines s.moves turn q)
   pub room : have_room lines (length s.moves) turn ≡ true
 
 -- the turn from which on the next section may start, behind one that started and whose plan ends in these

@@ -17,7 +17,7 @@ use Rattle.session_work.specs.declared.table.ReactorTurn.{ReactorTurn}
 use Rattle.session_run.specs.Boards.{came_from}
 use Rattle.laws_board.specs.sections.Boards.{OnBoard}
 use Rattle.laws_board.specs.sections.Homes.{IsHomeBoard}
-use Rattle.laws_run.specs.lanes.Boards.{IsInWhole, behind}
+use Rattle.laws_run.specs.lanes.Boards.{IsInWhole, turns_behind}
 use Rattle.laws_run.specs.lanes.Turns.{came_before}
 use Rattle.laws_board.specs.plans.Lines.{TookNotes}
 use Rattle.laws_board.specs.plans.Planned.{Plans}
@@ -63,7 +63,7 @@ module _ (m : Machine) (v : IsValidMachine m) (s : Scene) (ts : List MotionTurn)
   Came_all = came_from [] (first ∷ rest)
 
   abbrev pub Turns_of : (b : ℕ) → b < length m.boards → List BoardTurn
-  Turns_of b h = behind [] (whole b h).made
+  Turns_of b h = turns_behind [] (whole b h).made
 
   abbrev pub Here : (b : ℕ) → b < length m.boards → OnBoard
   Here b h = here m v s ts p t first rest end told b (whole b h)

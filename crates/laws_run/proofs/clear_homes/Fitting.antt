@@ -14,13 +14,13 @@ use Rattle.plan_types.specs.Machines.{IsValidMachine, board_at}
 use Rattle.plan_types.specs.Sections.{clocks_at}
 use Rattle.wire_scene.specs.declared.scene.Entry.{Entry}
 use Rattle.wire_scene.specs.declared.scene.Switch.{Switch}
-use Rattle.board_world.specs.World.{Core, run, start}
+use Rattle.board_world.specs.World.{Core, run_world, new_world}
 use Rattle.link_work.specs.Limits.{AllKeepLimits}
 use Rattle.link_work.specs.Runs.{AreTurns}
 use Rattle.link_work.specs.Stands.{first_state}
 use Rattle.link_work.specs.Turn.{LinkState, Orders}
 use Rattle.link_work.proofs.Late.{limits_split}
-use Rattle.host_reactor.specs.Runs.{Came, last_turn, state_at}
+use Rattle.host_reactor.specs.Runs.{Came, last_reacted, state_at}
 use Rattle.laws_board.specs.turns.Turns.{BoardTurn, latest_state, stands_after}
 use Rattle.laws_board.specs.clocks.Runs.{IsInRun, UnitsFit, orders_in}
 use Rattle.laws_board.specs.sections.Courses.{IsGoodRun, courses, AllHeed}
@@ -108,7 +108,7 @@ front_timely clock turn [] ys l m t h a = (l, refl, tt)
 front_timely clock turn (x ∷ xs) ys l m t h a =
     let here = steps_of_turn clock turn x t.1.resent l in
     let later = steps_of clock (turn + 1) (xs ++ ys) t.0 m t.2 in
-    let rest = front_timely clock (turn + 1) xs ys t.0 m t.2 (run here h) (timely_behind here later h a) in
+    let rest = front_timely clock (turn + 1) xs ys t.0 m t.2 (run_world here h) (timely_behind here later h a) in
     (rest.0, (t.0, t.1, rest.1), timely_join here (steps_of clock (turn + 1) xs t.0 rest.0 rest.1) h (timely_front here later h a) rest.2)
 
 -- what was told of a section by some turns was told by the first of them, where it ended by then
@@ -165,7 +165,7 @@ module _ (m : Machine) (v : IsValidMachine m) (switches : List Switch) (pins : L
 
   -- the turns of a link, in which all units are timely
   abbrev pub Timed : List Orders → Type 0
-  Timed os = (end : LinkState) × (link : AreTurns Clock 0 os First end) × AllTimely (start (board_at m b) pins) (steps_of Clock 0 os First end link)
+  Timed os = (end : LinkState) × (link : AreTurns Clock 0 os First end) × AllTimely (new_world (board_at m b) pins) (steps_of Clock 0 os First end link)
 
   home_at : (later past : List BoardTurn) → turns ≡ later ++ past → HomeRun (orders_in past)
   home_at later past cut =
@@ -210,7 +210,7 @@ module _ (m : Machine) (v : IsValidMachine m) (switches : List Switch) (pins : L
     told_here : AreToldIn m switches pins entries b Stops Sections past
     told_here = told_at later past cut limits
 
-    heed_here : (end : LinkState) (link : LinkTo end) → AllHeed split_here.front split_here.tail (start (board_at m b) pins) (steps_of Clock 0 Orders_at First end link)
+    heed_here : (end : LinkState) (link : LinkTo end) → AllHeed split_here.front split_here.tail (new_world (board_at m b) pins) (steps_of Clock 0 Orders_at First end link)
     heed_here end link =
         let far : 260 ≤ t.first = omega (arith, early) in
         board_heeds m v switches pins entries b (board_at m b).freq (board_at m b).slots ready t.first until own Line t.clocks p.seen.begun before past (home_at later past cut) split_here told_here r notes far (in_row m switches pins entries b ts p t ready came by told early connected may) end link
@@ -234,7 +234,7 @@ module _ (m : Machine) (v : IsValidMachine m) (switches : List Switch) (pins : L
         )
 
     -- where the run goes on behind them, the board runs, and no unit is left of a section that is over
-    past_soon : (c : Came) → state_at b c.states ≡ latest_state past → (last_turn m switches c before).ordered.end ≡ None → Timed Orders_at → AreSoon (length past) Sections × ((stands_after First past).core.board.controller.state ≡ Running)
+    past_soon : (c : Came) → state_at b c.states ≡ latest_state past → (last_reacted m switches c before).ordered.end ≡ None → Timed Orders_at → AreSoon (length past) Sections × ((stands_after First past).core.board.controller.state ≡ Running)
     past_soon c latest goes timed =
         let d = board_at m b in
         let os = Orders_at in
@@ -257,11 +257,11 @@ module _ (m : Machine) (v : IsValidMachine m) (switches : List Switch) (pins : L
           lost = split.lost;
           turns = turns_owned d own (length os) 0 os steps owned within are.1;
           timely = timed.2;
-          settled = settled_owned d Stops split.front own (length os) 0 [] os steps (start d pins) owned within are.1 (settled_head Stops split.front Clock 0 [] os First end link (settled_here end link));
+          settled = settled_owned d Stops split.front own (length os) 0 [] os steps (new_world d pins) owned within are.1 (settled_head Stops split.front Clock 0 [] os First end link (settled_here end link));
           heed = heed_here end link;
         } in
         let same : end ≡ stands_after First past = same_end Clock 0 os First end (stands_after First past) link (turns_in_order Clock First past r.turns_are) in
-        let is : run steps (start d pins) ≡ (stands_after First past).core = sym are.0 ∙ ap (λ (l : LinkState). l.core) same in
+        let is : run_world steps (new_world d pins) ≡ (stands_after First past).core = sym are.0 ∙ ap (λ (l : LinkState). l.core) same in
         let At : Core → Type 0 = λ h. MayBe h.board.controller.state in
         let runs = goes_running m switches pins entries b c before past r latest goes (subst At is (reason_is d pins own Stops os steps good)) in
         let keeps = (at_end d pins own Stops os steps good).1 in
@@ -291,7 +291,7 @@ module _ (m : Machine) (v : IsValidMachine m) (switches : List Switch) (pins : L
   timed_all timed before later past cut r notes limits =
       let more = later_orders later past in
       let all = subst Timed (ap orders_in cut ∙ more.1) timed in
-      front_timely Clock 0 (orders_in past) more.0 First all.0 all.1 (start (board_at m b) pins) all.2
+      front_timely Clock 0 (orders_in past) more.0 First all.0 all.1 (new_world (board_at m b) pins) all.2
 
   -- or where no unit is sent too late
   pub timed_few : (late : ℕ) → late ≤ 10_700 → AreSpilled until late (parts_on m t.clocks p.seen.begun b) → TimedAt

@@ -14,7 +14,7 @@ use Rattle.section_units.specs.Sections.{BoardSection, base_of, of_stepper, sect
 use Rattle.wire_scene.specs.declared.scene.Entry.{Entry}
 use Rattle.board_sim.specs.Fair.{Meant}
 use Rattle.board_world.specs.Orders.{plain, units_orders}
-use Rattle.board_world.specs.World.{AllFair, after, start}
+use Rattle.board_world.specs.World.{AllFair, world_after, new_world}
 use Rattle.link_work.specs.Late.{IsLate}
 use Rattle.link_work.specs.Runs.{queued_in}
 use Rattle.link_work.specs.Stands.{first_state}
@@ -113,7 +113,7 @@ orders_time turns own clocks ss turn k (x ∷ before) o more a low e are = order
 
 -- the units that it takes are fair
 board_fair : (place : ℕ) (entries : List Entry) (ready turns : ℕ) (ss : List RunSection) (x : OnBoard) (k : IsHomeBoard place entries ready turns ss x)
-    → AllFair (start x.board x.pins) (steps_of (clock_of x.board) 0 x.orders (first_state x.board x.pins place entries) k.end (turns_told (clock_of x.board) 0 x.orders x.states (first_state x.board x.pins place entries) k.end k.told))
+    → AllFair (new_world x.board x.pins) (steps_of (clock_of x.board) 0 x.orders (first_state x.board x.pins place entries) k.end (turns_told (clock_of x.board) 0 x.orders x.states (first_state x.board x.pins place entries) k.end k.told))
 board_fair place entries ready turns ss x k =
     let t = turns_told (clock_of x.board) 0 x.orders x.states (first_state x.board x.pins place entries) k.end k.told in
     all_fair x.board x.pins k.own k.stops x.orders (steps_of (clock_of x.board) 0 x.orders (first_state x.board x.pins place entries) k.end t) (board_good place entries ready turns ss x k)

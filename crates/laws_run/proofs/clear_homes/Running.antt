@@ -9,7 +9,7 @@ use Rattle.plan_types.specs.Clock.{clock_of}
 use Rattle.msg_code.specs.declared.talk.ShutNews.{ShutNews}
 use Rattle.msg_code.specs.declared.talk.State.{State}
 use Rattle.wire_scene.specs.declared.scene.Entry.{Entry}
-use Rattle.board_world.specs.World.{Core, run, start}
+use Rattle.board_world.specs.World.{Core, run_world, new_world}
 use Rattle.link_work.specs.Runs.{queued_in}
 use Rattle.link_work.specs.Stands.{first_state}
 use Rattle.link_work.specs.Told.{IsShutNews}
@@ -39,10 +39,10 @@ end_none place entries ready turns ss x k front last are never late =
     let t = turns_told clock 0 x.orders x.states l k.end k.told in
     let steps = steps_of clock 0 x.orders l k.end t in
     let good = board_good place entries ready turns ss x k in
-    let is : k.end.core ≡ run steps (start x.board x.pins) = (turns_are clock 0 x.orders l k.end t).0 in
+    let is : k.end.core ≡ run_world steps (new_world x.board x.pins) = (turns_are clock 0 x.orders l k.end t).0 in
     let may = board_may place entries ready turns ss x k in
     let keeps = (at_end x.board x.pins k.own k.stops x.orders steps good).1 in
-    let queue : (run steps (start x.board x.pins)).queued ≡ flat_map queued_in x.orders = sym keeps.queued ∙ sent_orders 0 x.orders in
+    let queue : (run_world steps (new_world x.board x.pins)).queued ≡ flat_map queued_in x.orders = sym keeps.queued ∙ sent_orders 0 x.orders in
     let stop = λ (tick first : ℕ) (shut : k.end.core.board.controller.state ≡ Shut 5 tick first).
     never_shut x.board x.pins x.orders steps tick first keeps.ordered queue never (ap (λ (h : Core). h.board.controller.state) (sym is) ∙ shut) in
     let Told : List State → Type 0 = λ y. AreTold clock 0 x.orders y l k.end in

@@ -49,7 +49,7 @@ use Rattle.laws_board.specs.sections.Links.{AreTold, ends_of, turns_told}
 use Rattle.laws_board.specs.sections.Parts.{AreOrdersOf}
 use Rattle.laws_board.proofs.sections.Boarding.{last_told}
 use Rattle.laws_board.proofs.sections.Each.{shut_as}
-use Rattle.laws_run.specs.lanes.Boards.{IsInWhole, behind, orders_of, states_of}
+use Rattle.laws_run.specs.lanes.Boards.{IsInWhole, turns_behind, orders_of, states_of}
 use Rattle.laws_run.proofs.lanes.Items.{item_state}
 use Rattle.session_work.specs.Rows.{item}
 use Rattle.laws_board.specs.plans.Given.{TookControls}
@@ -191,7 +191,7 @@ module _ (m : Machine) (v : IsValidMachine m) (short : HaveShortDictionaries m) 
     little t told b low x = sent_keeps m v s ts p t first rest end c told f short clear (sents t told) b low x
 
     -- and its units fit
-    fits_of : (t : Told) → p.seen.told ≡ Some t → (b : ℕ) (low : b < length m.boards) → UnitsFit (behind [] (f.boards b first rest low refl).made)
+    fits_of : (t : Told) → p.seen.told ≡ Some t → (b : ℕ) (low : b < length m.boards) → UnitsFit (turns_behind [] (f.boards b first rest low refl).made)
     fits_of t told b low = sent_fits m v s ts p t first rest end c told f short clear (sents t told) b low (f.boards b first rest low refl)
 
     -- where the planner was told no clock lines, none homes
@@ -232,9 +232,9 @@ module _ (m : Machine) (v : IsValidMachine m) (short : HaveShortDictionaries m) 
       pub w : IsInWhole m s.switches b (clock_of (board_at m b)) (link_of m s b) ts first (rest ++ end ∷ [])
       w = f.boards b first rest low refl
 
-      run : IsInRun m s.switches (pins_of (board_at m b) b s.switches) s.entries b (came_from [] (first ∷ rest)) (behind [] w.made)
+      run : IsInRun m s.switches (pins_of (board_at m b) b s.switches) s.entries b (came_from [] (first ∷ rest)) (turns_behind [] w.made)
       run =
-          let Run : List Came → Type 0 = λ x. IsInRun m s.switches (pins_of (board_at m b) b s.switches) s.entries b x (behind [] w.made) in
+          let Run : List Came → Type 0 = λ x. IsInRun m s.switches (pins_of (board_at m b) b s.switches) s.entries b x (turns_behind [] w.made) in
           subst Run (came_cut [] first rest end) (record { board = low; goes_on = w.goes_on; turns_are = w.turns_are; both = w.both; in_range = w.in_range })
 
       -- the last state of the board
@@ -247,7 +247,7 @@ module _ (m : Machine) (v : IsValidMachine m) (short : HaveShortDictionaries m) 
 
       -- where the planner was told no clock lines, no units are sent
       none_controls : p.seen.told ≡ None → TookControls (orders_of w.made)
-      none_controls e = let Took : List Orders → Type 0 = λ x. TookControls x in subst Took w.in_order (controlled m v s.switches (pins_of (board_at m b) b s.switches) s.entries b (came_from [] (first ∷ rest)) (behind [] w.made) run (none_moves e))
+      none_controls e = let Took : List Orders → Type 0 = λ x. TookControls x in subst Took w.in_order (controlled m v s.switches (pins_of (board_at m b) b s.switches) s.entries b (came_from [] (first ∷ rest)) (turns_behind [] w.made) run (none_moves e))
 
       none_sent : p.seen.told ≡ None → NoUnits (orders_of w.made)
       none_sent e =
@@ -255,8 +255,8 @@ module _ (m : Machine) (v : IsValidMachine m) (short : HaveShortDictionaries m) 
           let Of : List Started → Type 0 = λ x. AreOrdersOf (parts_on m t.clocks x b) 0 (orders_of w.made) in
           unbegun_units 0 (orders_of w.made) (subst Of (not_told m v s ts p end c e) (orders_are m ts p t b (orders_of w.made) low (omega (arith, count, long)) w.batches (none_controls e)))
 
-      none_fits : p.seen.told ≡ None → UnitsFit (behind [] w.made)
-      none_fits e = let No : List Orders → Type 0 = λ x. NoUnits x in units_fit (behind [] w.made) (subst No (sym w.in_order) (none_sent e))
+      none_fits : p.seen.told ≡ None → UnitsFit (turns_behind [] w.made)
+      none_fits e = let No : List Orders → Type 0 = λ x. NoUnits x in units_fit (turns_behind [] w.made) (subst No (sym w.in_order) (none_sent e))
 
       -- and else they are those of its sections
       module _ (t : Told) (told : p.seen.told ≡ Some t) where
@@ -267,7 +267,7 @@ module _ (m : Machine) (v : IsValidMachine m) (short : HaveShortDictionaries m) 
         unfolding w
         home = on m v s ts p t first rest end c told f long short (little t told) b low
 
-        told_fits : UnitsFit (behind [] w.made)
+        told_fits : UnitsFit (turns_behind [] w.made)
         unfolding w
         told_fits = fits_of t told b low
 
@@ -275,32 +275,32 @@ module _ (m : Machine) (v : IsValidMachine m) (short : HaveShortDictionaries m) 
         exact : (board_at m b).drift ≡ pos 0 → (k : ℕ) → length (came_from [] Ready_in.past) ≤ k → board_tick (clock_of (board_at m b)) k ≤ lines_tick (clocks_at t.clocks b) ((k + 0) * turn_ns)
         exact drift k from =
             let own = lined m v s ts p t first rest end told b Ready_in w low in
-            not_behind (clock_of (board_at m b)) (behind [] w.made) (clocks_at t.clocks b) (length (came_from [] Ready_in.past)) k (valid_at m.boards b low v.boards).freq drift own.kept own.line.sampled own.sampled own.line.early from
+            not_behind (clock_of (board_at m b)) (turns_behind [] w.made) (clocks_at t.clocks b) (length (came_from [] Ready_in.past)) k (valid_at m.boards b low v.boards).freq drift own.kept own.line.sampled own.sampled own.line.early from
 
       -- the units of its turns keep their limit
-      fits_by : (o : Option Told) → p.seen.told ≡ o → UnitsFit (behind [] w.made)
+      fits_by : (o : Option Told) → p.seen.told ≡ o → UnitsFit (turns_behind [] w.made)
       fits_by None e = none_fits e
       fits_by (Some t) e = told_fits t e
 
-      fits : UnitsFit (behind [] w.made)
+      fits : UnitsFit (turns_behind [] w.made)
       fits = fits_by p.seen.told refl
 
       limits : AllKeepLimits (orders_of w.made)
       limits =
           let Limits : List Orders → Type 0 = λ x. AllKeepLimits x in
-          subst Limits w.in_order (all_limits m s.switches (pins_of (board_at m b) b s.switches) s.entries b (came_from [] (first ∷ rest)) (behind [] w.made) v run not_stopping fits)
+          subst Limits w.in_order (all_limits m s.switches (pins_of (board_at m b) b s.switches) s.entries b (came_from [] (first ∷ rest)) (turns_behind [] w.made) v run not_stopping fits)
 
       -- no asking of it is hindered
-      unhindered : (k : ℕ) → IsHindered (first_state (board_at m b) (pins_of (board_at m b) b s.switches) b s.entries) (behind [] w.made) k → ⊥
-      unhindered k h = run_unhindered m s.switches (pins_of (board_at m b) b s.switches) s.entries b (came_from [] (first ∷ rest)) (behind [] w.made) k v run clear not_stopping fits h
+      unhindered : (k : ℕ) → IsHindered (first_state (board_at m b) (pins_of (board_at m b) b s.switches) b s.entries) (turns_behind [] w.made) k → ⊥
+      unhindered k h = run_unhindered m s.switches (pins_of (board_at m b) b s.switches) s.entries b (came_from [] (first ∷ rest)) (turns_behind [] w.made) k v run clear not_stopping fits h
 
-      heard : state_at b end.states ≡ latest_state (behind [] w.made)
+      heard : state_at b end.states ≡ latest_state (turns_behind [] w.made)
       heard = item_state b end.states ∙ last.at ∙ sym (latest_behind [] w.made last.front last.last last.are)
 
       few_came : length (came_from [] (first ∷ rest)) < 2 ^ 59
       few_came =
-          let same = as_long m s.switches b (came_from [] (first ∷ rest)) (behind [] w.made) run.both in
-          let few = few_turns (board_at m b) (length (behind [] w.made)) (valid_at m.boards b low v.boards) w.in_range in
+          let same = as_long m s.switches b (came_from [] (first ∷ rest)) (turns_behind [] w.made) run.both in
+          let few = few_turns (board_at m b) (length (turns_behind [] w.made)) (valid_at m.boards b low v.boards) w.in_range in
           omega (arith, same, few)
 
       -- no unit came too late to it
@@ -314,7 +314,7 @@ module _ (m : Machine) (v : IsValidMachine m) (short : HaveShortDictionaries m) 
           pins = pins_of (board_at m b) b s.switches
 
           after : LinkState
-          after = stands_after (link_of m s b) (behind [] w.made)
+          after = stands_after (link_of m s b) (turns_behind [] w.made)
 
           same : last.last ≡ state
           same = let e : last.last ∷ [] ≡ state ∷ [] = sym last.at ∙ at in cc
@@ -346,7 +346,7 @@ module _ (m : Machine) (v : IsValidMachine m) (short : HaveShortDictionaries m) 
               let cuts = cuts_on m t.clocks size p.seen.begun b in
               let ready_at = length (came_from [] (Ready_in t e).past) in
               let Keep : List Orders → Type 0 = λ z. AllKeepLimits z in
-              let y = late_of (orders_in (behind [] w.made)) k.end k.told (subst Keep (sym w.in_order) limits) in
+              let y = late_of (orders_in (turns_behind [] w.made)) k.end k.told (subst Keep (sym w.in_order) limits) in
               let late = λ (n' : ℕ). λ (near : AreNear k.own (clocks_at t.clocks b) ready_at size k.run_is.tracked.until n'). λ (led : RunsLed (length p.made) n' cuts).
               soon_not_late b s.entries ready_at size (length p.made) n' cuts (here m v s ts p t first rest end e b w) k n.tick n.first clear near led long y in
               elim (sends p t b refl e low) [
@@ -386,8 +386,8 @@ module _ (m : Machine) (v : IsValidMachine m) (short : HaveShortDictionaries m) 
         let low = eight.0 in
         let x = w board low in
         let No : List Orders → Type 0 = λ z. NoUnits z in
-        let none = no_steps (behind [] x.made) (subst No (sym x.in_order) (none_sent board low (connecting_untold phase))) in
-        let why = connect_cause m s.switches (pins_of (board_at m board) board s.switches) s.entries board (came_in end) All_came (behind [] x.made) turn v (run board low) all (heard board low) none (few_came board low) (first_is high) (ended ∙ ap Some e) in
+        let none = no_steps (turns_behind [] x.made) (subst No (sym x.in_order) (none_sent board low (connecting_untold phase))) in
+        let why = connect_cause m s.switches (pins_of (board_at m board) board s.switches) s.entries board (came_in end) All_came (turns_behind [] x.made) turn v (run board low) all (heard board low) none (few_came board low) (first_is high) (ended ∙ ap Some e) in
         let many = why.1 in
         unhindered board low (turn + 4 * 0) (why.3.each 0 (omega (arith, many)))
 
@@ -399,11 +399,11 @@ module _ (m : Machine) (v : IsValidMachine m) (short : HaveShortDictionaries m) 
         let size = listened Now.askings.items end.states in
         let low : board < length m.boards = omega (arith, bound, size, whole) in
         let x = w board low in
-        let why = stale_cause m s.switches (pins_of (board_at m board) board s.switches) s.entries board (came_in end) All_came (behind [] x.made) turn v (run board low) (heard board low) (fits board low) (few_came board low) (first_is high) (ended ∙ ap Some e) in
+        let why = stale_cause m s.switches (pins_of (board_at m board) board s.switches) s.entries board (came_in end) All_came (turns_behind [] x.made) turn v (run board low) (heard board low) (fits board low) (few_came board low) (first_is high) (ended ∙ ap Some e) in
         let asked = why.1 in
         hindered_first board low asked.0 asked.1 asked.5
       where
-        hindered_first : (b : ℕ) (low : b < length m.boards) (ks : List ℕ) → 200 ≤ length ks → AreAskedAndHindered (first_state (board_at m b) (pins_of (board_at m b) b s.switches) b s.entries) (behind [] (w b low).made) ks → ⊥
+        hindered_first : (b : ℕ) (low : b < length m.boards) (ks : List ℕ) → 200 ≤ length ks → AreAskedAndHindered (first_state (board_at m b) (pins_of (board_at m b) b s.switches) b s.entries) (turns_behind [] (w b low).made) ks → ⊥
         hindered_first b low [] many h = absurd (omega (arith, many))
         hindered_first b low (k ∷ ks) many h = unhindered b low k h.0.1
 

@@ -19,7 +19,7 @@ use Rattle.io_core.specs.declared.traits.Files.{Ghosts as Files}
 use Rattle.io_core.specs.declared.traits.Sink.{Ghosts as Sink}
 use Rattle.wire_scene.specs.declared.scene.Scene.{Scene}
 use Rattle.wire_scene.specs.declared.scene.Switch.{Switch}
-use Rattle.board_world.specs.World.{start}
+use Rattle.board_world.specs.World.{new_world}
 use Rattle.link_work.specs.Runs.{AreTurns}
 use Rattle.link_work.specs.Switches.{pins_of}
 use Rattle.link_work.specs.Turn.{LinkState, Orders}
@@ -47,7 +47,7 @@ use Rattle.laws_board.specs.sections.Timely.{AllTimely}
 use Rattle.laws_board.specs.plans.Homed.{stops_of}
 use Rattle.laws_board.specs.plans.Planned.{Plans, put_of}
 use Rattle.laws_board.proofs.orders.Going.{own_on}
-use Rattle.laws_run.specs.lanes.Boards.{IsInWhole, behind, orders_of, states_of}
+use Rattle.laws_run.specs.lanes.Boards.{IsInWhole, turns_behind, orders_of, states_of}
 use Rattle.laws_run.specs.lanes.Turns.{came_before}
 use Rattle.laws_run.specs.home_headline.Near.{AllTakeNear, KeepsUp}
 use Rattle.laws_run.specs.home_wholes.Own.{AllSwitchesReadTrue, AllTakeInTime}
@@ -61,7 +61,7 @@ use Rattle.laws_run.proofs.run_headline.Runs.{facts}
 use Rattle.laws_run.proofs.run_headline.Showing.{Facts, came_long, not_told, notes_before, untold_alone}
 use Rattle.laws_homing.specs.clear_groups.Runs.{BeginsWell, IsClearRun, IsTracked}
 use Rattle.laws_homing.specs.clear_groups.Sections.{IsPlain, KnowsLines, turns_of}
-use Rattle.laws_homing.specs.fired_runs.Since.{AllRead, AreRead, ReadsSwitchTrue, ReadsTrue}
+use Rattle.laws_homing.specs.fired_runs.Since.{AllRead, AreSoInTurns, ReadsSwitchTrue, ReadsTrue}
 use Rattle.laws_homing.specs.home_parts.Answers.{TakeSetUps}
 use Rattle.laws_homing.specs.home_parts.Cuts.{cuts_on}
 use Rattle.laws_homing.proofs.clear_groups.Joined.{join, tracked_later}
@@ -107,11 +107,11 @@ module _ (m : Machine) (v : IsValidMachine m) (s : Scene) (ts : List MotionTurn)
   Whole b = IsInWhole m s.switches b (clock_of (board_at m b)) (link_of m s b) ts first (rest ++ end ∷ [])
 
   abbrev TimedIn : ℕ → List Orders → Type 0
-  TimedIn b os = (last : LinkState) × (link : AreTurns (clock_of (board_at m b)) 0 os (link_of m s b) last) × AllTimely (start (board_at m b) (Pins b)) (steps_of (clock_of (board_at m b)) 0 os (link_of m s b) last link)
+  TimedIn b os = (last : LinkState) × (link : AreTurns (clock_of (board_at m b)) 0 os (link_of m s b) last) × AllTimely (new_world (board_at m b) (Pins b)) (steps_of (clock_of (board_at m b)) 0 os (link_of m s b) last link)
 
   abbrev TimelyIn : (b : ℕ) → Whole b → Type 0
-  TimelyIn b w = AllTimely (start (board_at m b) (Pins b)) (steps_of (clock_of (board_at m b)) 0 (orders_of w.made) (link_of m s b) (stands_after (link_of m s b) (behind [] w.made))
-      (turns_told (clock_of (board_at m b)) 0 (orders_of w.made) (states_of w.made) (link_of m s b) (stands_after (link_of m s b) (behind [] w.made)) w.told))
+  TimelyIn b w = AllTimely (new_world (board_at m b) (Pins b)) (steps_of (clock_of (board_at m b)) 0 (orders_of w.made) (link_of m s b) (stands_after (link_of m s b) (turns_behind [] w.made))
+      (turns_told (clock_of (board_at m b)) 0 (orders_of w.made) (states_of w.made) (link_of m s b) (stands_after (link_of m s b) (turns_behind [] w.made)) w.told))
 
   -- no unit is sent to it more than 10,700 turns late
   abbrev SentIn : ℕ → Type 0
@@ -123,13 +123,13 @@ module _ (m : Machine) (v : IsValidMachine m) (s : Scene) (ts : List MotionTurn)
     home : IsHomeRun (Own m b (length rest)) (clocks_at t.clocks b) (board_at m b).freq (board_at m b).slots From (stops_of p.seen.begun) (cuts_on m t.clocks (length p.made) p.seen.begun b) (orders_in turns)
     timed : TimedIn b (orders_in turns) ⊎ SentIn b
 
-  on_run : (b : ℕ) → b < length m.boards → (w : Whole b) → TimelyIn b w ⊎ SentIn b → OnRun b (behind [] w.made)
+  on_run : (b : ℕ) → b < length m.boards → (w : Whole b) → TimelyIn b w ⊎ SentIn b → OnRun b (turns_behind [] w.made)
   on_run b h w timely =
       let x = homing_so m v s ts p t first rest end told (length p.made) f.ahead b f.words_left w Turn h f.turns f.words (whole.notes m v s ts p t first rest end c told f short) (omega arith) (inr (omega arith)) (whole.most m v s ts p t first rest end c told f short)
       (whole.lines m v s ts p t first rest end c told f short b h) (whole.sound m v s ts p t first rest end c told f short) (whole.formed m v s ts p t first rest end c told f short) (whole.range m v s ts p t first rest end c told f short b h) in
-      let last = stands_after (link_of m s b) (behind [] w.made) in
+      let last = stands_after (link_of m s b) (turns_behind [] w.made) in
       let link = turns_told (clock_of (board_at m b)) 0 (orders_of w.made) (states_of w.made) (link_of m s b) last w.told in
-      let Timed : Type 0 = TimedIn b (orders_in (behind [] w.made)) ⊎ SentIn b in
+      let Timed : Type 0 = TimedIn b (orders_in (turns_behind [] w.made)) ⊎ SentIn b in
       let timed : Timed = elim timely [ inl a ↦ (let all : TimedIn b (orders_of w.made) = (last, link, a) in inl (subst (TimedIn b) (sym w.in_order) all)) | inr sent ↦ inr sent ] in
       record { run = x.run; home = x.home; timed = timed }
 
@@ -200,7 +200,7 @@ module _ (m : Machine) (v : IsValidMachine m) (s : Scene) (ts : List MotionTurn)
 
     -- the clock lines
     abbrev Lines : ℕ → ℕ → Clocks
-    Lines start b = clocks_at t.clocks b
+    Lines new_world b = clocks_at t.clocks b
 
     abbrev Till : ℕ
     Till = length rest + 276
@@ -252,7 +252,7 @@ module _ (m : Machine) (v : IsValidMachine m) (s : Scene) (ts : List MotionTurn)
         let same : (i : ℕ) (low : i < n) → turns_of i all.0 ≡ (cut i low).past = (λ i low. all.2 i low ∙ past_same i (is_low i n) low) in
         let few = size in
         let z = runs_read m v s.switches Pins s.entries clear Lines (From + 1) Till tracks y before all.0 (is_clear all.0 all.1 same) (omega (arith, few)) b h in
-        let To : (Came → List Came → List BoardTurn → Type 0) → List BoardTurn → Type 0 = λ R us. AreRead R (y ∷ before) us in
+        let To : (Came → List Came → List BoardTurn → Type 0) → List BoardTurn → Type 0 = λ R us. AreSoInTurns R (y ∷ before) us in
         (whole_of (ReadsTrue m s.switches b) (turns b h) k.x k.past k.is (subst (To (ReadsTrue m s.switches b)) (same b h) z.0), whole_of (ReadsSwitchTrue m s.switches b) (turns b h) k.x k.past k.is (subst (To (ReadsSwitchTrue m s.switches b)) (same b h) z.1))
       where
         is_low : (i n : ℕ) → (i < n) ⊎ (n ≤ i)
@@ -266,8 +266,8 @@ module _ (m : Machine) (v : IsValidMachine m) (s : Scene) (ts : List MotionTurn)
         past_same i (inl q) low = let low_prop : IsProp (i < length m.boards) = hlevel props in ap (λ (l : i < length m.boards). (cut i l).past) (low_prop q low)
         past_same i (inr q) low = absurd (omega (arith, q, low))
 
-        whole_of : (R : Came → List Came → List BoardTurn → Type 0) (us : List BoardTurn) (x : BoardTurn) (past : List BoardTurn) → us ≡ x ∷ past → AreRead R (y ∷ before) past → AllRead R Heard us
-        whole_of R us x past is k = subst (λ (z : List BoardTurn). AllRead R Heard z) (sym is) (subst (λ (z : List Came). AreRead R z past) (sym are) k)
+        whole_of : (R : Came → List Came → List BoardTurn → Type 0) (us : List BoardTurn) (x : BoardTurn) (past : List BoardTurn) → us ≡ x ∷ past → AreSoInTurns R (y ∷ before) past → AllRead R Heard us
+        whole_of R us x past is k = subst (λ (z : List BoardTurn). AllRead R Heard z) (sym is) (subst (λ (z : List Came). AreSoInTurns R z past) (sym are) k)
 
   -- of any view of a board
   module _ (timely : (b : ℕ) → b < length m.boards → (w : Whole b) → TimelyIn b w ⊎ SentIn b) (b : ℕ) (low : b < length m.boards) (w : Whole b) where
@@ -275,14 +275,14 @@ module _ (m : Machine) (v : IsValidMachine m) (s : Scene) (ts : List MotionTurn)
     x = came_some [] first rest
 
     abbrev Turns_or : Bool → (i : ℕ) → i < length m.boards → List BoardTurn
-    Turns_or z i h = cond z (behind [] w.made) (behind [] (whole.whole m v s ts p t first rest end c told f short i h).made)
+    Turns_or z i h = cond z (turns_behind [] w.made) (turns_behind [] (whole.whole m v s ts p t first rest end c told f short i h).made)
 
     abbrev Turns_all : (i : ℕ) → i < length m.boards → List BoardTurn
     Turns_all i h = Turns_or (i == b) i h
 
     on_all : (i : ℕ) (h : i < length m.boards) → OnRun i (Turns_all i h)
     on_all i h = elim (eqb_tells i b) [
-      | inl q ↦ subst (λ (z : Bool). OnRun i (Turns_or z i h)) (sym q.0) (subst (λ (j : ℕ). OnRun j (behind [] w.made)) (sym q.1) (on_run b low w (timely b low w)))
+      | inl q ↦ subst (λ (z : Bool). OnRun i (Turns_or z i h)) (sym q.0) (subst (λ (j : ℕ). OnRun j (turns_behind [] w.made)) (sym q.1) (on_run b low w (timely b low w)))
       | inr q ↦ subst (λ (z : Bool). OnRun i (Turns_or z i h)) (sym q.0) (on_run i h (whole.whole m v s ts p t first rest end c told f short i h) (timely i h (whole.whole m v s ts p t first rest end c told f short i h)))
     ]
 
@@ -293,22 +293,22 @@ module _ (m : Machine) (v : IsValidMachine m) (s : Scene) (ts : List MotionTurn)
     same = elim (eqb_tells b b) [ inl q ↦ q.0 | inr q ↦ absurd (q.1 refl) ]
 
     -- its reports are read true
-    pub any_reads : AllRead (ReadsTrue m s.switches b) (came_before [] (first ∷ (rest ++ end ∷ []))) (behind [] w.made) × AllRead (ReadsSwitchTrue m s.switches b) (came_before [] (first ∷ (rest ++ end ∷ []))) (behind [] w.made)
+    pub any_reads : AllRead (ReadsTrue m s.switches b) (came_before [] (first ∷ (rest ++ end ∷ []))) (turns_behind [] w.made) × AllRead (ReadsSwitchTrue m s.switches b) (came_before [] (first ∷ (rest ++ end ∷ []))) (turns_behind [] w.made)
     any_reads =
         let Both : List Came → List BoardTurn → Type 0 = λ came us. AllRead (ReadsTrue m s.switches b) came us × AllRead (ReadsSwitchTrue m s.switches b) came us in
-        let here : Both Heard (behind [] w.made) = subst (λ (z : Bool). Both Heard (Turns_or z b low)) same (reads Turns_all on_all have x.0 x.1 x.2 b low) in
-        subst (λ (z : List Came). Both z (behind [] w.made)) (sym (came_cut [] first rest end)) here
+        let here : Both Heard (turns_behind [] w.made) = subst (λ (z : Bool). Both Heard (Turns_or z b low)) same (reads Turns_all on_all have x.0 x.1 x.2 b low) in
+        subst (λ (z : List Came). Both z (turns_behind [] w.made)) (sym (came_cut [] first rest end)) here
 
     -- its units fit
-    pub any_fits : UnitsFit (behind [] w.made)
+    pub any_fits : UnitsFit (turns_behind [] w.made)
     any_fits = subst (λ (z : Bool). UnitsFit (Turns_or z b low)) same (fits Turns_all on_all have x.0 x.1 x.2 b low).0
 
     -- it takes the set-ups in time
-    pub any_takes : TakeSetUps m (Pins b) s.entries b p.seen.begun (behind [] w.made)
+    pub any_takes : TakeSetUps m (Pins b) s.entries b p.seen.begun (turns_behind [] w.made)
     any_takes = subst (λ (z : Bool). TakeSetUps m (Pins b) s.entries b p.seen.begun (Turns_or z b low)) same (takes Turns_all on_all have x.0 x.1 x.2 b low)
 
   -- where no unit is sent more than 10,700 turns late to a board, the units of each fit
-  pub sent_fits : ((b : ℕ) → b < length m.boards → SentIn b) → (b : ℕ) → b < length m.boards → (w : Whole b) → UnitsFit (behind [] w.made)
+  pub sent_fits : ((b : ℕ) → b < length m.boards → SentIn b) → (b : ℕ) → b < length m.boards → (w : Whole b) → UnitsFit (turns_behind [] w.made)
   sent_fits sent b low w = any_fits (λ i l x. inr (sent i l)) b low w
 
   -- and each keeps up
@@ -319,7 +319,7 @@ module _ (m : Machine) (v : IsValidMachine m) (s : Scene) (ts : List MotionTurn)
 
 -- where no homing section is ever known, no report counts for one
 none_read : (m : Machine) (switches : List Switch) (R : Came → List Came → List BoardTurn → Type 0) → ((c : Came) (before : List Came) (turns : List BoardTurn) → (noted m c.note (known_by m switches before)).homing ≡ None → R c before turns) → (came : List Came) (turns : List BoardTurn)
-    → GoesOn m switches came → AllMoves came → AreRead R came turns
+    → GoesOn m switches came → AllMoves came → AreSoInTurns R came turns
 none_read m switches R none [] turns on moves = tt
 none_read m switches R none (c ∷ before) [] on moves = tt
 none_read m switches R none (c ∷ before) (t ∷ turns) on moves =
@@ -348,11 +348,11 @@ module _ (m : Machine) (v : IsValidMachine m) (s : Scene) (ts : List MotionTurn)
       abbrev Came_in : List Came
       Came_in = came_before [] (first ∷ (rest ++ end ∷ []))
 
-      both_so : (o : Option Told) → p.seen.told ≡ o → AllRead (ReadsTrue m s.switches b) Came_in (behind [] w.made) × AllRead (ReadsSwitchTrue m s.switches b) Came_in (behind [] w.made)
+      both_so : (o : Option Told) → p.seen.told ≡ o → AllRead (ReadsTrue m s.switches b) Came_in (turns_behind [] w.made) × AllRead (ReadsSwitchTrue m s.switches b) Came_in (turns_behind [] w.made)
       both_so None told = absurd (some (not_told m v s ts p end c told))
       both_so (Some t) told = any_reads m v s ts p t first rest end c told f short clear (λ i l x. inl (timely p i same some l x)) b low w
 
-      takes_so : (o : Option Told) → p.seen.told ≡ o → TakeSetUps m (pins_of (board_at m b) b s.switches) s.entries b p.seen.begun (behind [] w.made)
+      takes_so : (o : Option Told) → p.seen.told ≡ o → TakeSetUps m (pins_of (board_at m b) b s.switches) s.entries b p.seen.begun (turns_behind [] w.made)
       takes_so None told = absurd (some (not_told m v s ts p end c told))
       takes_so (Some t) told = any_takes m v s ts p t first rest end c told f short clear (λ i l x. inl (timely p i same some l x)) b low w
 
@@ -363,7 +363,7 @@ module _ (m : Machine) (v : IsValidMachine m) (s : Scene) (ts : List MotionTurn)
         let kinds : Of p.seen.begun = subst Of (sym none) (All-nil (λ (x : Started). x.section.kind ≡ Moves)) in
         let moves : AllMoves (came_from [] (first ∷ rest)) = all_moves m p.seen.text p.seen.begun p.made first rest kinds p.put (notes_before m v s ts p end c first rest f) in
         let here = subst AllMoves (sym (came_cut [] first rest end)) moves in
-        λ b low w. all_none m s.switches (ReadsSwitchTrue m s.switches b) (λ d before turns homes h x is. absurd (none_is h (sym homes ∙ is))) (came_before [] (first ∷ (rest ++ end ∷ []))) (behind [] w.made) w.goes_on here
+        λ b low w. all_none m s.switches (ReadsSwitchTrue m s.switches b) (λ d before turns homes h x is. absurd (none_is h (sym homes ∙ is))) (came_before [] (first ∷ (rest ++ end ∷ []))) (turns_behind [] w.made) w.goes_on here
 
     switches_so : (text : List ℕ) → p.seen.text ≡ text → (z : List Started) → p.seen.begun ≡ z → AllAreTimely m s text ts (first ∷ (rest ++ end ∷ [])) → AllSwitchesReadTrue m s ts (first ∷ (rest ++ end ∷ []))
     switches_so text is [] are timely = switches_none are
@@ -388,7 +388,7 @@ module _ (m : Machine) (v : IsValidMachine m) (s : Scene) (ts : List MotionTurn)
   takes_all text (first ∷ rest) f timely = λ p b same some low w. takes_so p first rest f text same some timely b low w p.seen.told refl
 
   switches_all : (text : List ℕ) (p : Plans m (length m.boards) ts) → p.seen.text ≡ text → (rs : List ReactorTurn) → Facts m s ts rs end c → AllAreTimely m s text ts (rs ++ end ∷ []) → AllSwitchesReadTrue m s ts (rs ++ end ∷ [])
-  switches_all text p is [] f timely = λ b low w. none_came (ReadsSwitchTrue m s.switches b) (behind [] w.made)
+  switches_all text p is [] f timely = λ b low w. none_came (ReadsSwitchTrue m s.switches b) (turns_behind [] w.made)
   switches_all text p is (first ∷ rest) f timely = switches_so p first rest f text is p.seen.begun refl timely
 
 module _ {F S : Type 0} (f : Files F) (o : Sink S) (m : Machine) (s : Scene) (name : List ℕ) (files files' : F) (out out' : S) (kept kept' : Kept) (t : near.Told Run) (r : RunsOver f o m s name files out kept t files' out' kept') (v : IsValidMachine m) (short : HaveShortDictionaries m)

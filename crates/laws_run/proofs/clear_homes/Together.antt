@@ -28,7 +28,7 @@ use Rattle.laws_run.proofs.run_headline.Boarded.{Ready, came_split, lines_renewe
 use Rattle.laws_run.proofs.run_headline.Going.{Lasts, lasts}
 use Rattle.laws_run.proofs.run_headline.Showing.{Facts, came_long}
 use Rattle.laws_run.specs.home_headline.Near.{KeepsUp}
-use Rattle.laws_run.specs.lanes.Boards.{IsInWhole, behind, states_of}
+use Rattle.laws_run.specs.lanes.Boards.{IsInWhole, turns_behind, states_of}
 use Rattle.laws_run.specs.run_headline.Timely.{link_of}
 use Rattle.link_work.specs.Switches.{pins_of}
 use Rattle.motion_work.specs.Known.{lines_by}
@@ -89,7 +89,7 @@ module _ (m : Machine) (v : IsValidMachine m) (s : Scene) (ts : List MotionTurn)
   Whole b h = f.boards b first rest h refl
 
   abbrev pub Turns : (b : ℕ) → b < length m.boards → List BoardTurn
-  Turns b h = behind [] (Whole b h).made
+  Turns b h = turns_behind [] (Whole b h).made
 
   abbrev pub Pins : ℕ → List (List Level)
   Pins b = pins_of (board_at m b) b s.switches

@@ -30,7 +30,7 @@ use Rattle.session_work.specs.declared.table.ReactorTurn.{ReactorTurn}
 use Rattle.session_work.specs.Rows.{item}
 use Rattle.session_run.specs.Boards.{AreReactorTurns, came_from, came_in}
 use Rattle.laws_board.specs.sections.Parts.{AreOrdersOf}
-use Rattle.laws_run.specs.lanes.Boards.{behind}
+use Rattle.laws_run.specs.lanes.Boards.{turns_behind}
 use Rattle.laws_run.proofs.run_headline.Boarded.{AllFit, fit_of}
 use Rattle.laws_board.specs.causes.Causes.{BringNoSteps}
 use Rattle.laws_run.proofs.clear_runs.Punctual.{NoUnits}
@@ -62,7 +62,7 @@ no_states : (s : State) (xs ys : List State) → [] ≡ xs ++ s ∷ ys → ⊥
 no_states s [] ys e = cc
 no_states s (x ∷ xs) ys e = cc
 
-pub latest_behind : (turns made : List BoardTurn) (front : List State) (s : State) → map (λ t. t.state) made ≡ front ++ s ∷ [] → latest_state (behind turns made) ≡ s ∷ []
+pub latest_behind : (turns made : List BoardTurn) (front : List State) (s : State) → map (λ t. t.state) made ≡ front ++ s ∷ [] → latest_state (turns_behind turns made) ≡ s ∷ []
 latest_behind turns [] front s e = absurd (no_states s front [] e)
 latest_behind turns (t ∷ []) [] s e = e
 latest_behind turns (t ∷ []) (f ∷ front) s e = absurd (no_states s front [] (let g : [] ≡ front ++ s ∷ [] = cc in g))

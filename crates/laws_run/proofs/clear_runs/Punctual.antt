@@ -20,8 +20,8 @@ use Rattle.wire_scene.specs.declared.scene.Way.TheVariants.{Down, Up}
 use Rattle.board_sim.specs.Fair.{Meant}
 use Rattle.board_world.specs.declared.event.Event.TheVariants.{Pass}
 use Rattle.board_world.specs.Orders.{plain, unit_orders, unit_ticks, units_orders}
-use Rattle.board_world.specs.World.{AllFair, Core, Do, Step, after, run}
-use Rattle.link_work.specs.Ends.{EndSo, Ended, last_of, stretch, up_to}
+use Rattle.board_world.specs.World.{AllFair, Core, Do, Step, world_after, run_world}
+use Rattle.link_work.specs.Ends.{EndSo, Ended, last_link, stretch, up_to}
 use Rattle.link_work.specs.Late.{AreFairTurns, BeginsAt, IsLate, IsSteps, turn_steps}
 use Rattle.link_work.specs.Runs.{AreTurns, queued_in}
 use Rattle.link_work.specs.Stands.{first_state}
@@ -145,9 +145,9 @@ units_time t (u ∷ us) a =
     (units_time t us a.1)
 
 -- turns in which the units that are taken are fair
-fair_split : (xs ys : List Step) (h : Core) → AllFair h (xs ++ ys) → AllFair h xs × AllFair (run xs h) ys
+fair_split : (xs ys : List Step) (h : Core) → AllFair h (xs ++ ys) → AllFair h xs × AllFair (run_world xs h) ys
 fair_split [] ys h a = (tt, a)
-fair_split (x ∷ xs) ys h a = let r = fair_split xs ys (after h x) a.1 in ((a.0, r.0), r.1)
+fair_split (x ∷ xs) ys h a = let r = fair_split xs ys (world_after h x) a.1 in ((a.0, r.0), r.1)
 
 turn_fair : (clock : BoardClock) (turn : ℕ) (o : Orders) (l m : LinkState) (t u : IsTurn clock turn o l m) → AllFair l.core (steps_of_turn clock turn o t.resent l) → AllFair l.core (turn_steps clock turn o u.resent l)
 turn_fair clock turn o l m t u f =
@@ -166,7 +166,7 @@ fair_turns clock turn [] l m t f = tt
 fair_turns clock turn (o ∷ os) l m t f =
     let first = steps_of_turn clock turn o t.1.resent l in
     let both = fair_split first (steps_of clock (turn + 1) os t.0 m t.2) l.core f in
-    let same : run first l.core ≡ t.0.core = sym (ap (λ (x : LinkState). x.core) t.1.becomes ∙ turn_runs clock turn o t.1.resent l) in
+    let same : run_world first l.core ≡ t.0.core = sym (ap (λ (x : LinkState). x.core) t.1.becomes ∙ turn_runs clock turn o t.1.resent l) in
     let Fair : Core → Type 0 = λ h. AllFair h (steps_of clock (turn + 1) os t.0 m t.2) in
     ((λ u. turn_fair clock turn o l t.0 t.1 u both.0), fair_turns clock (turn + 1) os t.0 m t.2 (subst Fair same both.1))
 
@@ -175,7 +175,7 @@ pub end_so : (clock : BoardClock) (turn : ℕ) (os : List Orders) (l m : LinkSta
 end_so clock turn [] l m t = refl
 end_so clock turn (o ∷ os) l m t = (refl, t.1, end_so clock (turn + 1) os t.0 m t.2)
 
-pub last_end : (clock : BoardClock) (turn : ℕ) (os : List Orders) (l m : LinkState) (t : AreTurns clock turn os l m) → last_of l (ends_of clock turn os l m t) ≡ m
+pub last_end : (clock : BoardClock) (turn : ℕ) (os : List Orders) (l m : LinkState) (t : AreTurns clock turn os l m) → last_link l (ends_of clock turn os l m t) ≡ m
 last_end clock turn [] l m t = sym t
 last_end clock turn (o ∷ os) l m t = last_end clock (turn + 1) os t.0 m t.2
 

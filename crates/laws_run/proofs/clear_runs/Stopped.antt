@@ -7,7 +7,7 @@ use Rattle.plan_types.specs.declared.cause.Cause.TheVariants as cause
 use Rattle.plan_types.specs.declared.machine.Machine.{Machine}
 use Rattle.wire_scene.specs.declared.scene.Scene.{Scene}
 use Rattle.host_reactor.specs.Reactor.{Run, first_run}
-use Rattle.host_reactor.specs.Rows.{EndsFor, IsOwn}
+use Rattle.host_reactor.specs.Rows.{MayEndFor, IsOwn}
 use Rattle.host_reactor.proofs.Blames.{blames}
 use Rattle.session_lanes.specs.declared.near.Told.{Told}
 use Rattle.session_lanes.specs.Runs.{head_at, ran_at}
@@ -24,7 +24,7 @@ use Rattle.laws_run.proofs.run_headline.Faults.{Faulty}
 abbrev pub IsFor : Cause → Type 0
 IsFor c = (c ≡ cause.Memory) ⊎ ((c ≡ cause.WriteFault) ⊎ (((x : ReadStop) × (c ≡ cause_of x)) ⊎ IsOwn c))
 
-is_for : (told : Option Cause) (c : Cause) → Faulty told → EndsFor told c → IsFor c
+is_for : (told : Option Cause) (c : Cause) → Faulty told → MayEndFor told c → IsFor c
 is_for told c faulty (inl e) = inl e
 is_for told c faulty (inr (inl e)) = let f : Faulty (Some c) = subst Faulty e faulty in elim f [ inl w ↦ inr (inl w) | inr w ↦ inr (inr (inl w)) ]
 is_for told c faulty (inr (inr e)) = inr (inr (inr e.1))

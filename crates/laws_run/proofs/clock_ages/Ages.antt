@@ -28,7 +28,7 @@ use Rattle.laws_board.specs.clocks.Samples.{IsSampled}
 use Rattle.laws_board.specs.orders.Renewed.{AreSampled, ComeInTime, NoneBefore}
 use Rattle.laws_board.specs.plans.Answers.{TookNoneAhead}
 use Rattle.laws_board.specs.plans.Lines.{drifts_of, held_lines}
-use Rattle.laws_board.specs.plans.Planned.{LoseNone, TakeUpLines, TookInTime, fresh_in, heard_in, put_of, puts_of, told_behind, told_of, words_in}
+use Rattle.laws_board.specs.plans.Planned.{LoseNone, TakeUpLines, TookInTime, fresh_in, connecting_heard, put_of, puts_of, told_behind, told_of, words_in}
 use Rattle.laws_run.proofs.clock_ages.Saying.{TellFirst, TellNew, TellsAgain, TellsIn}
 use Rattle.laws_run.proofs.run_headline.Further.{EachHeld, EachTold, noted_append, noted_grown, noted_long, none_asked}
 use Rattle.laws_run.proofs.run_headline.Noting.{both_told, note_from, were_told}
@@ -287,10 +287,10 @@ module _ (m : Machine) (b ended running : ℕ) (turns : List BoardTurn) (ws : Li
   abbrev behind : Told → List NoteNews → Told
   behind now ns = record { first = now.first; clocks = noted_lines ns now.clocks }
 
-  behind_is : (k : ℕ) (x : MotionTurn) (told : Option Told) (now : Told) → heard_in m k x.words told ≡ Some now → told_behind m k x told ≡ Some (behind now x.note.news)
+  behind_is : (k : ℕ) (x : MotionTurn) (told : Option Told) (now : Told) → connecting_heard m k x.words told ≡ Some now → told_behind m k x told ≡ Some (behind now x.note.news)
   behind_is k x told now e = ap (told_on x.note.news) e
 
-  end_is : (k : ℕ) (x : MotionTurn) (ts : List MotionTurn) (told : Option Told) (now : Told) → heard_in m k x.words told ≡ Some now → told_of m k (x ∷ ts) told ≡ Some t → noted_lines (news_in (x ∷ ts)) now.clocks ≡ t.clocks
+  end_is : (k : ℕ) (x : MotionTurn) (ts : List MotionTurn) (told : Option Told) (now : Told) → connecting_heard m k x.words told ≡ Some now → told_of m k (x ∷ ts) told ≡ Some t → noted_lines (news_in (x ∷ ts)) now.clocks ≡ t.clocks
   end_is k x ts told now e is =
       let mid = behind now x.note.news in
       let all : Some (record { first = now.first; clocks = noted_lines (news_in ts) mid.clocks }) ≡ Some t = sym (told_grows m (k + 1) ts mid) ∙ ap (told_of m (k + 1) ts) (sym (behind_is k x told now e)) ∙ is in
@@ -306,7 +306,7 @@ module _ (m : Machine) (b ended running : ℕ) (turns : List BoardTurn) (ws : Li
         held = ap (λ (cs : List Clocks). (clocks_at cs b).held) (sym e) ∙ g.held;
       }
 
-  one : (k taken : ℕ) (before : List WordMsg) (x : MotionTurn) (ts : List MotionTurn) (told : Option Told) (now : Told) → heard_in m k x.words told ≡ Some now → All (IsNotLost m now.clocks k x.note.news) (lines_heard x.words) ⊎ (taken + length x.words ≤ ended + 1) → Goes k taken before (x ∷ ts) told → Stands k taken before (clocks_at now.clocks b)
+  one : (k taken : ℕ) (before : List WordMsg) (x : MotionTurn) (ts : List MotionTurn) (told : Option Told) (now : Told) → connecting_heard m k x.words told ≡ Some now → All (IsNotLost m now.clocks k x.note.news) (lines_heard x.words) ⊎ (taken + length x.words ≤ ended + 1) → Goes k taken before (x ∷ ts) told → Stands k taken before (clocks_at now.clocks b)
       → Stands (k + 1) (taken + length x.words) (before ++ x.words) (clocks_at (noted_lines x.note.news now.clocks) b)
   one k taken before x ts told now e lines g s =
       let all = end_is k x ts told now e g.told_is in
@@ -376,9 +376,9 @@ module _ (m : Machine) (b ended running : ℕ) (turns : List BoardTurn) (ws : Li
 
   starts : (k taken : ℕ) (before : List WordMsg) (ts : List MotionTurn) → taken ≡ k → Goes k taken before ts None → Ends k taken before ts
   starts k taken before [] even g = absurd (let e : None ≡ Some t = g.told_is in cc)
-  starts k taken before (x ∷ ts) even g = by (heard_in m k x.words None) refl (λ same rest. starts (k + 1) (taken + length x.words) (before ++ x.words) ts same rest)
+  starts k taken before (x ∷ ts) even g = by (connecting_heard m k x.words None) refl (λ same rest. starts (k + 1) (taken + length x.words) (before ++ x.words) ts same rest)
     where
-      by : (o : Option Told) → heard_in m k x.words None ≡ o → (taken + length x.words ≡ k + 1 → Goes (k + 1) (taken + length x.words) (before ++ x.words) ts None → Ends (k + 1) (taken + length x.words) (before ++ x.words) ts) → Ends k taken before (x ∷ ts)
+      by : (o : Option Told) → connecting_heard m k x.words None ≡ o → (taken + length x.words ≡ k + 1 → Goes (k + 1) (taken + length x.words) (before ++ x.words) ts None → Ends (k + 1) (taken + length x.words) (before ++ x.words) ts) → Ends k taken before (x ∷ ts)
       by None is rec =
           let ahead = g.ahead.0 in
           let took = g.in_time.0 is in

@@ -18,12 +18,12 @@ use Rattle.host_reactor.specs.Report.{drift_lines, turn_at}
 use Rattle.laws_board.specs.turns.Turns.{BoardTurn}
 use Rattle.motion_work.specs.declared.told.BoardLine.{BoardLine}
 use Rattle.motion_work.specs.Further.{WasHeard}
-use Rattle.motion_work.specs.Told.{Told, are_fit, first_told, heard, lines_in, told_at, told_by, told_in, told_of}
-use Rattle.motion_work.specs.Told.{last_turn as last_word}
+use Rattle.motion_work.specs.Told.{Told, are_fit, first_told, heard, lines_in, told_at, clocks_in_news, told_in, told_of}
+use Rattle.motion_work.specs.Told.{word_limit as last_word}
 use Rattle.motion_stream.specs.Uptakes.{TellsOf}
 use Rattle.laws_board.specs.plans.Lines.{drifts_of}
 use Rattle.motion_stream.specs.Motions.{lines_kept}
-use Rattle.laws_board.specs.plans.Planned.{fresh_in, heard_in}
+use Rattle.laws_board.specs.plans.Planned.{fresh_in, connecting_heard}
 use Rattle.laws_run.proofs.clock_ages.Saying.{IsNew, TellFirst, TellNew, TellsIn}
 use Rattle.laws_run.proofs.run_headline.Noting.{heard_either}
 use Rattle.laws_run.proofs.run_headline.Words.{heard_on}
@@ -155,7 +155,7 @@ ones_held [] c = refl
 ones_held (l ∷ lines) zero = refl
 ones_held (l ∷ lines) (suc c) = ones_held lines c
 
-by_held : (m : Machine) (turn : ℕ) (n : WordNews) (clocks : List Clocks) (c : ℕ) → told_by m turn n ≡ Some clocks → (clocks_at clocks c).held ≡ []
+by_held : (m : Machine) (turn : ℕ) (n : WordNews) (clocks : List Clocks) (c : ℕ) → clocks_in_news m turn n ≡ Some clocks → (clocks_at clocks c).held ≡ []
 by_held m turn (word.Lines lines) clocks c e = by (are_fit m.boards turn lines) e
   where
     by : (t : Bool) → (if t then Some (map one_line lines) else None) ≡ Some clocks → (clocks_at clocks c).held ≡ []
@@ -166,9 +166,9 @@ by_held m turn word.Homed clocks c e = absurd (let f : None ≡ Some clocks = e 
 
 in_held : (m : Machine) (turn : ℕ) (ns : List WordNews) (clocks : List Clocks) (c : ℕ) → told_in m turn ns ≡ Some clocks → (clocks_at clocks c).held ≡ []
 in_held m turn [] clocks c e = absurd (let f : None ≡ Some clocks = e in cc)
-in_held m turn (n ∷ ns) clocks c e = by (told_by m turn n) refl (λ f. in_held m turn ns clocks c f) e
+in_held m turn (n ∷ ns) clocks c e = by (clocks_in_news m turn n) refl (λ f. in_held m turn ns clocks c f) e
   where
-    by : (o : Option (List Clocks)) → told_by m turn n ≡ o → (told_in m turn ns ≡ Some clocks → (clocks_at clocks c).held ≡ []) → first_told o (told_in m turn ns) ≡ Some clocks → (clocks_at clocks c).held ≡ []
+    by : (o : Option (List Clocks)) → clocks_in_news m turn n ≡ o → (told_in m turn ns ≡ Some clocks → (clocks_at clocks c).held ≡ []) → first_told o (told_in m turn ns) ≡ Some clocks → (clocks_at clocks c).held ≡ []
     by None is rec e = rec e
     by (Some first) is rec e = by_held m turn n clocks c (is ∙ e)
 
@@ -185,11 +185,11 @@ pub record IsToldIn (low high ended : ℕ) (now : Told) : Type 0 where
   pub soon : ended < high
   pub none : (c : ℕ) → (clocks_at now.clocks c).held ≡ []
 
-pub told_first : (m : Machine) (k ended j : ℕ) (ws : List WordMsg) (now : Told) → TellFirst m ended j ws → heard_in m k ws None ≡ Some now → IsToldIn j (j + length ws) ended now
+pub told_first : (m : Machine) (k ended j : ℕ) (ws : List WordMsg) (now : Told) → TellFirst m ended j ws → connecting_heard m k ws None ≡ Some now → IsToldIn j (j + length ws) ended now
 told_first m k ended j [] now f e = absurd (let h : None ≡ Some now = e in cc)
 told_first m k ended j (w ∷ ws) now f e = by (told_of m w) refl f.0 e (λ g. told_first m k ended (j + 1) ws now f.1 g)
   where
-    by : (o : Option (List Clocks)) → told_of m w ≡ o → (told_of m w ≡ None) ⊎ (j ≡ ended) → heard_in m k ws (told_at (max k w.turn) o) ≡ Some now → (heard_in m k ws None ≡ Some now → IsToldIn (j + 1) (j + 1 + length ws) ended now) → IsToldIn j (j + length (w ∷ ws)) ended now
+    by : (o : Option (List Clocks)) → told_of m w ≡ o → (told_of m w ≡ None) ⊎ (j ≡ ended) → connecting_heard m k ws (told_at (max k w.turn) o) ≡ Some now → (connecting_heard m k ws None ≡ Some now → IsToldIn (j + 1) (j + 1 + length ws) ended now) → IsToldIn j (j + length (w ∷ ws)) ended now
     by None is at e rec =
         let r = rec e in
         let late = r.late in

@@ -15,7 +15,7 @@ use Rattle.session_work.specs.declared.table.MotionTurn.{MotionTurn}
 use Rattle.session_work.specs.declared.table.ReactorTurn.{ReactorTurn}
 use Rattle.session_work.specs.Rows.{gather}
 use Rattle.session_run.specs.Boards.{AreReactorTurns, came_from}
-use Rattle.laws_run.specs.lanes.Boards.{IsInWhole, behind}
+use Rattle.laws_run.specs.lanes.Boards.{IsInWhole, turns_behind}
 use Rattle.laws_board.specs.orders.Renewed.{ComeInTime}
 use Rattle.laws_board.specs.plans.Planned.{Plans, put_of, words_in}
 use Rattle.laws_run.specs.clock_ages.Renewed.{StayYoung}
@@ -42,7 +42,7 @@ module _ (m : Machine) (v : IsValidMachine m) (s : Scene) (ts : List MotionTurn)
       → ComeInTime (board_at m b).drift (clocks_at t.clocks b).first (clocks_at t.clocks b).held (length rest + 400)
   drifting b w inside soon drifts =
       let run = run_of m v s ts p t first rest end told b w inside in
-      let own = behind [] w.made in
+      let own = turns_behind [] w.made in
       let size = sym (as_long m s.switches b (came_from [] (first ∷ rest)) own run.both) ∙ came_long [] (first ∷ rest) in
       let small = p.small in
       let made = length-map p.made put_of in

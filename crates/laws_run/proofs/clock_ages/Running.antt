@@ -14,7 +14,7 @@ use Rattle.session_work.specs.declared.table.ReactorTurn.{ReactorTurn}
 use Rattle.session_work.specs.Leads.{last_words}
 use Rattle.session_work.specs.Rows.{gather}
 use Rattle.session_run.specs.Boards.{AreReactorTurns, came_from}
-use Rattle.laws_run.specs.lanes.Boards.{IsInWhole, behind}
+use Rattle.laws_run.specs.lanes.Boards.{IsInWhole, turns_behind}
 use Rattle.laws_board.specs.plans.Planned.{Plans}
 use Rattle.laws_run.proofs.clock_ages.Saying.{TellFirst, TellsAgain, TellsIn}
 use Rattle.laws_run.specs.run_headline.Timely.{link_of}
@@ -31,13 +31,13 @@ module _ (m : Machine) (v : IsValidMachine m) (s : Scene) (ts : List MotionTurn)
   Ended = length (came_from [] r.past)
 
   pub run_tells : (b n running : ℕ) (w : IsInWhole m s.switches b (clock_of (board_at m b)) (link_of m s b) ts first (rest ++ end ∷ [])) → b < length m.boards → AreReactorTurns m s.switches [] (first ∷ rest) → Ended < 2_200
-      → length (behind [] w.made) ≤ running + 3 → length (behind [] w.made) ≤ 2 ^ 43
+      → length (turns_behind [] w.made) ≤ running + 3 → length (turns_behind [] w.made) ≤ 2 ^ 43
       → ((from : ℕ) → Ended < from → from + 2_200 ≤ running → TellsIn b from (from + 2_200) 0 (words_of (first ∷ rest) n))
-      → TellsAgain m b Ended running (behind [] w.made) (words_of (first ∷ rest) n) (clocks_at t.clocks b).first
+      → TellsAgain m b Ended running (turns_behind [] w.made) (words_of (first ∷ rest) n) (clocks_at t.clocks b).first
   run_tells b n running w inside turns soon long few again =
       let clock = clock_of (board_at m b) in
       let pins = pins_of (board_at m b) b s.switches in
-      let own = behind [] w.made in
+      let own = turns_behind [] w.made in
       let put = gather (λ (x : ReactorTurn). x.word ∷ []) (first ∷ rest) in
       let last = last_words (length (first ∷ rest)) n in
       let k = 0 + length put in

@@ -14,7 +14,7 @@ use Rattle.wire_scene.specs.declared.scene.Switch.{Switch}
 use Rattle.link_work.specs.Switches.{pins_of}
 use Rattle.host_reactor.specs.declared.ordered.Phase.{Phase}
 use Rattle.host_reactor.specs.declared.ordered.Phase.TheVariants.{Connecting, Running, Stopping}
-use Rattle.host_reactor.specs.Runs.{Came, known_by, last_turn}
+use Rattle.host_reactor.specs.Runs.{Came, known_by, last_reacted}
 use Rattle.laws_board.specs.turns.Turns.{BoardTurn}
 use Rattle.laws_board.specs.clocks.Runs.{IsInRun}
 use Rattle.laws_board.specs.clocks.Samples.{further_lines}
@@ -34,7 +34,7 @@ use Rattle.session_work.specs.declared.table.ReactorTurn.{ReactorTurn}
 use Rattle.session_work.specs.Leads.{last_words}
 use Rattle.session_work.specs.Rows.{gather}
 use Rattle.session_run.specs.Boards.{AreReactorTurns, came_from, came_in}
-use Rattle.laws_run.specs.lanes.Boards.{IsInWhole, behind}
+use Rattle.laws_run.specs.lanes.Boards.{IsInWhole, turns_behind}
 use Rattle.laws_board.specs.plans.Planned.{Plans}
 use Rattle.laws_run.proofs.clock_ages.Saying.{TellsIn}
 use Rattle.laws_run.specs.run_headline.Timely.{link_of}
@@ -72,7 +72,7 @@ tells_words m switches b from to k before (r ∷ rs) e h le t = by (tells_words 
     by (inr (inl a)) =
         let long = came_long (came_in r ∷ before) rs in
         let late = a.0 in
-        let q = heard_one b (last_turn m switches (came_in r) before).ordered.word.news a.1 in
+        let q = heard_one b (last_reacted m switches (came_in r) before).ordered.word.news a.1 in
         let Heard : WordMsg → Type 0 = λ w. WasHeard b q.0 (lines_in w.news) in
         inl (inl (omega (arith, late, e), omega (arith, long, le, e), (q.0, subst Heard (sym h.0.word_is) q.1)))
     by (inr (inr a)) = inr a
@@ -140,10 +140,10 @@ module _ (m : Machine) (v : IsValidMachine m) (s : Scene) (ts : List MotionTurn)
 
   module _ (whole : (b : ℕ) → b < length m.boards → IsInWhole m s.switches b (clock_of (board_at m b)) (link_of m s b) ts first (rest ++ end ∷ [])) where
     -- the turns of each board before connecting ended
-    own_front : (b : ℕ) (h : b < length m.boards) → Front m v s.switches (pins_of (board_at m b) b s.switches) s.entries b Late (behind [] (whole b h).made)
+    own_front : (b : ℕ) (h : b < length m.boards) → Front m v s.switches (pins_of (board_at m b) b s.switches) s.entries b Late (turns_behind [] (whole b h).made)
     own_front b h =
         let pins = pins_of (board_at m b) b s.switches in
-        let own = behind [] (whole b h).made in
+        let own = turns_behind [] (whole b h).made in
         let Run : List Came → Type 0 = λ c. IsInRun m s.switches pins s.entries b c own in
         front_of m v s.switches pins s.entries b Late (r.turn ∷ r.later) own (subst Run r.came_is (run_of m v s ts p t first rest end told b (whole b h) h))
 
@@ -176,7 +176,7 @@ module _ (m : Machine) (v : IsValidMachine m) (s : Scene) (ts : List MotionTurn)
     between from one two [] are low long some = absurd (omega (arith, some))
     between from one two (next ∷ more) are low long some =
         let pins = pins_of (board_at m b) b s.switches in
-        let own = behind [] w.made in
+        let own = turns_behind [] w.made in
         let to = came_from Early one in
         let last = came_from to two in
         let Run : List Came → Type 0 = λ c. IsInRun m s.switches pins s.entries b c own in

@@ -16,7 +16,7 @@ use Rattle.msg_code.specs.declared.talk.WordNews.TheVariants as word
 use Rattle.wire_scene.specs.declared.scene.Entry.{Entry}
 use Rattle.wire_scene.specs.declared.scene.Switch.{Switch}
 use Rattle.host_reactor.specs.declared.ordered.Phase.TheVariants.{Connecting, Running}
-use Rattle.host_reactor.specs.Runs.{Came, known_by, last_turn}
+use Rattle.host_reactor.specs.Runs.{Came, known_by, last_reacted}
 use Rattle.laws_board.specs.turns.Turns.{BoardTurn}
 use Rattle.laws_board.specs.clocks.Runs.{IsInRun}
 use Rattle.laws_board.specs.clocks.Samples.{IsFresh, IsSampled, further_lines}
@@ -24,7 +24,7 @@ use Rattle.laws_board.proofs.clocks.Fresh.{fresh_lines}
 use Rattle.laws_board.proofs.clocks.Lines.{as_long}
 use Rattle.motion_work.specs.Further.{WasHeard}
 use Rattle.motion_work.specs.Told.{lines_in, told_of}
-use Rattle.motion_work.specs.Told.{last_turn as last_word}
+use Rattle.motion_work.specs.Told.{word_limit as last_word}
 use Rattle.session_work.specs.declared.table.ReactorTurn.{ReactorTurn}
 use Rattle.session_work.specs.Bares.{bare_word}
 use Rattle.session_work.specs.Leads.{each_turn, still_word}
@@ -115,7 +115,7 @@ module _ (m : Machine) (v : IsValidMachine m) (switches : List Switch) (pins : L
       let Heard : Line → (WordMsg → Type 0) = λ line w. WasHeard b line (lines_in w.news) in (
         λ line heard.
             new_line k l.1 (f.later ++ l.0 ∷ []) line (sym e ∙ long) some cut
-            (further_among (IsFresh Own l.1) b line (last_turn m switches (came_in t) before).ordered.word.news (subst (Heard line) h.0.word_is heard) all),
+            (further_among (IsFresh Own l.1) b line (last_reacted m switches (came_in t) before).ordered.word.news (subst (Heard line) h.0.word_is heard) all),
         words_new (k + 1) (came_in t ∷ before) rs (omega (arith, e)) r h.1,
       )
 

@@ -37,7 +37,7 @@ use Rattle.board_sim.specs.Rig.{Rig}
 use Rattle.laws_homing.specs.switch_runs.Reports.{WasReported}
 use Rattle.laws_homing.proofs.clear_boards.Clocking.{line_ahead}
 use Rattle.laws_homing.proofs.hindered.Told.{Told as Told_so, read_more, stands_late, told_switch, told_true, was_told}
-use Rattle.laws_homing.specs.fired_runs.Since.{AllRead, AreBehind, AreRead, BeginsApart, IsFiredAt, ReadsAsTold, ReadsSwitchTrue, ReadsTrue}
+use Rattle.laws_homing.specs.fired_runs.Since.{AllRead, AreNotAhead, AreSoInTurns, BeginsApart, IsFiredAt, ReadsAsTold, ReadsSwitchTrue, ReadsTrue}
 use Rattle.laws_homing.specs.hindered.Hindered.{HasRoundAhead, HaveRoundAhead, HeardByNow, HinderedIn, IsGoingOn, SomeHinderedIn, StoodAt, TellsOn}
 use Rattle.laws_homing.specs.home_parts.Known.{KnowsLately}
 use Rattle.laws_homing.proofs.home_parts.Held.{clocks_by}
@@ -55,7 +55,7 @@ use Rattle.laws_homing.proofs.hindered.Telling.{tell_on}
 use Rattle.laws_run.specs.hindered_runs.Hindered.{AllTookSetUp, HasHindered, IsHinderedIn}
 use Rattle.laws_run.specs.home_headline.Near.{AllReadAsTold, KeepsUp}
 use Rattle.laws_run.specs.home_wholes.Own.{AllSwitchesReadTrue}
-use Rattle.laws_run.specs.lanes.Boards.{IsInWhole, behind}
+use Rattle.laws_run.specs.lanes.Boards.{IsInWhole, turns_behind}
 use Rattle.laws_run.specs.run_headline.Timely.{link_of}
 use Rattle.laws_run.proofs.home_headline.Ranges.{own_small}
 use Rattle.std.proofs.lemmas.List.{length-map}
@@ -89,7 +89,7 @@ some_of from to (x ∷ xs) all (inl h) = (x.board, inl refl, h)
 some_of from to (x ∷ xs) all (inr h) = let rest = some_of from to xs all h in (rest.0, inr rest.1, rest.2)
 
 -- what is read before the last turn
-drop_last : (R : Came → List Came → List BoardTurn → Type 0) (c : Came) (came : List Came) (turns : List BoardTurn) → AreRead R (c ∷ came) turns → AllRead R came turns
+drop_last : (R : Came → List Came → List BoardTurn → Type 0) (c : Came) (came : List Came) (turns : List BoardTurn) → AreSoInTurns R (c ∷ came) turns → AllRead R came turns
 drop_last R c came [] k = tt
 drop_last R c came (t ∷ earlier) k = k.1
 
@@ -116,7 +116,7 @@ module _ (m : Machine) (v : IsValidMachine m) (s : Scene) (ts : List MotionTurn)
   Whole b h = f.boards b first rest h refl
 
   abbrev Turns : (b : ℕ) → b < length m.boards → List BoardTurn
-  Turns b h = behind [] (Whole b h).made
+  Turns b h = turns_behind [] (Whole b h).made
 
   abbrev Pins : ℕ → List (List Level)
   Pins b = pins_of (board_at m b) b s.switches
@@ -125,15 +125,15 @@ module _ (m : Machine) (v : IsValidMachine m) (s : Scene) (ts : List MotionTurn)
   count b h = boards.count m v s ts p t first rest end c told f long short little b h
 
   abbrev All_read : (Came → List Came → List BoardTurn → Type 0) → (b : ℕ) → (w : IsInWhole m s.switches b (clock_of (board_at m b)) (link_of m s b) ts first (rest ++ end ∷ [])) → Type 0
-  All_read R b w = AllRead R Came_all (behind [] w.made)
+  All_read R b w = AllRead R Came_all (turns_behind [] w.made)
 
   read_so : (R : Came → List Came → List BoardTurn → Type 0) (b : ℕ) → b < length m.boards → ((d : Came) (before : List Came) (past : List BoardTurn) → ReadsAsTold m s.switches b d before past → R d before past)
       → (w : IsInWhole m s.switches b (clock_of (board_at m b)) (link_of m s b) ts first (rest ++ end ∷ [])) → All_read R b w
-  read_so R b h f w = drop_last R (came_in end) Came_all (behind [] w.made) (read_more (ReadsAsTold m s.switches b) R (came_in end ∷ Came_all) (behind [] w.made) f (reads b h w))
+  read_so R b h f w = drop_last R (came_in end) Came_all (turns_behind [] w.made) (read_more (ReadsAsTold m s.switches b) R (came_in end ∷ Came_all) (turns_behind [] w.made) f (reads b h w))
 
   switches : AllSwitchesReadTrue m s ts (first ∷ (rest ++ end ∷ []))
   switches b h w =
-      let Reads : List Came → Type 0 = λ z. AllRead (ReadsSwitchTrue m s.switches b) z (behind [] w.made) in
+      let Reads : List Came → Type 0 = λ z. AllRead (ReadsSwitchTrue m s.switches b) z (turns_behind [] w.made) in
       subst Reads (sym (came_cut [] first rest end)) (read_so (ReadsSwitchTrue m s.switches b) b h (λ d before past k. told_switch m s.switches b d before past k) w)
 
   going : (b : ℕ) (h : b < length m.boards) → IsGoingOn m s.switches (Pins b) s.entries b Came_all (Turns b h)
@@ -285,7 +285,7 @@ module _ (m : Machine) (v : IsValidMachine m) (s : Scene) (ts : List MotionTurn)
           let now : By h.start = omega (arith, ahead, same_tick) in
           subst By start now
 
-      behind_last : AreBehind m s.switches board (came_in end ∷ Came_all)
+      behind_last : AreNotAhead m s.switches board (came_in end ∷ Came_all)
       behind_last = (last_start, (all_so m v s ts p t first rest end c told f short switches board low).2)
 
       so : Told_so m v s.switches (Pins board) s.entries board x.from h.start h.group.last Till (Lines h.start) (From + 1) Members member (let soon = x.soon in omega (arith, soon)) (followed board member) (let far = x.far in omega (arith, far)) Report in_last (Turns board low)
@@ -330,7 +330,7 @@ module _ (m : Machine) (v : IsValidMachine m) (s : Scene) (ts : List MotionTurn)
             member = found.1;
             there = there;
             w = Whole found.0 there;
-            hindered = subst (λ (n : ℕ). HinderedIn n (length past) (behind [] (Whole found.0 there).made)) (sym before) (subst (λ (turns : List BoardTurn). HinderedIn (at - 1) (length past) turns) (all.2 found.0 there) found.2);
+            hindered = subst (λ (n : ℕ). HinderedIn n (length past) (turns_behind [] (Whole found.0 there).made)) (sym before) (subst (λ (turns : List BoardTurn). HinderedIn (at - 1) (length past) turns) (all.2 found.0 there) found.2);
           }
 
       pub hindered_in : IsHinderedIn m s ts first rest end board turn

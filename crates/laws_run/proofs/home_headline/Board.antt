@@ -30,7 +30,7 @@ use Rattle.session_run.specs.Boards.{AreReactorTurns, came_from, came_in}
 use Rattle.laws_board.specs.sections.Boards.{OnBoard}
 use Rattle.laws_board.specs.sections.Courses.{AllHeed}
 use Rattle.laws_board.specs.sections.Homes.{AreOut, AreSoon, HasUnits, IsHomeBoard, IsHomeRun, IsSplitIn, RunSection, SetsAny, lost_at}
-use Rattle.board_world.specs.World.{start}
+use Rattle.board_world.specs.World.{new_world}
 use Rattle.laws_board.specs.sections.Links.{AreTold, ends_of, steps_of, turns_told}
 use Rattle.laws_board.specs.sections.Timely.{AllTimely, ControlsKeep}
 use Rattle.laws_board.specs.sections.Parts.{AreTracked, MakesIn}
@@ -43,7 +43,7 @@ use Rattle.laws_board.proofs.sections.HomeLimits.{released_soon}
 use Rattle.laws_board.proofs.sections.Spoiled.{ten_seconds}
 use Rattle.laws_board.proofs.sections.Released.{out_before, spilled_before}
 use Rattle.laws_board.proofs.orders.Going.{own_on}
-use Rattle.laws_run.specs.lanes.Boards.{IsInWhole, behind, orders_of, states_of}
+use Rattle.laws_run.specs.lanes.Boards.{IsInWhole, turns_behind, orders_of, states_of}
 use Rattle.laws_board.specs.plans.Given.{TookBatches}
 use Rattle.laws_board.specs.plans.Homed.{runs_on, stops_of}
 use Rattle.laws_board.specs.plans.Lines.{TookNotes}
@@ -130,7 +130,7 @@ module _ (m : Machine) (v : IsValidMachine m) (s : Scene) (b ready until lasts :
 
   -- no unit is taken late
   abbrev Timely : (os : List Orders) → AreTold Clock 0 os states (link_of m s b) end → Type 0
-  Timely os told = AllTimely (start (board_at m b) (pins_of (board_at m b) b s.switches)) (steps_of Clock 0 os (link_of m s b) end (turns_told Clock 0 os states (link_of m s b) end told))
+  Timely os told = AllTimely (new_world (board_at m b) (pins_of (board_at m b) b s.switches)) (steps_of Clock 0 os (link_of m s b) end (turns_told Clock 0 os states (link_of m s b) end told))
 
   abbrev Result : Type 0
   Result = (k : IsHomeBoard b s.entries ready (length turns) (cuts_on m t.clocks until p.seen.begun b) (record {
@@ -143,7 +143,7 @@ module _ (m : Machine) (v : IsValidMachine m) (s : Scene) (b ready until lasts :
   })) × (k.split.tail ≡ split.tail)
 
   heeds : (told : AreTold Clock 0 (orders_in turns) states (link_of m s b) end)
-      → AllHeed split.front split.tail (start (board_at m b) (pins_of (board_at m b) b s.switches)) (steps_of Clock 0 (orders_in turns) (link_of m s b) end (turns_told Clock 0 (orders_in turns) states (link_of m s b) end told))
+      → AllHeed split.front split.tail (new_world (board_at m b) (pins_of (board_at m b) b s.switches)) (steps_of Clock 0 (orders_in turns) (link_of m s b) end (turns_told Clock 0 (orders_in turns) states (link_of m s b) end told))
   heeds told =
       let def = board_at m b in
       board_heeds m v s.switches (pins_of def b s.switches) s.entries b def.freq def.slots ready t.first until (Own m b lasts) (clocks_at t.clocks b) t.clocks p.seen.begun came turns run split sections in_run notes far row end (turns_told Clock 0 (orders_in turns) states (link_of m s b) end told)
@@ -219,7 +219,7 @@ module _ (m : Machine) (v : IsValidMachine m) (s : Scene) (ts : List MotionTurn)
     pins = pins_of (board_at m b) b s.switches;
     clocks = clocks_at t.clocks b;
     sections = map (λ (x : RunSection). x.section) (cuts_on m t.clocks until p.seen.begun b);
-    orders = orders_in (behind [] w.made);
+    orders = orders_in (turns_behind [] w.made);
     states = states_of w.made;
   }
 
@@ -252,10 +252,10 @@ module _ (m : Machine) (v : IsValidMachine m) (s : Scene) (ts : List MotionTurn)
       (far : (length (rest ++ end ∷ []) ≤ until) ⊎ (length p.made ≤ until)) (few : length (rest ++ end ∷ []) ≤ length p.made + 1)
       (lines : Followed m b (length rest) t.clocks (length (came_from [] r.past)) p.seen.begun) (sound : AreSound m t.clocks t.first) (formed : MayHome m p.seen.begun) (range : StartInRange (clocks_at t.clocks b) p.seen.begun) where
     -- what the board was sent
-    pub homing_so : Homing until b r (behind [] w.made)
+    pub homing_so : Homing until b r (turns_behind [] w.made)
     homing_so =
         let pins = pins_of (board_at m b) b s.switches in
-        let turns = behind [] w.made in
+        let turns = turns_behind [] w.made in
         let valid = valid_at m.boards b h v.boards in
         let before = came_from [] r.past in
         let whole = came_from [] (first ∷ rest) in
@@ -302,25 +302,25 @@ module _ (m : Machine) (v : IsValidMachine m) (s : Scene) (ts : List MotionTurn)
         record { by = by; known = known; run = run; count = count; home = home; split = split; controls = controls_limited m v s.switches pins s.entries b whole turns run; soon = soon; fits = fits; limits = limits }
 
     -- the set-ups were taken in time, or the reports are read so
-    pub ups_so : SetsUp m s b ts first (rest ++ end ∷ []) p.seen.begun w → TakeSetUps m (pins_of (board_at m b) b s.switches) s.entries b p.seen.begun (behind [] w.made) ⊎ AreReadSo m s.switches b (came_from [] (first ∷ rest)) (behind [] w.made)
+    pub ups_so : SetsUp m s b ts first (rest ++ end ∷ []) p.seen.begun w → TakeSetUps m (pins_of (board_at m b) b s.switches) s.entries b p.seen.begun (turns_behind [] w.made) ⊎ AreReadSo m s.switches b (came_from [] (first ∷ rest)) (turns_behind [] w.made)
     ups_so up =
         let x = homing_so in
-        let turns = behind [] w.made in
+        let turns = turns_behind [] w.made in
         let whole = came_from [] (first ∷ rest) in
         let Ups : List Came → Type 0 = λ z. TakeSetUps m (pins_of (board_at m b) b s.switches) s.entries b p.seen.begun turns ⊎ AllReadTrue m s.switches b z turns in
         told_by m v s ts p t b (length rest) (length (came_from [] r.past)) whole turns h lines r.early (begun_row m t.clocks t.first p.seen.begun (started_in m ts p t told)) x.by x.known.0 x.known.1
         (let d = came_long [] (first ∷ rest) in omega (arith, d)) (subst Ups (came_cut [] first rest end) up)
 
     -- so the homing sections that have ended are told of
-    told_so : SetsUp m s b ts first (rest ++ end ∷ []) p.seen.begun w → AreToldIn m s.switches (pins_of (board_at m b) b s.switches) s.entries b (stops_of p.seen.begun) (cuts_on m t.clocks until p.seen.begun b) (behind [] w.made)
+    told_so : SetsUp m s b ts first (rest ++ end ∷ []) p.seen.begun w → AreToldIn m s.switches (pins_of (board_at m b) b s.switches) s.entries b (stops_of p.seen.begun) (cuts_on m t.clocks until p.seen.begun b) (turns_behind [] w.made)
     told_so up =
         let x = homing_so in
-        all_told m s.switches (pins_of (board_at m b) b s.switches) s.entries b (length (came_from [] r.past)) until ts p t (came_from [] (first ∷ rest)) (behind [] w.made) x.by told r.early x.known.1 formed x.run (ups_so up)
+        all_told m s.switches (pins_of (board_at m b) b s.switches) s.entries b (length (came_from [] r.past)) until ts p t (came_from [] (first ∷ rest)) (turns_behind [] w.made) x.by told r.early x.known.1 formed x.run (ups_so up)
 
-    many : length (behind [] w.made) ≡ length (rest ++ end ∷ [])
-    many = let a = order_length (behind [] w.made) in let count = homing_so.count in omega (arith, a, count)
+    many : length (turns_behind [] w.made) ≡ length (rest ++ end ∷ [])
+    many = let a = order_length (turns_behind [] w.made) in let count = homing_so.count in omega (arith, a, count)
 
-    upto : length (behind [] w.made) ≤ length rest + 349
+    upto : length (turns_behind [] w.made) ≤ length rest + 349
     upto = let size = length-append rest (end ∷ []) in let long = many in omega (arith, long, size)
 
     row : AreInARow t.first p.seen.begun
@@ -331,7 +331,7 @@ module _ (m : Machine) (v : IsValidMachine m) (s : Scene) (ts : List MotionTurn)
     timely_until little =
         let clock = clock_of (board_at m b) in
         let pins = pins_of (board_at m b) b s.switches in
-        let turns = behind [] w.made in
+        let turns = turns_behind [] w.made in
         let x = homing_so in
         let after = stands_after (link_of m s b) turns in
         let all = turns_told clock 0 (orders_of w.made) (states_of w.made) (link_of m s b) after w.told in
@@ -347,7 +347,7 @@ module _ (m : Machine) (v : IsValidMachine m) (s : Scene) (ts : List MotionTurn)
     pub boarded_until : KeepsUp m s b ts first (rest ++ end ∷ []) p.seen.begun w
         → (k : IsHomeBoard b s.entries (length (came_from [] r.past)) (length (rest ++ end ∷ [])) (cuts_on m t.clocks until p.seen.begun b) (here_by until b w)) × (k.split.tail ≡ homing_so.split.tail)
     boarded_until keeps =
-        let turns = behind [] w.made in
+        let turns = turns_behind [] w.made in
         let x = homing_so in
         let Long : ℕ → Type 0 = λ n. (k : IsHomeBoard b s.entries (length (came_from [] r.past)) n (cuts_on m t.clocks until p.seen.begun b) (here_by until b w)) × (k.split.tail ≡ homing_so.split.tail) in
         subst Long many (home_by m v s b (length (came_from [] r.past)) until (length rest) ts p t turns (states_of w.made) (stands_after (link_of m s b) turns) h w.turns_are upto x.home x.split x.controls

@@ -19,12 +19,12 @@ use Rattle.msg_code.specs.declared.talk.WordNews.TheVariants as word
 use Rattle.wire_scene.specs.declared.scene.Scene.{Scene}
 use Rattle.wire_scene.specs.declared.scene.Switch.{Switch}
 use Rattle.board_asking.specs.Clocks.{added_at}
-use Rattle.board_asking.specs.Connecting.{board_lines, clocks_of, listen_all, ready_all}
+use Rattle.board_asking.specs.Connecting.{board_lines, one_line_clocks, listen_all, ready_all}
 use Rattle.host_reactor.specs.declared.ordered.Known.{Known}
 use Rattle.host_reactor.specs.declared.ordered.Phase.TheVariants.{Connecting, Running}
-use Rattle.host_reactor.specs.Notes.{news_of, noted, told, told_all}
+use Rattle.host_reactor.specs.Notes.{news_of, noted, known_behind, told_all}
 use Rattle.host_reactor.specs.Reactor.{Reacted, phase_after}
-use Rattle.host_reactor.specs.Runs.{Came, GoesOn, known_by, last_turn}
+use Rattle.host_reactor.specs.Runs.{Came, GoesOn, known_by, last_reacted}
 use Rattle.laws_board.proofs.clocks.Lines.{noted_phase}
 use Rattle.laws_board.proofs.clocks.Turning.{goes}
 use Rattle.motion_work.specs.Further.{noted_line, noted_lines}
@@ -77,11 +77,11 @@ line_added board line from clocks may = elim (leb_tells (suc board) (length cloc
 
 told_clocks : (m : Machine) (ns : List NoteNews) (r : Known) (clocks : List Clocks) → r.clocks ≡ clocks → MayNote ns clocks → (told_all m ns r).clocks ≡ noted_lines ns clocks
 told_clocks m [] r clocks e a = e
-told_clocks m (news.Start section kind turn last moving ∷ ns) r clocks e a = told_clocks m ns (told m r (news.Start section kind turn last moving)) clocks e a
-told_clocks m (news.Done section turn ∷ ns) r clocks e a = told_clocks m ns (told m r (news.Done section turn)) clocks e a
-told_clocks m (news.Read end sections ∷ ns) r clocks e a = told_clocks m ns (told m r (news.Read end sections)) clocks e a
+told_clocks m (news.Start section kind turn last moving ∷ ns) r clocks e a = told_clocks m ns (known_behind m r (news.Start section kind turn last moving)) clocks e a
+told_clocks m (news.Done section turn ∷ ns) r clocks e a = told_clocks m ns (known_behind m r (news.Done section turn)) clocks e a
+told_clocks m (news.Read end sections ∷ ns) r clocks e a = told_clocks m ns (known_behind m r (news.Read end sections)) clocks e a
 told_clocks m (news.Line board line from ∷ ns) r clocks e a =
-    told_clocks m ns (told m r (news.Line board line from)) (noted_line board line from clocks) (ap (added_at board from line) e ∙ line_added board line from clocks a.0) a.1
+    told_clocks m ns (known_behind m r (news.Line board line from)) (noted_line board line from clocks) (ap (added_at board from line) e ∙ line_added board line from clocks a.0) a.1
 
 pub noted_clocks : (m : Machine) (note : Option Note) (r : Known) (clocks : List Clocks) → r.clocks ≡ clocks → MayNote (news_of note) clocks → (noted m note r).clocks ≡ noted_lines (news_of note) clocks
 noted_clocks m None r clocks e a = e
@@ -161,7 +161,7 @@ record IsOn (m : Machine) (switches : List Switch) (clocks : List Clocks) (came 
   past : (known_by m switches came).phase ≡ Connecting → ⊥
   clocks_are : (known_by m switches came).clocks ≡ clocks
 
-on_next : (m : Machine) (switches : List Switch) (clocks : List Clocks) (c : Came) (before : List Came) → (last_turn m switches c before).ordered.end ≡ None → MayNote (news_of c.note) clocks → IsOn m switches clocks before
+on_next : (m : Machine) (switches : List Switch) (clocks : List Clocks) (c : Came) (before : List Came) → (last_reacted m switches c before).ordered.end ≡ None → MayNote (news_of c.note) clocks → IsOn m switches clocks before
     → IsOn m switches (noted_lines (news_of c.note) clocks) (c ∷ before)
 on_next m switches clocks c before g may on =
     let r = known_by m switches before in
@@ -179,7 +179,7 @@ on_next m switches clocks c before g may on =
     ]
 
 -- where the boards connect behind a turn, they do before it
-phase_before : (m : Machine) (switches : List Switch) (c : Came) (before : List Came) → (last_turn m switches c before).ordered.end ≡ None → (known_by m switches (c ∷ before)).phase ≡ Connecting → (known_by m switches before).phase ≡ Connecting
+phase_before : (m : Machine) (switches : List Switch) (c : Came) (before : List Came) → (last_reacted m switches c before).ordered.end ≡ None → (known_by m switches (c ∷ before)).phase ≡ Connecting → (known_by m switches before).phase ≡ Connecting
 phase_before m switches c before g e =
     let r = known_by m switches before in
     let phase = noted_phase m c.note r in
@@ -218,7 +218,7 @@ module _ (m : Machine) (switches : List Switch) (text : List ℕ) (begun : List 
       now ∙ lines_cut (length before + 276) (news_in ms) next early late ∙ ap (map (lines_by (length before + 276))) (sym (is ∙ noted_append d.note.news (news_in ms) clocks))
 
   -- the lines behind a turn
-  one_on : (before : List Came) (r : ReactorTurn) (d : MotionTurn) (ms : List MotionTurn) (clocks : List Clocks) → r.note ≡ Some d.note → (last_turn m switches (came_in r) before).ordered.end ≡ None → MayNote (news_in (d ∷ ms)) clocks → IsOn m switches clocks before
+  one_on : (before : List Came) (r : ReactorTurn) (d : MotionTurn) (ms : List MotionTurn) (clocks : List Clocks) → r.note ≡ Some d.note → (last_reacted m switches (came_in r) before).ordered.end ≡ None → MayNote (news_in (d ∷ ms)) clocks → IsOn m switches clocks before
       → IsOn m switches (noted_lines d.note.news clocks) (came_in r ∷ before)
   one_on before r d ms clocks note g may on =
       let same : news_of r.note ≡ d.note.news = ap news_of note in
@@ -245,13 +245,13 @@ module _ (m : Machine) (switches : List Switch) (text : List ℕ) (begun : List 
       end_from (k + 1) (came_in r ∷ before) rs end ms (noted_lines d.note.news clocks) (omega (arith, at)) turns.1 took.1 put.1 (may_both d.note.news (news_in ms) clocks may).1 (is ∙ noted_append d.note.news (news_in ms) clocks)
       (one_on before r d ms clocks took.0 turns.0.goes_on may on) (noted_next k d.note.news clocks (put_in m text begun k (put_of d) put.0) were)
 
-lines_clocks : (ls : List Line) → clocks_of ls ≡ map one_line ls
+lines_clocks : (ls : List Line) → one_line_clocks ls ≡ map one_line ls
 lines_clocks [] = refl
 lines_clocks (l ∷ ls) = ap (λ z. one_line l ∷ z) (lines_clocks ls)
 
 -- the clock lines that are known behind the turn that connects are those that its word tells
-pub clocks_on : (m : Machine) (switches : List Switch) (c : Came) (before : List Came) (lines : List Line) → (last_turn m switches c before).ordered.end ≡ None → (known_by m switches before).phase ≡ Connecting
-    → (last_turn m switches c before).known.phase ≡ Running → (last_turn m switches c before).ordered.word.news ≡ word.Lines lines ∷ [] → (last_turn m switches c before).known.clocks ≡ map one_line lines
+pub clocks_on : (m : Machine) (switches : List Switch) (c : Came) (before : List Came) (lines : List Line) → (last_reacted m switches c before).ordered.end ≡ None → (known_by m switches before).phase ≡ Connecting
+    → (last_reacted m switches c before).known.phase ≡ Running → (last_reacted m switches c before).ordered.word.news ≡ word.Lines lines ∷ [] → (last_reacted m switches c before).known.clocks ≡ map one_line lines
 clocks_on m switches c before lines g phase_was then news =
     let r = known_by m switches before in
     let now = noted m c.note r in
@@ -268,7 +268,7 @@ clocks_on m switches c before lines g phase_was then news =
     ]
 
 -- the turn that connects
-connects_on : (m : Machine) (switches : List Switch) (c : Came) (before : List Came) (clocks : List Clocks) → (last_turn m switches c before).ordered.end ≡ None → Connected m (known_by m switches before) (length before) (last_turn m switches c before) clocks
+connects_on : (m : Machine) (switches : List Switch) (c : Came) (before : List Came) (clocks : List Clocks) → (last_reacted m switches c before).ordered.end ≡ None → Connected m (known_by m switches before) (length before) (last_reacted m switches c before) clocks
     → IsOn m switches clocks (c ∷ before)
 connects_on m switches c before clocks g x = record {
   past = λ e. (let f : Running ≡ Connecting = sym x.then ∙ e in cc);

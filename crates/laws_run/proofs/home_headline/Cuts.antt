@@ -32,7 +32,7 @@ use Rattle.host_reactor.specs.Notes.{is_out, news_of, noted}
 use Rattle.host_reactor.specs.Reactor.{Reacted, after_homing, asks_boards, by_phase, carries_on, cut_line, finishes, homed, is_connected_now, reacts, unless_ended, unless_given_up, unless_homing_ends, unless_late_stale, unless_stale}
 use Rattle.host_reactor.specs.Report.{first_lines}
 use Rattle.host_reactor.specs.Running.{first_cause, is_finished, stop_of}
-use Rattle.host_reactor.specs.Runs.{Came, GoesOn, known_by, last_turn}
+use Rattle.host_reactor.specs.Runs.{Came, GoesOn, known_by, last_reacted}
 use Rattle.laws_run.specs.run_headline.Told.{AreTold}
 use Rattle.laws_run.proofs.run_headline.Telling.{boards_told, first_told}
 use Rattle.laws_homing.specs.home_runs.Words.{TellsHomed}
@@ -215,7 +215,7 @@ answer_of clocks k states (Some h) tick e =
     (h, refl, is, ap (λ o. (by_answer k g o).section) is, ap (λ o. (by_answer k g o).axis) is)
 
 -- by what came
-pub told_cut : (m : Machine) (switches : List Switch) (c : Came) (before : List Came) → (last_turn m switches c before).ordered.end ≡ None → TellsHomed (last_turn m switches c before).ordered.word.news → TellsCut m switches c before
+pub told_cut : (m : Machine) (switches : List Switch) (c : Came) (before : List Came) → (last_reacted m switches c before).ordered.end ≡ None → TellsHomed (last_reacted m switches c before).ordered.word.news → TellsCut m switches c before
 told_cut m switches c before e t =
     let r = known_by m switches before in
     let n = noted m c.note r in
@@ -232,7 +232,7 @@ told_cut m switches c before e t =
           }
     ]
 
-pub told_none : (m : Machine) (switches : List Switch) (c : Came) (before : List Came) → (last_turn m switches c before).ordered.end ≡ None → (TellsHomed (last_turn m switches c before).ordered.word.news → ⊥) → cuts_of (last_turn m switches c before).ordered.lines ≡ []
+pub told_none : (m : Machine) (switches : List Switch) (c : Came) (before : List Came) → (last_reacted m switches c before).ordered.end ≡ None → (TellsHomed (last_reacted m switches c before).ordered.word.news → ⊥) → cuts_of (last_reacted m switches c before).ordered.lines ≡ []
 told_none m switches c before e none = elim (turn_cuts m switches (known_by m switches before) (length before) c.states c.note e) [ inl x ↦ absurd (none x.tells) | inr u ↦ u.lines ]
 
 -- the section is one that the planner began
@@ -261,7 +261,7 @@ closed_told m switches c before h tick goes known answers =
     subst At (hears_keep n.clocks c.states h).last (subst Out (members_states n.clocks 0 h.start c.states h.group) none)
 
 -- a turn whose word tells of an answer
-abbrev pub tells_answer : (m : Machine) (switches : List Switch) (c : Came) (before : List Came) (lines : List ReportLine) → GoesOn m switches before → TellsCut m switches c before → lines ≡ (last_turn m switches c before).ordered.lines
+abbrev pub tells_answer : (m : Machine) (switches : List Switch) (c : Came) (before : List Came) (lines : List ReportLine) → GoesOn m switches before → TellsCut m switches c before → lines ≡ (last_reacted m switches c before).ordered.lines
     → TellsAnswer m switches c before lines
 tells_answer m switches c before lines goes told are =
     let fired = answer_told m switches c before told.homing told.tick goes told.known told.answer in
@@ -277,7 +277,7 @@ tells_answer m switches c before lines goes told are =
     }
 
 -- a turn that goes on tells of a switch exactly where a group answers that it closed
-turn_answers : (m : Machine) (switches : List Switch) (c : Came) (before : List Came) (lines : List ReportLine) → GoesOn m switches before → (last_turn m switches c before).ordered.end ≡ None → lines ≡ (last_turn m switches c before).ordered.lines
+turn_answers : (m : Machine) (switches : List Switch) (c : Came) (before : List Came) (lines : List ReportLine) → GoesOn m switches before → (last_reacted m switches c before).ordered.end ≡ None → lines ≡ (last_reacted m switches c before).ordered.lines
     → TellsAnswer m switches c before lines ⊎ TellsNoAnswer m switches c before lines
 turn_answers m switches c before lines goes e are =
     let r = known_by m switches before in

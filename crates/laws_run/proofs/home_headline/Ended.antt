@@ -6,7 +6,7 @@ use Rattle.plan_types.specs.Machines.{axis_at}
 use Rattle.wire_scene.specs.declared.scene.Switch.{Switch}
 use Rattle.axis_homing.specs.declared.homing.Homing.{Homing}
 use Rattle.host_reactor.specs.Reactor.{cut_line}
-use Rattle.host_reactor.specs.Runs.{Came, GoesOn, last_turn}
+use Rattle.host_reactor.specs.Runs.{Came, GoesOn, last_reacted}
 use Rattle.motion_work.specs.Seen.{Started}
 use Rattle.session_work.specs.declared.table.MotionTurn.{MotionTurn}
 use Rattle.laws_board.specs.plans.Planned.{Plans}
@@ -105,7 +105,7 @@ tells_end m switches n ts p came past before s later axis c ahead by cut home ar
 
 pub cut_ends : (m : Machine) (switches : List Switch) (n : ℕ) (ts : List MotionTurn) (p : Plans m n ts) (came past : List Came) (before : List Started) (s : Started) (later : List Started) (axis : ℕ) (c : Came) (ahead : List Came)
     → IsPlannedBy m switches n ts p came → p.seen.begun ≡ before ++ s ∷ later → s.section.kind ≡ Home axis → came ≡ ahead ++ c ∷ past → length past ≡ s.end
-    → (tick : ℕ) × (cuts_of (last_turn m switches c past).ordered.lines ≡ cut_line m switches (length before) (axis_at m axis) (Some tick))
+    → (tick : ℕ) × (cuts_of (last_reacted m switches c past).ordered.lines ≡ cut_line m switches (length before) (axis_at m axis) (Some tick))
 cut_ends m switches n ts p came past before s later axis c ahead by cut home are at =
     let e = tells_end m switches n ts p came past before s later axis c ahead by cut home are at in
     let x = e.tells in

@@ -22,7 +22,7 @@ use Rattle.session_run.specs.Runs.{RunsOver}
 use Rattle.link_work.specs.Switches.{pins_of}
 use Rattle.laws_board.specs.sections.Homes.{AreOut}
 use Rattle.laws_board.specs.plans.Homed.{runs_on}
-use Rattle.laws_run.specs.lanes.Boards.{IsInWhole, behind}
+use Rattle.laws_run.specs.lanes.Boards.{IsInWhole, turns_behind}
 use Rattle.laws_board.specs.plans.Lines.{TellTurns}
 use Rattle.laws_board.specs.plans.Planned.{Plans}
 use Rattle.laws_board.proofs.plans.Running.{started_in}
@@ -88,11 +88,11 @@ module _ (m : Machine) (v : IsValidMachine m) (s : Scene) (ts : List MotionTurn)
         timely_until m v s ts p t first rest end told (length p.made) f.ahead b f.words_left w turn h f.turns f.words (notes_before m v s ts p end c first rest f) (omega arith) (inr (omega arith)) (few m v s ts p end c first rest f) (lines b h) sound formed (range b h) little
 
     -- in a scene without entries a board takes the set-ups in time
-    pub in_time : s.entries ≡ [] → AreOut (length p.made) (runs_on m t.clocks p.seen.begun b) → TakeSetUps m (pins_of (board_at m b) b s.switches) s.entries b p.seen.begun (behind [] w.made)
+    pub in_time : s.entries ≡ [] → AreOut (length p.made) (runs_on m t.clocks p.seen.begun b) → TakeSetUps m (pins_of (board_at m b) b s.switches) s.entries b p.seen.begun (turns_behind [] w.made)
     in_time clear out =
         let sent = homing_so m v s ts p t first rest end told (length p.made) f.ahead b f.words_left w turn h f.turns f.words (notes_before m v s ts p end c first rest f) (omega arith) (inr (omega arith)) (few m v s ts p end c first rest f) (lines b h) sound formed (range b h) in
         let early = turn.early in
-        clear_set_ups m (pins_of (board_at m b) b s.switches) s.entries b (behind [] w.made) clear w.turns_are (sent.limits out) t.first p.seen.begun (omega (arith, early)) row
+        clear_set_ups m (pins_of (board_at m b) b s.switches) s.entries b (turns_behind [] w.made) clear w.turns_are (sent.limits out) t.first p.seen.begun (omega (arith, early)) row
 
   -- where each board keeps up
   module _ (keeps : (b : ℕ) → b < length m.boards → (w : IsInWhole m s.switches b (clock_of (board_at m b)) (link_of m s b) ts first (rest ++ end ∷ [])) → KeepsUp m s b ts first (rest ++ end ∷ []) p.seen.begun w) where

@@ -5,7 +5,7 @@ use Rattle.plan_types.specs.declared.plan.BoardState.TheVariants.{Shut}
 use Rattle.plan_types.specs.Clock.{clock_of}
 use Rattle.board_sim.specs.Board.{timer_too_close}
 use Rattle.wire_scene.specs.declared.scene.Entry.{Entry}
-use Rattle.board_world.specs.World.{Core, run, start}
+use Rattle.board_world.specs.World.{Core, run_world, new_world}
 use Rattle.link_work.specs.Runs.{AreTurns}
 use Rattle.link_work.specs.Stands.{first_state}
 use Rattle.link_work.specs.Turn.{LinkState, Orders}
@@ -45,7 +45,7 @@ board_good place entries ready turns ss x k =
       lost = k.split.lost;
       turns = turns_owned x.board own turns 0 x.orders steps k.own_is within taken;
       timely = k.timely;
-      settled = settled_owned x.board k.stops k.split.front own turns 0 [] x.orders steps (start x.board x.pins) k.own_is within taken (settled_head k.stops k.split.front clock 0 [] x.orders l k.end t k.settled);
+      settled = settled_owned x.board k.stops k.split.front own turns 0 [] x.orders steps (new_world x.board x.pins) k.own_is within taken (settled_head k.stops k.split.front clock 0 [] x.orders l k.end t k.settled);
       heed = k.heed;
     }
 
@@ -56,7 +56,7 @@ board_may place entries ready turns ss x k =
     let l = first_state x.board x.pins place entries in
     let t = turns_told clock 0 x.orders x.states l k.end k.told in
     let steps = steps_of clock 0 x.orders l k.end t in
-    let is : k.end.core ≡ run steps (start x.board x.pins) = (turns_are clock 0 x.orders l k.end t).0 in
+    let is : k.end.core ≡ run_world steps (new_world x.board x.pins) = (turns_are clock 0 x.orders l k.end t).0 in
     let May : Core → Type 0 = λ h. MayBe h.board.controller.state in
     subst May (sym is) (reason_is x.board x.pins k.own k.stops x.orders steps (board_good place entries ready turns ss x k))
 
@@ -86,6 +86,6 @@ late_at place entries ready turns ss x end tick first k t shut =
     let told = turns_told clock 0 x.orders x.states l k.end k.told in
     let steps = steps_of clock 0 x.orders l k.end told in
     let same = same_end clock 0 x.orders l k.end end told t in
-    let is : k.end.core ≡ run steps (start x.board x.pins) = (turns_are clock 0 x.orders l k.end told).0 in
+    let is : k.end.core ≡ run_world steps (new_world x.board x.pins) = (turns_are clock 0 x.orders l k.end told).0 in
     late_unit x.board x.pins k.own x.clocks ready k.stops ss x.orders steps tick first k.run_is (board_good place entries ready turns ss x k)
     (ap (λ (h : Core). h.board.controller.state) (sym is) ∙ ap (λ (e : LinkState). e.core.board.controller.state) same ∙ shut)

@@ -19,7 +19,7 @@ use Rattle.session_run.specs.Runs.{RunsOver}
 use Rattle.laws_board.specs.causes.Short.{HaveShortDictionaries}
 use Rattle.laws_board.specs.plans.Planned.{Plans}
 use Rattle.laws_homing.specs.home_parts.Answers.{TakeSetUps}
-use Rattle.laws_run.specs.lanes.Boards.{IsInWhole, behind}
+use Rattle.laws_run.specs.lanes.Boards.{IsInWhole, turns_behind}
 use Rattle.laws_run.specs.run_headline.Timely.{AllAreTimely, link_of}
 use Rattle.laws_run.proofs.run_headline.Cutting.{run_front, same_front}
 use Rattle.laws_run.proofs.run_headline.Runs.{facts}
@@ -68,7 +68,7 @@ module _ (m : Machine) (v : IsValidMachine m) (s : Scene) (text : List ℕ) (ts 
   clear_take : s.entries ≡ [] → SendsOut m text ts → (rs : List ReactorTurn) → Facts m s ts rs end c → AllTakeInTime m s text ts (rs ++ end ∷ [])
   clear_take clear sends [] f = λ p b same some low w. absurd (untold_alone m v s ts p end c p.seen.told refl f some)
   clear_take clear sends (first ∷ rest) f =
-      told_of first rest (λ p b w. TakeSetUps m (pins_of (board_at m b) b s.switches) s.entries b p.seen.begun (behind [] w.made)) (λ p t b same told some low w.
+      told_of first rest (λ p b w. TakeSetUps m (pins_of (board_at m b) b s.switches) s.entries b p.seen.begun (turns_behind [] w.made)) (λ p t b same told some low w.
       in_time m v s ts p t first rest end c told f short b low w clear (sends p t b same told low))
 
 module _ {F S : Type 0} (f : Files F) (o : Sink S) (m : Machine) (s : Scene) (name : List ℕ) (files files' : F) (out out' : S) (kept kept' : Kept) (t : near.Told Run) (r : RunsOver f o m s name files out kept t files' out' kept') (v : IsValidMachine m) (short : HaveShortDictionaries m)

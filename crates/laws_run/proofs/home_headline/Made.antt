@@ -29,7 +29,7 @@ use Rattle.step_feed.specs.Pacing.{units_of}
 use Rattle.section_units.specs.Sections.{of_stepper}
 use Rattle.section_units.specs.Plans.{plans_on}
 use Rattle.section_units.proofs.Fronting.{of_front}
-use Rattle.laws_board.specs.sections.Homes.{HasUnits, IsControlIn, IsSetting, RunSection, Sets, SetsAny, SetsClock}
+use Rattle.laws_board.specs.sections.Homes.{HasUnits, IsControlIn, IsSetting, RunSection, SomeSets, SetsAny, SetsClock}
 use Rattle.motion_work.specs.Homes.{before_turn}
 use Rattle.motion_work.specs.Seen.{AreStarted, IsMoved, IsPlanned, Started, part_on}
 use Rattle.motion_work.proofs.Boardwise.{moved_is}
@@ -58,7 +58,7 @@ set_one : (clocks : Clocks) (ss : List RunSection) (turn oid : ℕ) (c : Cmd) �
 set_one clocks ss turn oid (cmd.ResetStepClock other clock) a e = (clock, a)
 set_one clocks ss turn oid c a e = absurd e
 
-set_control : (clocks : Clocks) (ss : List RunSection) (turn oid : ℕ) (cs : List Cmd) → All (IsControlIn clocks ss turn) cs → Sets oid cs → (clock : ℕ) × SetsClock clocks ss turn clock
+set_control : (clocks : Clocks) (ss : List RunSection) (turn oid : ℕ) (cs : List Cmd) → All (IsControlIn clocks ss turn) cs → SomeSets oid cs → (clock : ℕ) × SetsClock clocks ss turn clock
 set_control clocks ss turn oid [] a s = absurd s
 set_control clocks ss turn oid (c ∷ cs) a (inl e) = set_one clocks ss turn oid c (All-head (IsControlIn clocks ss turn) c cs a) e
 set_control clocks ss turn oid (c ∷ cs) a (inr s) = set_control clocks ss turn oid cs (All-tail (IsControlIn clocks ss turn) c cs a) s
@@ -67,7 +67,7 @@ may_one : (h : Option Homing) (turn oid : ℕ) (c : Cmd) → MayOrder h turn c �
 may_one h turn oid (cmd.ResetStepClock other clock) a e = a
 may_one h turn oid c a e = absurd e
 
-may_set : (h : Option Homing) (turn oid : ℕ) (cs : List Cmd) → All (MayOrder h turn) cs → Sets oid cs → SetsClocks h turn
+may_set : (h : Option Homing) (turn oid : ℕ) (cs : List Cmd) → All (MayOrder h turn) cs → SomeSets oid cs → SetsClocks h turn
 may_set h turn oid [] a s = absurd s
 may_set h turn oid (c ∷ cs) a (inl e) = may_one h turn oid c (All-head (MayOrder h turn) c cs a) e
 may_set h turn oid (c ∷ cs) a (inr s) = may_set h turn oid cs (All-tail (MayOrder h turn) c cs a) s
@@ -76,7 +76,7 @@ of_one : (P : ℕ → Type 0) (oid : ℕ) (c : Cmd) → SetsOf P c → IsSetting
 of_one P oid (cmd.ResetStepClock other clock) p e = subst P e p
 of_one P oid c p e = absurd e
 
-of_set : (P : ℕ → Type 0) (oid : ℕ) (cs : List Cmd) → AllSetOf P cs → Sets oid cs → P oid
+of_set : (P : ℕ → Type 0) (oid : ℕ) (cs : List Cmd) → AllSetOf P cs → SomeSets oid cs → P oid
 of_set P oid [] a s = absurd s
 of_set P oid (c ∷ cs) a (inl e) = of_one P oid c a.0 e
 of_set P oid (c ∷ cs) a (inr s) = of_set P oid cs a.1 s
@@ -99,7 +99,7 @@ sets_either oid (x ∷ xs) ys (inr s) = elim (sets_either oid xs ys s) [ inl a �
 
 module _ (m : Machine) (switches : List Switch) (pins : List (List Level)) (entries : List Entry) (b ready : ℕ) (clocks : Clocks) (begun : List Started) (ss : List RunSection) (late : All (λ s. ready + 260 ≤ s.section.start) ss) where
   one_turn : (c : Came) (before : List Came) (t : BoardTurn) (turns : List BoardTurn) (oid : ℕ) → IsInRun m switches pins entries b (c ∷ before) (t ∷ turns) → CameNotes begun (c ∷ before) → All (IsControlIn clocks ss (length before)) t.control.commands
-      → (ready < length before → (known_by m switches before).phase ≡ Connecting → ⊥) → Sets oid t.control.commands → IsOwn m b oid
+      → (ready < length before → (known_by m switches before).phase ≡ Connecting → ⊥) → SomeSets oid t.control.commands → IsOwn m b oid
   one_turn c before t turns oid r notes hold past s =
       let set = set_control clocks ss (length before) oid t.control.commands hold s in
       let on = past (set_late clocks ss ready (length before) set.0 late set.1) in

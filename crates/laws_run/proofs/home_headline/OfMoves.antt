@@ -24,7 +24,7 @@ use Rattle.session_work.specs.Rows.{gather}
 use Rattle.session_run.specs.declared.tell.Kept.{Kept}
 use Rattle.session_run.specs.Boards.{came_from}
 use Rattle.session_run.specs.Runs.{RunsOver}
-use Rattle.laws_run.specs.lanes.Boards.{IsInWhole, behind}
+use Rattle.laws_run.specs.lanes.Boards.{IsInWhole, turns_behind}
 use Rattle.laws_board.specs.plans.Planned.{Plans}
 use Rattle.laws_homing.specs.fired_runs.Since.{AllReadTrue, AreReadTrue}
 use Rattle.laws_run.specs.run_ends.Ends.{GoesThrough}
@@ -63,7 +63,7 @@ moves_near m v s text ts (first ∷ rest) end c f moves timely = λ p b same som
     let own = subst Moves (sym same) moves in
     let All : List Came → Type 0 = λ z. AllMoves z in
     let none = subst All (sym (came_cut [] first rest end)) (all_moves m p.seen.text p.seen.begun p.made first rest (kinds m v s ts p end c first rest f own) p.put (notes_before m v s ts p end c first rest f)) in
-    record { timely = timely p b same some low w; reads = all_read m s.switches b _ (behind [] w.made) w.goes_on none }
+    record { timely = timely p b same some low w; reads = all_read m s.switches b _ (turns_behind [] w.made) w.goes_on none }
 
 -- and they are where it holds nothing long
 moves_timely : (m : Machine) (v : IsValidMachine m) (s : Scene) (text : List ℕ) (ts : List MotionTurn) (rs : List ReactorTurn) (end : ReactorTurn) (c : Cause) → Facts m s ts rs end c → HaveShortDictionaries m → AreOfMoves (program_sections m text)

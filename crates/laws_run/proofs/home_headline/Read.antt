@@ -23,13 +23,13 @@ use Rattle.session_run.specs.Boards.{came_from, came_in}
 use Rattle.session_run.specs.Runs.{RunsOver}
 use Rattle.laws_board.specs.clocks.Runs.{IsInRun}
 use Rattle.laws_board.proofs.clocks.Lines.{run_before}
-use Rattle.laws_run.specs.lanes.Boards.{behind, states_of}
+use Rattle.laws_run.specs.lanes.Boards.{turns_behind, states_of}
 use Rattle.laws_board.specs.plans.Boards.{TookStates}
 use Rattle.laws_run.proofs.run_headline.Boarded.{came_cut, came_split}
 use Rattle.laws_run.proofs.run_headline.Cutting.{run_front}
 use Rattle.laws_homing.proofs.fired_runs.Reported.{same_state}
 use Rattle.laws_homing.specs.switch_runs.Reading.{AllTellTrue, TellTrue}
-use Rattle.laws_homing.specs.switch_runs.Runs.{IsRead}
+use Rattle.laws_homing.specs.switch_runs.Runs.{IsReadInRun}
 use Rattle.laws_homing.proofs.switch_runs.Ordering.{run_tells}
 use Rattle.laws_run.specs.home_headline.Reports.{TellOfReadings}
 
@@ -41,11 +41,11 @@ latest_tells F (t ∷ before) state all e = let same : t.state ≡ state = cc in
 -- so the states of one board in some turns of the reactor
 abbrev Tell : Machine → List Switch → List (List Level) → ℕ → List Came → Type 0
 Tell m switches pins b [] = Unit {0}
-Tell m switches pins b (c ∷ before) = ((state : State) → item b c.states ≡ state ∷ [] → TellTrue (IsRead m switches pins b before) state.news) × Tell m switches pins b before
+Tell m switches pins b (c ∷ before) = ((state : State) → item b c.states ≡ state ∷ [] → TellTrue (IsReadInRun m switches pins b before) state.news) × Tell m switches pins b before
 
 one_tells : (m : Machine) (switches : List Switch) (pins : List (List Level)) (entries : List Entry) (b : ℕ) (c : Came) (before : List Came) (turns : List BoardTurn) → IsInRun m switches pins entries b before turns → item b c.states ≡ latest_state turns
-    → (state : State) → item b c.states ≡ state ∷ [] → TellTrue (IsRead m switches pins b before) state.news
-one_tells m switches pins entries b c before turns run latest state is = latest_tells (IsRead m switches pins b before) turns state (run_tells m switches pins entries b before turns run) (sym latest ∙ is)
+    → (state : State) → item b c.states ≡ state ∷ [] → TellTrue (IsReadInRun m switches pins b before) state.news
+one_tells m switches pins entries b c before turns run latest state is = latest_tells (IsReadInRun m switches pins b before) turns state (run_tells m switches pins entries b before turns run) (sym latest ∙ is)
 
 all_tell : (m : Machine) (switches : List Switch) (pins : List (List Level)) (entries : List Entry) (b : ℕ) (came : List Came) (turns : List BoardTurn) → IsInRun m switches pins entries b came turns → Tell m switches pins b came
 all_tell m switches pins entries b [] turns run = tt
@@ -60,7 +60,7 @@ boards_tell m switches [] all = tt
 boards_tell m switches (c ∷ before) all = (λ b state low is. (all b low).0 state is, boards_tell m switches before (λ b low. (all b low).1))
 
 -- in the last of some turns the reactor took what the board told in its latest one
-took_latest : (b : ℕ) (rest : List ReactorTurn) (last : ReactorTurn) (made turns : List BoardTurn) → TookStates b (rest ++ last ∷ []) (states_of made) → item b last.states ≡ latest_state (behind turns made)
+took_latest : (b : ℕ) (rest : List ReactorTurn) (last : ReactorTurn) (made turns : List BoardTurn) → TookStates b (rest ++ last ∷ []) (states_of made) → item b last.states ≡ latest_state (turns_behind turns made)
 took_latest b [] last [] turns took = absurd took
 took_latest b [] last (t ∷ []) turns took = took.0
 took_latest b [] last (t ∷ u ∷ made) turns took = let no = took.1 in cc
@@ -89,7 +89,7 @@ module _ {F S : Type 0} (f : Files F) (o : Sink S) (m : Machine) (s : Scene) (na
       boards_tell m s.switches (came_in last ∷ came_from [] (first ∷ rest)) (λ b low.
       let pins = pins_of (board_at m b) b s.switches in
       let w = part.facts.boards b first rest low refl in
-      let turns = behind [] w.made in
+      let turns = turns_behind [] w.made in
       let Run : List Came → Type 0 = λ came. IsInRun m s.switches pins s.entries b came turns in
       let run = subst Run (came_cut [] first rest last) (record { board = low; goes_on = w.goes_on; turns_are = w.turns_are; both = w.both; in_range = w.in_range }) in (
         one_tells m s.switches pins s.entries b (came_in last) (came_from [] (first ∷ rest)) turns run (took_latest b rest last w.made [] w.states),

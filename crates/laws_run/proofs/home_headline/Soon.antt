@@ -13,7 +13,7 @@ use Rattle.plan_types.specs.Sections.{clocks_at}
 use Rattle.section_feed.specs.Boards.{IsLasting}
 use Rattle.wire_scene.specs.declared.scene.Entry.{Entry}
 use Rattle.board_sim.specs.Fair.{only}
-use Rattle.board_world.specs.World.{run, start}
+use Rattle.board_world.specs.World.{run_world, new_world}
 use Rattle.laws_board.specs.sections.Boards.{OnBoard, told_in}
 use Rattle.laws_board.specs.sections.Homes.{IsHomeBoard, RunSection}
 use Rattle.laws_board.specs.sections.Parts.{AreTracked}
@@ -34,7 +34,7 @@ told_before : (place : ℕ) (entries : List Entry) (ready turns from to : ℕ) (
 told_before place entries ready turns from to ss x k order within oid =
     let c = cut_at x place entries ready from to turns ss k order within in
     let h = halves x.board x.pins k.own x.clocks ready k.stops ss c.before c.during c.behind c.first c.second c.span in
-    let made = (run c.first (start x.board x.pins)).made in
+    let made = (run_world c.first (new_world x.board x.pins)).made in
     let same : h.new.0 ≡ told_in from to x = append_cancel_left made h.new.0 (told_in from to x) (sym h.new.1 ∙ c.made) in
     let Own : List Pulse → Type 0 = λ ps. AreEarly (k.own to) (only oid ps) in
     let At : ℕ → Type 0 = λ n. AreEarly (k.own n) (only oid h.new.0) in

@@ -10,7 +10,7 @@ use Rattle.msg_code.specs.declared.talk.ShutNews.{ShutNews}
 use Rattle.board_sim.specs.Board.{new_controller}
 use Rattle.board_sim.specs.Fair.{Meant}
 use Rattle.board_world.specs.Stands.{IsOrdered}
-use Rattle.board_world.specs.World.{Step, run, start}
+use Rattle.board_world.specs.World.{Step, run_world, new_world}
 use Rattle.board_world.proofs.Causes.{was_shut}
 use Rattle.link_work.specs.Turn.{Orders}
 use Rattle.link_work.specs.Runs.{queued_in}
@@ -20,12 +20,12 @@ use Rattle.laws_board.specs.sections.Stops.{NeverStop}
 use Rattle.laws_board.proofs.sections.Seeking.{Among, among_first, among_of}
 use Rattle.laws_board.proofs.sections.Stopping.{no_turns, stop_taken}
 
-pub never_shut : (b : BoardDef) (pins : List (List Level)) (os : List Orders) (steps : List Step) (tick first : ℕ) → IsOrdered (run steps (start b pins)) → (run steps (start b pins)).queued ≡ flat_map queued_in os → NeverStop os
-    → (run steps (start b pins)).board.controller.state ≡ Shut 5 tick first → ⊥
+pub never_shut : (b : BoardDef) (pins : List (List Level)) (os : List Orders) (steps : List Step) (tick first : ℕ) → IsOrdered (run_world steps (new_world b pins)) → (run_world steps (new_world b pins)).queued ≡ flat_map queued_in os → NeverStop os
+    → (run_world steps (new_world b pins)).board.controller.state ≡ Shut 5 tick first → ⊥
 unfolding new_controller
 never_shut b pins os steps tick first ordered queue never shut =
-    let h = run steps (start b pins) in
-    let n = stop_taken steps (start b pins) tick first (was_shut steps (start b pins) 5 tick first refl shut) in
+    let h = run_world steps (new_world b pins) in
+    let n = stop_taken steps (new_world b pins) tick first (was_shut steps (new_world b pins) 5 tick first refl shut) in
     let m = n.0 in
     let long = length h.link.taken in
     let queued : h.taken ++ drop long h.queued ≡ flat_map queued_in os = ap (λ x. x ++ drop long h.queued) ordered.first ∙ take-append-drop long h.queued ∙ queue in

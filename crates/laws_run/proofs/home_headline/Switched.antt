@@ -17,7 +17,7 @@ use Rattle.wire_scene.specs.declared.scene.Switch.{Switch}
 use Rattle.axis_homing.specs.declared.homing.Homing.{Homing}
 use Rattle.host_reactor.specs.Notes.{noted, told_all}
 use Rattle.host_reactor.specs.Report.{machine_line}
-use Rattle.host_reactor.specs.Runs.{Came, known_by, last_turn}
+use Rattle.host_reactor.specs.Runs.{Came, known_by, last_reacted}
 use Rattle.motion_work.specs.Homes.{no_end}
 use Rattle.motion_work.specs.Puts.{begun_notes}
 use Rattle.motion_work.specs.Seen.{Started}
@@ -269,7 +269,7 @@ module _ (m : Machine) (v : IsValidMachine m) (s : Scene) (ts : List MotionTurn)
           };
         }
 
-    answered : TellsHomed (last_turn m s.switches (came_in end) came).ordered.word.news → IsAnswered
+    answered : TellsHomed (last_reacted m s.switches (came_in end) came).ordered.word.news → IsAnswered
     answered t =
         let h = is_noted in
         let told = told_cut m s.switches (came_in end) came goes.goes_on t in
@@ -358,7 +358,7 @@ module _ (m : Machine) (v : IsValidMachine m) (s : Scene) (ts : List MotionTurn)
       none_begun [] e = e
       none_begun (x ∷ begun) e = absurd (untold_alone m v s ts p end c p.seen.told refl f (λ none. (let g : x ∷ begun ≡ [] = sym e ∙ none in cc)))
 
-      uncut : cuts_of (last_turn m s.switches (came_in end) []).ordered.lines ≡ []
+      uncut : cuts_of (last_reacted m s.switches (came_in end) []).ordered.lines ≡ []
       uncut = elim (turn_cuts m s.switches (known_by m s.switches []) 0 end.states end.note goes.goes_on) [
         | inr u ↦ u.lines
         | inl t ↦

@@ -33,7 +33,7 @@ use Rattle.host_reactor.specs.Notes.{is_out, news_of, noted}
 use Rattle.host_reactor.specs.Reactor.{Reacted, Run, after_homing, asks_boards, by_phase, carries_on, cut_line, finishes, is_connected_now, reacts, unless_ended, unless_given_up, unless_homing_ends, unless_late_stale, unless_stale}
 use Rattle.host_reactor.specs.Report.{count_lines, first_lines}
 use Rattle.host_reactor.specs.Running.{first_cause, is_finished, stop_of}
-use Rattle.host_reactor.specs.Runs.{Came, GoesOn, known_by, last_turn}
+use Rattle.host_reactor.specs.Runs.{Came, GoesOn, known_by, last_reacted}
 use Rattle.motion_work.specs.Seen.{Started}
 use Rattle.session_lanes.specs.declared.near.Told as near
 use Rattle.session_work.specs.declared.table.MotionTurn.{MotionTurn}
@@ -165,7 +165,7 @@ pub came_snoc : (before : List Came) (rs : List ReactorTurn) (end : ReactorTurn)
 came_snoc before [] end = refl
 came_snoc before (r ∷ rs) end = came_snoc (came_in r ∷ before) rs end
 
-tells_ahead : (m : Machine) (switches : List Switch) (ahead : List Came) (c : Came) (before : List Came) → TellsHomed (last_turn m switches c before).ordered.word.news → TellsIn m switches (length before) (ahead ++ c ∷ before)
+tells_ahead : (m : Machine) (switches : List Switch) (ahead : List Came) (c : Came) (before : List Came) → TellsHomed (last_reacted m switches c before).ordered.word.news → TellsIn m switches (length before) (ahead ++ c ∷ before)
 tells_ahead m switches [] c before t = inl (refl, t)
 tells_ahead m switches (x ∷ ahead) c before t = inr (tells_ahead m switches ahead c before t)
 
@@ -183,7 +183,7 @@ ends_snoc m switches begun k (x ∷ xs) y tells one =
 -- the turns that go on
 module _ (m : Machine) (switches : List Switch) (n : ℕ) (ts : List MotionTurn) (p : Plans m n ts) (came : List Came) (by : IsPlannedBy m switches n ts p came) (few : length came ≤ length (p.made ++ p.last)) where
   -- the answer of a section that ended in a turn is told in it
-  told_of : (ahead : List Came) (c : Came) (before : List Came) (number axis : ℕ) → came ≡ ahead ++ c ∷ before → EndsIn p.seen.begun (length before) number axis → TellsHomed (last_turn m switches c before).ordered.word.news
+  told_of : (ahead : List Came) (c : Came) (before : List Came) (number axis : ℕ) → came ≡ ahead ++ c ∷ before → EndsIn p.seen.begun (length before) number axis → TellsHomed (last_reacted m switches c before).ordered.word.news
   told_of ahead c before number axis are e =
       let size : length came ≡ length ahead + length (c ∷ before) = ap length are ∙ length-append ahead (c ∷ before) in
       let at = e.end in
@@ -192,7 +192,7 @@ module _ (m : Machine) (switches : List Switch) (n : ℕ) (ts : List MotionTurn)
       tells_now m switches e.s.end c before (sym at) (tells_tail m switches e.s.end ahead (c ∷ before) (omega (arith, at)) (subst Tells are told))
 
   -- and one that is told is that of a section that ended in the turn
-  ended_of : (ahead : List Came) (c : Came) (before : List Came) → came ≡ ahead ++ c ∷ before → TellsHomed (last_turn m switches c before).ordered.word.news → TellsSwitch m switches p.seen.begun (length before) (last_turn m switches c before).ordered.lines
+  ended_of : (ahead : List Came) (c : Came) (before : List Came) → came ≡ ahead ++ c ∷ before → TellsHomed (last_reacted m switches c before).ordered.word.news → TellsSwitch m switches p.seen.begun (length before) (last_reacted m switches c before).ordered.lines
   ended_of ahead c before are t =
       let Goes : List Came → Type 0 = λ z. GoesOn m switches z in
       let Notes : List Came → Type 0 = λ z. CameNotes p.seen.begun z in
@@ -241,7 +241,7 @@ module _ (m : Machine) (switches : List Switch) (n : ℕ) (ts : List MotionTurn)
       }
 
   one_tells : (ahead : List Came) (c : Came) (before : List Came) → came ≡ ahead ++ c ∷ before
-      → TellsSwitch m switches p.seen.begun (length before) (last_turn m switches c before).ordered.lines ⊎ TellsNone p.seen.begun (length before) (last_turn m switches c before).ordered.lines
+      → TellsSwitch m switches p.seen.begun (length before) (last_reacted m switches c before).ordered.lines ⊎ TellsNone p.seen.begun (length before) (last_reacted m switches c before).ordered.lines
   one_tells ahead c before are =
       let Goes : List Came → Type 0 = λ z. GoesOn m switches z in
       let goes = goes_behind m switches ahead (c ∷ before) (subst Goes are by.goes_on) in

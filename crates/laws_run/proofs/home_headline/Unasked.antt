@@ -25,7 +25,7 @@ use Rattle.host_reactor.specs.declared.ordered.Known.{Known}
 use Rattle.host_reactor.specs.declared.ordered.Phase.TheVariants.{Stopping}
 use Rattle.host_reactor.specs.Notes.{noted}
 use Rattle.host_reactor.specs.Reactor.{Reacted, homing_commands, phase_after, run_control, stop_command, stops}
-use Rattle.host_reactor.specs.Runs.{Came, known_by, last_turn}
+use Rattle.host_reactor.specs.Runs.{Came, known_by, last_reacted}
 use Rattle.laws_board.specs.turns.Turns.{BoardTurn}
 use Rattle.laws_board.specs.clocks.Runs.{IsInRun, orders_in}
 use Rattle.laws_board.proofs.clocks.Lines.{run_before, turn_of}
@@ -79,6 +79,6 @@ never_stop m switches pins entries b (c ∷ before) [] r n = absurd r.both
 never_stop m switches pins entries b (c ∷ before) (t ∷ turns) r n =
     let x = turn_of m switches pins entries b c before t turns r in
     let k = noted m c.note (known_by m switches before) in
-    let none = turn_none m b (length before) c k x.a (last_turn m switches c before) t x.turned n in
+    let none = turn_none m b (length before) c k x.a (last_reacted m switches c before) t x.turned n in
     none_later (orders_in turns) (orders t.control t.batch)
     (never_stop m switches pins entries b before turns (run_before m switches pins entries b c before t turns r) (not_before m switches c before r.goes_on.0)) (all_none t.control.commands none)

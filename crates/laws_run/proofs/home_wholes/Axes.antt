@@ -9,7 +9,7 @@ use Rattle.gcode_state.specs.declared.state.Action.{Action}
 use Rattle.gcode_state.specs.declared.state.Action.TheVariants as actions
 use Rattle.gcode_state.specs.declared.state.State.{State}
 use Rattle.gcode_state.specs.States.{coordinates_of}
-use Rattle.gcode_program.specs.Cuts.{closed, home_of, homes, is_named, left, left_by, left_by_homes, sections_by, sections_of}
+use Rattle.gcode_program.specs.Cuts.{closed, home_of, homes, is_named, dwell_left, dwell_behind_home, left_by_homes, sections_by, sections_of}
 use Rattle.gcode_program.specs.Homes.{stood}
 use Rattle.gcode_program.specs.Readings.{Deed}
 use Rattle.motion_work.specs.Seen.{Started}
@@ -41,20 +41,20 @@ homes_axes m at a dwell axes =
     let y = is_named axes 1 in
     let z = is_named axes 2 in
     let one = home_of m at a dwell 0 x in
-    let two = home_of m (stood m at 0 x) a (left_by dwell x) 1 y in
-    let three = home_of m (stood m (stood m at 0 x) 1 y) a (left_by (left_by dwell x) y) 2 z in
-    axes_both (one ++ two) three (axes_both one two (home_axes m at a dwell 0 x (omega arith)) (home_axes m (stood m at 0 x) a (left_by dwell x) 1 y (omega arith))) (home_axes m (stood m (stood m at 0 x) 1 y) a (left_by (left_by dwell x) y) 2 z (omega arith))
+    let two = home_of m (stood m at 0 x) a (dwell_behind_home dwell x) 1 y in
+    let three = home_of m (stood m (stood m at 0 x) 1 y) a (dwell_behind_home (dwell_behind_home dwell x) y) 2 z in
+    axes_both (one ++ two) three (axes_both one two (home_axes m at a dwell 0 x (omega arith)) (home_axes m (stood m at 0 x) a (dwell_behind_home dwell x) 1 y (omega arith))) (home_axes m (stood m (stood m at 0 x) 1 y) a (dwell_behind_home (dwell_behind_home dwell x) y) 2 z (omega arith))
 
 by_axes : (m : Machine) (dwell : ℕ) (moves : List Move) (s : State) (a : Action) (rest : ℕ → List Move → List Section) → ((d : ℕ) (ms : List Move) → HaveAxes (rest d ms)) → HaveAxes (sections_by m dwell moves s a rest)
 by_axes m dwell moves s actions.None rest all = all dwell moves
 by_axes m dwell moves s (actions.Move one) rest all = all dwell (moves ++ one ∷ [])
-by_axes m dwell moves s (actions.Dwell ms) rest all = axes_both (closed dwell moves) (rest (left dwell moves + ms) []) (closed_axes dwell moves) (all (left dwell moves + ms) [])
-by_axes m dwell moves s actions.Wait rest all = axes_both (closed dwell moves) (rest (left dwell moves) []) (closed_axes dwell moves) (all (left dwell moves) [])
-by_axes m dwell moves s actions.Stop rest all = axes_both (closed dwell moves) (rest (left dwell moves) []) (closed_axes dwell moves) (all (left dwell moves) [])
+by_axes m dwell moves s (actions.Dwell ms) rest all = axes_both (closed dwell moves) (rest (dwell_left dwell moves + ms) []) (closed_axes dwell moves) (all (dwell_left dwell moves + ms) [])
+by_axes m dwell moves s actions.Wait rest all = axes_both (closed dwell moves) (rest (dwell_left dwell moves) []) (closed_axes dwell moves) (all (dwell_left dwell moves) [])
+by_axes m dwell moves s actions.Stop rest all = axes_both (closed dwell moves) (rest (dwell_left dwell moves) []) (closed_axes dwell moves) (all (dwell_left dwell moves) [])
 by_axes m dwell moves s (actions.Home axes) rest all =
-    let own = homes m (coordinates_of s) s.acceleration (left dwell moves) axes in
-    let more = rest (left_by_homes (left dwell moves) axes) [] in
-    axes_both (closed dwell moves) (own ++ more) (closed_axes dwell moves) (axes_both own more (homes_axes m (coordinates_of s) s.acceleration (left dwell moves) axes) (all (left_by_homes (left dwell moves) axes) []))
+    let own = homes m (coordinates_of s) s.acceleration (dwell_left dwell moves) axes in
+    let more = rest (left_by_homes (dwell_left dwell moves) axes) [] in
+    axes_both (closed dwell moves) (own ++ more) (closed_axes dwell moves) (axes_both own more (homes_axes m (coordinates_of s) s.acceleration (dwell_left dwell moves) axes) (all (left_by_homes (dwell_left dwell moves) axes) []))
 
 -- those that are cut from deeds
 pub have_axes : (m : Machine) (dwell : ℕ) (moves : List Move) (deeds : List Deed) → HaveAxes (sections_of m dwell moves deeds)

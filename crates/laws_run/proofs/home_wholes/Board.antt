@@ -14,7 +14,7 @@ use Rattle.wire_scene.specs.declared.scene.Entry.{Entry}
 use Rattle.board_sim.specs.Board.{timer_too_close}
 use Rattle.board_sim.specs.Fair.{only}
 use Rattle.board_sim.proofs.Steps.{only-append}
-use Rattle.board_world.specs.World.{Core, run, start}
+use Rattle.board_world.specs.World.{Core, run_world, new_world}
 use Rattle.section_units.specs.Sections.{AreBefore, base_of, section_steps}
 use Rattle.link_core.specs.Core.{sent}
 use Rattle.link_work.specs.Runs.{AreTurns}
@@ -52,7 +52,7 @@ between_told place entries ready turns from to x ss k order within oid =
     let own = k.own in
     let c = cut_at x place entries ready from to turns ss k order within in
     let q = halves x.board x.pins own x.clocks ready k.stops ss c.before c.during c.behind c.first c.second c.span in
-    let h1 = run c.first (start x.board x.pins) in
+    let h1 = run_world c.first (new_world x.board x.pins) in
     let same : q.new.0 ≡ told_in from to x = append_cancel_left h1.made q.new.0 (told_in from to x) (sym q.new.1 ∙ c.made) in
     let Low : ℕ → Type 0 = λ n. AreBetween (own n) (own to) (only oid (told_in from to x)) in
     let High : ℕ → Type 0 = λ n. AreBetween (own (length c.before)) (own n) (only oid (told_in from to x)) in

@@ -4,7 +4,7 @@ use Rattle.plan_types.specs.declared.clock.BoardClock.{BoardClock}
 use Rattle.plan_types.specs.Clock.{clock_of}
 use Rattle.msg_code.specs.declared.talk.State.{State}
 use Rattle.wire_scene.specs.declared.scene.Entry.{Entry}
-use Rattle.board_world.specs.World.{Core, Step, run, start}
+use Rattle.board_world.specs.World.{Core, Step, run_world, new_world}
 use Rattle.link_work.specs.Runs.{AreTurns}
 use Rattle.link_work.specs.Stands.{first_state}
 use Rattle.link_work.specs.Turn.{LinkState, Orders}
@@ -28,15 +28,15 @@ pub record Cut (x : OnBoard) (own : ℕ → ℕ) (place : ℕ) (entries : List E
   pub until_is : lost_at (length (before ++ (during ++ behind))) span.split.tail ≡ until
   pub mid : LinkState
   pub mid_turns : AreTurns (clock_of x.board) 0 before (first_state x.board x.pins place entries) mid
-  pub mid_is : mid.core ≡ run first (start x.board x.pins)
+  pub mid_is : mid.core ≡ run_world first (new_world x.board x.pins)
   pub last : LinkState
-  pub last_is : last.core ≡ run (first ++ second) (start x.board x.pins)
+  pub last_is : last.core ≡ run_world (first ++ second) (new_world x.board x.pins)
   pub states : List State
   pub others : List State
   pub states_are : x.states ≡ states ++ others
   pub long : length states ≡ length before + length during
   pub told : AreTold (clock_of x.board) 0 (before ++ during) states (first_state x.board x.pins place entries) last
-  pub made : (run (first ++ second) (start x.board x.pins)).made ≡ pulses_in states
+  pub made : (run_world (first ++ second) (new_world x.board x.pins)).made ≡ pulses_in states
 
 told_both : (clock : BoardClock) (turn next : ℕ) (xs ys : List Orders) (ss ts : List State) (l m n : LinkState) → turn + length xs ≡ next → AreTold clock turn xs ss l m → AreTold clock next ys ts m n → AreTold clock turn (xs ++ ys) (ss ++ ts) l n
 told_both clock turn next [] ys [] ts l m n e a b =
@@ -52,10 +52,10 @@ told_both clock turn next (x ∷ xs) ys (s ∷ ss) ts l m n e a b = (a.0, a.1, a
 cut_here : (x : OnBoard) (place : ℕ) (entries : List Entry) (ready : ℕ) (ss : List RunSection) (turns : ℕ) (k : IsHomeBoard place entries ready turns ss x) (before during behind : List Orders)
     → length (before ++ (during ++ behind)) ≡ turns → IsHomeRun k.own x.clocks x.board.freq x.board.slots ready k.stops ss (before ++ (during ++ behind))
     → (t : AreTold (clock_of x.board) 0 (before ++ (during ++ behind)) x.states (first_state x.board x.pins place entries) k.end)
-    → AllTimely (start x.board x.pins) (steps_told (clock_of x.board) 0 (before ++ (during ++ behind)) x.states (first_state x.board x.pins place entries) k.end t)
+    → AllTimely (new_world x.board x.pins) (steps_told (clock_of x.board) 0 (before ++ (during ++ behind)) x.states (first_state x.board x.pins place entries) k.end t)
     → (split : IsSplitIn k.own k.stops x.board.slots ss (before ++ (during ++ behind)))
     → SettledTold k.stops split.front (clock_of x.board) 0 [] (before ++ (during ++ behind)) x.states (first_state x.board x.pins place entries) k.end t
-    → AllHeed split.front split.tail (start x.board x.pins) (steps_told (clock_of x.board) 0 (before ++ (during ++ behind)) x.states (first_state x.board x.pins place entries) k.end t)
+    → AllHeed split.front split.tail (new_world x.board x.pins) (steps_told (clock_of x.board) 0 (before ++ (during ++ behind)) x.states (first_state x.board x.pins place entries) k.end t)
     → (until : ℕ) → lost_at (length (before ++ (during ++ behind))) split.tail ≡ until → Cut x k.own place entries ready until k.stops ss before during behind
 cut_here x place entries ready ss turns k before during behind all_is r t timely split settled heed until until_is =
     let clock = clock_of x.board in
@@ -63,7 +63,7 @@ cut_here x place entries ready ss turns k before during behind all_is r t timely
     let all = length-append before (during ++ behind) in
     let rest = length-append during behind in
     let l = first_state x.board x.pins place entries in
-    let h = start x.board x.pins in
+    let h = new_world x.board x.pins in
     let a = length before in
     let d = a + length during in
     let s = split_at k.stops split.front clock 0 a [] before (during ++ behind) x.states l k.end t (omega arith) settled in
@@ -75,8 +75,8 @@ cut_here x place entries ready ss turns k before during behind all_is r t timely
     let states : x.states ≡ s.first ++ (u.first ++ u.second) = s.are ∙ ap (λ y. s.first ++ y) u.are in
     let t1 = turns_are clock 0 before l s.mid (turns_told clock 0 before s.first l s.mid s.one) in
     let t2 = turns_are clock a during s.mid u.mid (turns_told clock a during u.first s.mid u.mid u.one) in
-    let early : s.mid.core ≡ run first h = t1.0 in
-    let late : u.mid.core ≡ run (first ++ second) h = t2.0 ∙ ap (run second) t1.0 ∙ sym (run_append first second h) in
+    let early : s.mid.core ≡ run_world first h = t1.0 in
+    let late : u.mid.core ≡ run_world (first ++ second) h = t2.0 ∙ ap (run_world second) t1.0 ∙ sym (run_append first second h) in
     let Timely : List Step → Type 0 = λ y. AllTimely h y in
     let Heed : List Step → Type 0 = λ y. AllHeed split.front split.tail h y in
     let one_within : 0 + a ≤ turns = omega (arith, all, all_is) in
@@ -124,6 +124,6 @@ cut_board x place entries ready turns ss k before during behind cut =
     let clock = clock_of x.board in
     let l = first_state x.board x.pins place entries in
     let At : List Orders → Type 0 = λ o. length o ≡ turns → IsHomeRun k.own x.clocks x.board.freq x.board.slots ready k.stops ss o → (t : AreTold clock 0 o x.states l k.end)
-    → AllTimely (start x.board x.pins) (steps_told clock 0 o x.states l k.end t) → (split : IsSplitIn k.own k.stops x.board.slots ss o) → SettledTold k.stops split.front clock 0 [] o x.states l k.end t
-    → AllHeed split.front split.tail (start x.board x.pins) (steps_told clock 0 o x.states l k.end t) → (until : ℕ) → lost_at (length o) split.tail ≡ until → Cut x k.own place entries ready until k.stops ss before during behind in
+    → AllTimely (new_world x.board x.pins) (steps_told clock 0 o x.states l k.end t) → (split : IsSplitIn k.own k.stops x.board.slots ss o) → SettledTold k.stops split.front clock 0 [] o x.states l k.end t
+    → AllHeed split.front split.tail (new_world x.board x.pins) (steps_told clock 0 o x.states l k.end t) → (until : ℕ) → lost_at (length o) split.tail ≡ until → Cut x k.own place entries ready until k.stops ss before during behind in
     subst At (sym cut) (cut_here x place entries ready ss turns k before during behind) k.count k.run_is k.told k.timely k.split k.settled k.heed (lost_at (length x.orders) k.split.tail) refl

@@ -23,7 +23,7 @@ use Rattle.session_work.specs.declared.table.MotionTurn.{MotionTurn}
 use Rattle.session_work.specs.declared.table.ReactorTurn.{ReactorTurn}
 use Rattle.session_run.specs.Boards.{came_in}
 use Rattle.session_run.specs.Runs.{RunsOver}
-use Rattle.laws_run.specs.lanes.Boards.{behind}
+use Rattle.laws_run.specs.lanes.Boards.{turns_behind}
 use Rattle.laws_board.proofs.sections.Lists.{one_place}
 use Rattle.laws_board.specs.plans.Planned.{Plans}
 use Rattle.laws_board.specs.causes.Short.{HaveShortDictionaries}
@@ -64,8 +64,8 @@ module _ (m : Machine) (v : IsValidMachine m) (s : Scene) (ts : List MotionTurn)
       let same : k.x ≡ e.s = one_place k.past k.x k.later e.past e.s e.later (sym k.cut ∙ e.cut) (sym k.number ∙ sym same_number ∙ e.number_is) in
       let ends : k.x.end ≡ length before = ap (λ (z : Started). z.end) same ∙ e.end in
       let all = takes p k.board refl (λ none. in_none k.past k.x k.later p.seen.begun none k.cut) k.there k.w in
-      let Takes : List Started → Type 0 = λ z. TakeSetUps m pins s.entries k.board z (behind [] k.w.made) in
-      let took = take_at m pins s.entries k.board k.past k.x k.later k.axis (behind [] k.w.made) k.home (subst Takes k.cut all) k.others k.turns k.are (k.long ∙ sym ends) in
+      let Takes : List Started → Type 0 = λ z. TakeSetUps m pins s.entries k.board z (turns_behind [] k.w.made) in
+      let took = take_at m pins s.entries k.board k.past k.x k.later k.axis (turns_behind [] k.w.made) k.home (subst Takes k.cut all) k.others k.turns k.are (k.long ∙ sym ends) in
       let are = begun clock link k.others k.turns (subst (λ (z : List BoardTurn). AreBoardTurns clock link z) k.are k.w.turns_are) in
       took_early clock link k.x.start k.is.turn k.turns are took k.is.took
 

@@ -23,7 +23,7 @@ use Rattle.board_sim.proofs.RigStates.{passes_state}
 use Rattle.board_world.specs.declared.event.Event.{Event}
 use Rattle.board_world.specs.declared.event.Event.TheVariants as event
 use Rattle.board_world.specs.Stands.{IsOrdered}
-use Rattle.board_world.specs.World.{Core, Step, Do, Turn, happens, in_turn, run, start, takes_in}
+use Rattle.board_world.specs.World.{Core, Step, Do, Turn, after_event, in_turn, run_world, new_world, takes_in}
 use Rattle.board_world.proofs.Runs.{all_orders}
 use Rattle.link_work.specs.Runs.{queued_in}
 use Rattle.link_work.specs.Stands.{first_state, orders}
@@ -31,7 +31,7 @@ use Rattle.link_work.specs.Turn.{LinkState}
 use Rattle.link_work.proofs.Turns.{turns_are_steps}
 use Rattle.host_reactor.specs.Notes.{is_out, noted}
 use Rattle.host_reactor.specs.Running.{any_out, first_cause, late, late_of, or_cause}
-use Rattle.host_reactor.specs.Runs.{Came, known_by, last_turn, state_at}
+use Rattle.host_reactor.specs.Runs.{Came, known_by, last_reacted, state_at}
 use Rattle.host_reactor.proofs.Ends.{first-ends}
 use Rattle.laws_board.specs.turns.Turns.{AreBoardTurns, BoardTurn, latest_state, stands_after}
 use Rattle.laws_board.specs.clocks.Runs.{IsInRun, orders_in}
@@ -55,12 +55,12 @@ memory_none : (b : Bool) (o : Option Cause) → cond b (Some cause.Memory) o ≡
 memory_none true o e = absurd (some_none cause.Memory e)
 memory_none false o e = e
 
-none_first : (m : Machine) (switches : List Switch) (c : Came) (before : List Came) (o : Option Cause) → (last_turn m switches c before).ordered.end ≡ None
+none_first : (m : Machine) (switches : List Switch) (c : Came) (before : List Came) (o : Option Cause) → (last_reacted m switches c before).ordered.end ≡ None
     → first_cause (is_out c.note) (noted m c.note (known_by m switches before)).stopped c.states ≡ o → o ≡ None
 none_first m switches c before None e f = refl
 none_first m switches c before (Some x) e f = absurd (some_none x (sym (first-ends m switches (known_by m switches before) (length before) c.states c.note x f) ∙ e))
 
-none_late : (m : Machine) (switches : List Switch) (c : Came) (before : List Came) → (last_turn m switches c before).ordered.end ≡ None → late 0 c.states ≡ None
+none_late : (m : Machine) (switches : List Switch) (c : Came) (before : List Came) → (last_reacted m switches c before).ordered.end ≡ None → late 0 c.states ≡ None
 none_late m switches c before e =
     let stopped = (noted m c.note (known_by m switches before)).stopped in
     let first = none_first m switches c before (first_cause (is_out c.note) stopped c.states) e refl in
@@ -86,15 +86,15 @@ none_asked d pins b entries turns tick first are never shut =
     let begin = first_state d pins b entries in
     let os = orders_in turns in
     let steps = turns_are_steps (clock_of d) 0 os begin (stands_after begin turns) (turns_in_order (clock_of d) begin turns are) in
-    let ordered : IsOrdered (run steps.0 (start d pins)) = subst IsOrdered steps.1 (ordered_after d pins b entries turns are) in
-    let queue : (run steps.0 (start d pins)).queued ≡ flat_map queued_in os = all_orders steps.0 (start d pins) ∙ steps.2 in
+    let ordered : IsOrdered (run_world steps.0 (new_world d pins)) = subst IsOrdered steps.1 (ordered_after d pins b entries turns are) in
+    let queue : (run_world steps.0 (new_world d pins)).queued ≡ flat_map queued_in os = all_orders steps.0 (new_world d pins) ∙ steps.2 in
     never_shut d pins os steps.0 tick first ordered queue never (ap (λ (h : Core). h.board.controller.state) (sym steps.1) ∙ shut)
 
 -- a board whose state came in a turn of the reactor that goes on runs
 pub goes_running : (m : Machine) (switches : List Switch) (pins : List (List Level)) (entries : List Entry) (b : ℕ) (c : Came) (before : List Came) (past : List BoardTurn)
     → IsInRun m switches pins entries b before past
     → state_at b c.states ≡ latest_state past
-    → (last_turn m switches c before).ordered.end ≡ None
+    → (last_reacted m switches c before).ordered.end ≡ None
     → MayBe (stands_after (first_state (board_at m b) pins b entries) past).core.board.controller.state
     → (stands_after (first_state (board_at m b) pins b entries) past).core.board.controller.state ≡ Running
 unfolding new_controller
@@ -105,7 +105,7 @@ goes_running m switches pins entries b c before (t ∷ turns) r told e may =
     (λ tick first shut. none_asked (board_at m b) pins b entries (t ∷ turns) tick first r.turns_are never shut)
 
 -- nothing that happens changes the state of a board that is shut down
-shut_event : (h : Core) (e : Event) → is_shut h.board.controller.state ≡ true → (happens h e).board.controller.state ≡ h.board.controller.state
+shut_event : (h : Core) (e : Event) → is_shut h.board.controller.state ≡ true → (after_event h e).board.controller.state ≡ h.board.controller.state
 shut_event h (event.Pass t) shut = passes_state h.board t
 shut_event h event.Arrive shut = ap (λ (x : Controller). x.state) (all_left_by h.board (commands_of (takes_in h event.Arrive)) shut)
 shut_event h event.Repeat shut = ap (λ (x : Controller). x.state) (all_left_by h.board (commands_of (takes_in h event.Repeat)) shut)
@@ -118,9 +118,9 @@ shut_event h event.Garble shut = refl
 shut_event h event.Reply shut = refl
 shut_event h event.LoseReply shut = refl
 
-shut_steps : (steps : List Step) (h : Core) → is_shut h.board.controller.state ≡ true → (run steps h).board.controller.state ≡ h.board.controller.state
+shut_steps : (steps : List Step) (h : Core) → is_shut h.board.controller.state ≡ true → (run_world steps h).board.controller.state ≡ h.board.controller.state
 shut_steps [] h shut = refl
-shut_steps (Do e ∷ steps) h shut = let one = shut_event h e shut in shut_steps steps (happens h e) (ap is_shut one ∙ shut) ∙ one
+shut_steps (Do e ∷ steps) h shut = let one = shut_event h e shut in shut_steps steps (after_event h e) (ap is_shut one ∙ shut) ∙ one
 shut_steps (Turn turn ∷ steps) h shut = shut_steps steps (in_turn h turn) shut
 
 -- a board that has shut down stays so

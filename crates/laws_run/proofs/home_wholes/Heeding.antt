@@ -15,7 +15,7 @@ use Rattle.board_sim.proofs.RigShut.{passes_left}
 use Rattle.board_world.specs.declared.event.Event.{Event}
 use Rattle.board_world.specs.declared.event.Event.TheVariants.{Arrive, Control, Garble, Lose, LoseReply, Pass, Put, Repeat, Reply, Resend, Send}
 use Rattle.board_world.specs.Stands.{IsOrdered}
-use Rattle.board_world.specs.World.{Core, Step, Do, Turn, after, happens, run, start, takes_in}
+use Rattle.board_world.specs.World.{Core, Step, Do, Turn, world_after, after_event, run_world, new_world, takes_in}
 use Rattle.board_world.proofs.Runs.{all_orders, ordered, start_ordered}
 use Rattle.section_units.specs.Sections.{BoardSection}
 use Rattle.link_work.specs.Runs.{AreTurns}
@@ -25,7 +25,7 @@ use Rattle.link_work.proofs.Turns.{turns_are_steps}
 use Rattle.laws_board.specs.sections.Boards.{OnBoard}
 use Rattle.laws_board.specs.sections.Courses.{AllHeed, Course, FindsFree, HeedsAt, courses, no_course}
 use Rattle.laws_board.specs.sections.Homes.{IsBegunFor}
-use Rattle.laws_board.specs.sections.Known.{Sent, orders_in, sent_in}
+use Rattle.laws_board.specs.sections.Known.{Sent, orders_sent, sent_in}
 use Rattle.laws_board.specs.sections.Links.{steps_of, steps_of_turn}
 use Rattle.laws_board.proofs.sections.Linking.{turns_are}
 use Rattle.laws_board.proofs.sections.Lists.{cuts, orders_append, sent_front}
@@ -41,13 +41,13 @@ use Rattle.laws_run.proofs.home_wholes.Still.{time_passes}
 -- A running board that took some of the first of these commands: no trigger of it can trigger, and steppers whose part
 -- was begun in a turn or later aren't halted.
 abbrev pub IsFreeAt : ℕ → List Sent → Core → Type 0
-IsFreeAt low front h = h.board.controller.state ≡ Running → (done to_come : List Sent) → done ++ to_come ≡ front → orders_in done ≡ h.taken → StandsFree low done to_come h.board
+IsFreeAt low front h = h.board.controller.state ≡ Running → (done to_come : List Sent) → done ++ to_come ≡ front → orders_sent done ≡ h.taken → StandsFree low done to_come h.board
 
 -- commands that it takes
 takes_free : (low : ℕ) (front : List Sent) (h g : Core) (ms : List Meant) → g.taken ≡ h.taken ++ ms → g.board ≡ (takes_all h.board (commands_of ms)).rig → IsFreeAt low front h → IsFreeAt low front g
 takes_free low front h g ms taken board free on done to_come cut took =
     let (first, left, are, same) = sent_front h.taken ms done (sym taken ∙ sym took) in
-    let last : orders_in left ≡ ms = append_cancel_left h.taken (orders_in left) ms (ap (λ x. x ++ orders_in left) (sym same) ∙ sym (orders_append first left) ∙ ap orders_in (sym are) ∙ took ∙ taken) in
+    let last : orders_sent left ≡ ms = append_cancel_left h.taken (orders_sent left) ms (ap (λ x. x ++ orders_sent left) (sym same) ∙ sym (orders_append first left) ∙ ap orders_sent (sym are) ∙ took ∙ taken) in
     let running : (takes_all h.board (commands_of ms)).rig.controller.state ≡ Running = ap (λ (r : Rig). r.controller.state) (sym board) ∙ on in
     let whole : first ++ (left ++ to_come) ≡ front = sym (append_assoc first left to_come) ∙ ap (λ x. x ++ to_come) (sym are) ∙ cut in
     let was = free (ran_before h.board ms running) first (left ++ to_come) whole same in
@@ -66,26 +66,26 @@ ran_through r t on = by r.controller.state refl
     by Running e = e
     by (Shut reason tick first) e = absurd (clash reason tick first (sym on ∙ (passes_left r t (ap is_shut e)).1 ∙ e))
 
-pass_free : (low : ℕ) (front : List Sent) (h : Core) (t : ℕ) → IsFreeAt low front h → IsFreeAt low front (happens h (Pass t))
+pass_free : (low : ℕ) (front : List Sent) (h : Core) (t : ℕ) → IsFreeAt low front h → IsFreeAt low front (after_event h (Pass t))
 pass_free low front h t free on done to_come cut took =
     let (may, off, still) = free (ran_through h.board t on) done to_come cut (took ∙ append-nil h.taken) in
     let y = time_passes h.board t off in
     (may, y.off, λ oid since. y.free oid (still oid since))
 
-event_free : (low : ℕ) (front : List Sent) (h : Core) (e : Event) → IsFreeAt low front h → IsFreeAt low front (happens h e)
+event_free : (low : ℕ) (front : List Sent) (h : Core) (e : Event) → IsFreeAt low front h → IsFreeAt low front (after_event h e)
 event_free low front h (Pass t) free = pass_free low front h t free
-event_free low front h Arrive free = takes_free low front h (happens h Arrive) (takes_in h Arrive) refl refl free
-event_free low front h Repeat free = takes_free low front h (happens h Repeat) (takes_in h Repeat) refl refl free
-event_free low front h (Put c) free = takes_free low front h (happens h (Put c)) [] refl refl free
-event_free low front h (Control c) free = takes_free low front h (happens h (Control c)) [] refl refl free
-event_free low front h Send free = takes_free low front h (happens h Send) [] refl refl free
-event_free low front h Resend free = takes_free low front h (happens h Resend) [] refl refl free
-event_free low front h Lose free = takes_free low front h (happens h Lose) [] refl refl free
-event_free low front h Garble free = takes_free low front h (happens h Garble) [] refl refl free
-event_free low front h Reply free = takes_free low front h (happens h Reply) [] refl refl free
-event_free low front h LoseReply free = takes_free low front h (happens h LoseReply) [] refl refl free
+event_free low front h Arrive free = takes_free low front h (after_event h Arrive) (takes_in h Arrive) refl refl free
+event_free low front h Repeat free = takes_free low front h (after_event h Repeat) (takes_in h Repeat) refl refl free
+event_free low front h (Put c) free = takes_free low front h (after_event h (Put c)) [] refl refl free
+event_free low front h (Control c) free = takes_free low front h (after_event h (Control c)) [] refl refl free
+event_free low front h Send free = takes_free low front h (after_event h Send) [] refl refl free
+event_free low front h Resend free = takes_free low front h (after_event h Resend) [] refl refl free
+event_free low front h Lose free = takes_free low front h (after_event h Lose) [] refl refl free
+event_free low front h Garble free = takes_free low front h (after_event h Garble) [] refl refl free
+event_free low front h Reply free = takes_free low front h (after_event h Reply) [] refl refl free
+event_free low front h LoseReply free = takes_free low front h (after_event h LoseReply) [] refl refl free
 
-step_free : (low : ℕ) (front : List Sent) (h : Core) (s : Step) → IsFreeAt low front h → IsFreeAt low front (after h s)
+step_free : (low : ℕ) (front : List Sent) (h : Core) (s : Step) → IsFreeAt low front h → IsFreeAt low front (world_after h s)
 step_free low front h (Do e) free = event_free low front h e free
 step_free low front h (Turn turn) free = free
 
@@ -98,7 +98,7 @@ step_heeds : (low : ℕ) (front tail : List Sent) (t : Sent) (h : Core) (s : Ste
 step_heeds low front tail t h (Turn turn) begun free = tt
 step_heeds low front tail t h (Do e) begun free = λ first rest is took on.
     let (done, to_come, are, same) = sent_front h.taken first front took in
-    let last : orders_in to_come ≡ first = append_cancel_left h.taken (orders_in to_come) first (ap (λ x. x ++ orders_in to_come) (sym same) ∙ sym (orders_append done to_come) ∙ ap orders_in (sym are) ∙ sym took) in
+    let last : orders_sent to_come ≡ first = append_cancel_left h.taken (orders_sent to_come) first (ap (λ x. x ++ orders_sent to_come) (sym same) ∙ sym (orders_append done to_come) ∙ ap orders_sent (sym are) ∙ sym took) in
     let was = free (ran_before h.board first on) done to_come (sym are) same in
     let Ends : List Meant → Type 0 = λ x. (takes_all h.board (commands_of x)).rig.controller.state ≡ Running → StandsFree low (done ++ to_come) [] (takes_all h.board (commands_of x)).rig in
     let now : Ends first = subst Ends last (take_still low to_come done [] h.board (subst (λ (x : List Sent). StandsFree low done x h.board) (sym (append-nil to_come)) was)) in
@@ -107,18 +107,18 @@ step_heeds low front tail t h (Do e) begun free = λ first rest is took on.
 
 steps_heed : (low : ℕ) (front tail : List Sent) (t : Sent) (steps : List Step) (h : Core) → IsBegunFor low (courses front) t.order.command → IsFreeAt low front h → AllHeed front (t ∷ tail) h steps
 steps_heed low front tail t [] h begun free = tt
-steps_heed low front tail t (s ∷ steps) h begun free = (step_heeds low front tail t h s begun free, steps_heed low front tail t steps (after h s) begun (step_free low front h s free))
+steps_heed low front tail t (s ∷ steps) h begun free = (step_heeds low front tail t h s begun free, steps_heed low front tail t steps (world_after h s) begun (step_free low front h s free))
 
 -- Before that, the board has not taken so much.
-step_took : (h : Core) (s : Step) → length h.taken ≤ length (after h s).taken
+step_took : (h : Core) (s : Step) → length h.taken ≤ length (world_after h s).taken
 step_took h (Do e) = let n = length-append h.taken (takes_in h e) in omega (arith, n)
 step_took h (Turn turn) = omega arith
 
-steps_took : (steps : List Step) (h : Core) → length h.taken ≤ length (run steps h).taken
+steps_took : (steps : List Step) (h : Core) → length h.taken ≤ length (run_world steps h).taken
 steps_took [] h = omega arith
-steps_took (s ∷ steps) h = let one = step_took h s in let rest = steps_took steps (after h s) in omega (arith, one, rest)
+steps_took (s ∷ steps) h = let one = step_took h s in let rest = steps_took steps (world_after h s) in omega (arith, one, rest)
 
-early_one : (front tail : List Sent) (t : Sent) (h : Core) (s : Step) → length (after h s).taken ≤ length (orders_in front) → HeedsAt front (t ∷ tail) h s
+early_one : (front tail : List Sent) (t : Sent) (h : Core) (s : Step) → length (world_after h s).taken ≤ length (orders_sent front) → HeedsAt front (t ∷ tail) h s
 early_one front tail t h (Turn turn) few = tt
 early_one front tail t h (Do e) few = λ first rest is took on.
     let one = length-append h.taken (takes_in h e) in
@@ -128,15 +128,15 @@ early_one front tail t h (Do e) few = λ first rest is took on.
     let five = length-append h.taken first in
     absurd (omega (arith, few, one, two, three, four, five))
 
-early_heed : (front tail : List Sent) (t : Sent) (steps : List Step) (h : Core) → length (run steps h).taken ≤ length (orders_in front) → AllHeed front (t ∷ tail) h steps
+early_heed : (front tail : List Sent) (t : Sent) (steps : List Step) (h : Core) → length (run_world steps h).taken ≤ length (orders_sent front) → AllHeed front (t ∷ tail) h steps
 early_heed front tail t [] h few = tt
 early_heed front tail t (s ∷ steps) h few =
-    let rest = steps_took steps (after h s) in
-    (early_one front tail t h s (omega (arith, few, rest)), early_heed front tail t steps (after h s) few)
+    let rest = steps_took steps (world_after h s) in
+    (early_one front tail t h s (omega (arith, few, rest)), early_heed front tail t steps (world_after h s) few)
 
-heed_both : (front tail : List Sent) (xs ys : List Step) (h : Core) → AllHeed front tail h xs → AllHeed front tail (run xs h) ys → AllHeed front tail h (xs ++ ys)
+heed_both : (front tail : List Sent) (xs ys : List Step) (h : Core) → AllHeed front tail h xs → AllHeed front tail (run_world xs h) ys → AllHeed front tail h (xs ++ ys)
 heed_both front tail [] ys h a b = b
-heed_both front tail (x ∷ xs) ys h a b = (a.0, heed_both front tail xs ys (after h x) a.1 b)
+heed_both front tail (x ∷ xs) ys h a b = (a.0, heed_both front tail xs ys (world_after h x) a.1 b)
 
 -- the turns of a link before one
 record First (clock : BoardClock) (turn : ℕ) (xs ys : List Orders) (l m : LinkState) (t : AreTurns clock turn (xs ++ ys) l m) : Type 0 where
@@ -243,28 +243,28 @@ module _ (place : ℕ) (entries : List Entry) (x : OnBoard) (s : BoardSection) (
   L = first_state x.board x.pins place entries
 
   abbrev H : Core
-  H = start x.board x.pins
+  H = new_world x.board x.pins
 
   -- as the first of these turns begins
-  begins_free : (mid : LinkState) → AreTurns Clock 0 Before L mid → IsFreeAt Low front mid.core × (length mid.core.taken ≤ length (orders_in front))
+  begins_free : (mid : LinkState) → AreTurns Clock 0 Before L mid → IsFreeAt Low front mid.core × (length mid.core.taken ≤ length (orders_sent front))
   begins_free mid turns =
       let p = parts in
       let pre = sent_in 0 Before in
       let steps = turns_are_steps Clock 0 Before L mid turns in
       let o : IsOrdered mid.core = subst IsOrdered (sym steps.1) (ordered steps.0 H (start_ordered x.board x.pins)) in
-      let queue : mid.core.queued ≡ orders_in pre = ap (λ (h : Core). h.queued) steps.1 ∙ all_orders steps.0 H ∙ steps.2 ∙ sym (sent_orders 0 Before) in
+      let queue : mid.core.queued ≡ orders_sent pre = ap (λ (h : Core). h.queued) steps.1 ∙ all_orders steps.0 H ∙ steps.2 ∙ sym (sent_orders 0 Before) in
       let left = drop (length mid.core.link.taken) mid.core.queued in
       let rest : mid.core.taken ++ left ≡ mid.core.queued = ap (λ (y : List Meant). y ++ left) o.first ∙ take-append-drop (length mid.core.link.taken) mid.core.queued in
       let got = sent_front mid.core.taken left pre (rest ∙ queue) in
       let (first, waits, pre_is, same) = got in
-      let last : orders_in waits ≡ left = append_cancel_left mid.core.taken (orders_in waits) left (ap (λ y. y ++ orders_in waits) (sym same) ∙ sym (orders_append first waits) ∙ ap orders_in (sym pre_is) ∙ sym (rest ∙ queue)) in
+      let last : orders_sent waits ≡ left = append_cancel_left mid.core.taken (orders_sent waits) left (ap (λ y. y ++ orders_sent waits) (sym same) ∙ sym (orders_append first waits) ∙ ap orders_sent (sym pre_is) ∙ sym (rest ∙ queue)) in
       let sizes = ap length rest in
       let size = length-append mid.core.taken left in
       let pre_long = ap length queue in
-      let front_long = ap length (ap orders_in p.front_is ∙ orders_append pre p.new) in
-      let both = length-append (orders_in pre) (orders_in p.new) in (
+      let front_long = ap length (ap orders_sent p.front_is ∙ orders_append pre p.new) in
+      let both = length-append (orders_sent pre) (orders_sent p.new) in (
         λ on done to_come whole took.
-            let calm = still.begins mid turns on (orders_in waits) (ap (λ y. mid.core.taken ++ y) last ∙ rest) in
+            let calm = still.begins mid turns on (orders_sent waits) (ap (λ y. mid.core.taken ++ y) last ∙ rest) in
             let mine : done ≡ first = done_same done to_come first (waits ++ p.new) (first ++ (waits ++ p.new)) (whole ∙ p.front_is ∙ ap (λ y. y ++ p.new) pre_is ∙ append_assoc first waits p.new) refl (took ∙ sym same) in
             let come : to_come ≡ waits ++ p.new = append_cancel_left done to_come (waits ++ p.new) (whole ∙ p.front_is ∙ ap (λ y. y ++ p.new) pre_is ∙ append_assoc first waits p.new ∙ ap (λ y. y ++ (waits ++ p.new)) (sym mine)) in
             let held : AllBefore Low (done ++ waits) = subst (λ (y : List Sent). AllBefore Low y) (pre_is ∙ ap (λ y. y ++ waits) (sym mine)) old in
@@ -281,10 +281,10 @@ module _ (place : ℕ) (entries : List Entry) (x : OnBoard) (s : BoardSection) (
       let steps = steps_of Clock 0 Before L y.mid y.turns in
       let ran = (turns_are Clock 0 Before L y.mid y.turns).0 in
       let free = begins_free y.mid y.turns in
-      let Free : Core → Type 0 = λ h. IsFreeAt Low front h × (length h.taken ≤ length (orders_in front)) in
+      let Free : Core → Type 0 = λ h. IsFreeAt Low front h × (length h.taken ≤ length (orders_sent front)) in
       let here = subst Free ran free in
       let Heed : List Step → Type 0 = λ z. AllHeed front (t ∷ tail) H z in
-      subst Heed (sym y.are) (heed_both front (t ∷ tail) steps y.rest H (early_heed front tail t steps H here.1) (steps_heed Low front tail t y.rest (run steps H) begun here.0)))
+      subst Heed (sym y.are) (heed_both front (t ∷ tail) steps y.rest H (early_heed front tail t steps H here.1) (steps_heed Low front tail t y.rest (run_world steps H) begun here.0)))
 
   pub still_heeds : (end : LinkState) (turns : AreTurns Clock 0 x.orders L end) → AllHeed front (t ∷ tail) H (steps_of Clock 0 x.orders L end turns)
   still_heeds = heeds_cut x.orders cut

@@ -33,7 +33,7 @@ use Rattle.laws_board.specs.sections.Homes.{IsHomeBoard, RunSection, lost_at}
 use Rattle.laws_board.specs.sections.Links.{pulses_in}
 use Rattle.laws_board.specs.sections.Stops.{NeverStop}
 use Rattle.laws_board.proofs.orders.Going.{own_on}
-use Rattle.laws_run.specs.lanes.Boards.{IsInWhole, behind}
+use Rattle.laws_run.specs.lanes.Boards.{IsInWhole, turns_behind}
 use Rattle.laws_run.specs.lanes.Turns.{came_before}
 use Rattle.laws_board.specs.plans.Boards.{TookStates, as_told, lines_between, times_of}
 use Rattle.laws_board.specs.plans.Homed.{stops_of}
@@ -109,7 +109,7 @@ module _ (m : Machine) (v : IsValidMachine m) (s : Scene) (ts : List MotionTurn)
   Came_all = came_from [] (first ∷ rest)
 
   abbrev pub Turns_of : (b : ℕ) → b < length m.boards → List BoardTurn
-  Turns_of b h = behind [] (whole b h).made
+  Turns_of b h = turns_behind [] (whole b h).made
 
   abbrev pub Here : (b : ℕ) → b < length m.boards → OnBoard
   Here b h = here_by m v s ts p t first rest end told Made b (whole b h)

@@ -14,7 +14,7 @@ use Rattle.msg_code.specs.declared.talk.State.{State}
 use Rattle.wire_scene.specs.declared.scene.Entry.{Entry}
 use Rattle.wire_scene.specs.declared.scene.Switch.{Switch}
 use Rattle.step_feed.specs.Pacing.{Release}
-use Rattle.board_world.specs.World.{start}
+use Rattle.board_world.specs.World.{new_world}
 use Rattle.section_units.specs.Sections.{BoardSection}
 use Rattle.link_work.specs.Runs.{AreTurns}
 use Rattle.link_work.specs.Stands.{first_state}
@@ -77,8 +77,8 @@ module _ (m : Machine) (v : IsValidMachine m) (switches : List Switch) (pins : L
 
   heeds_by : (front tail : List Sent) → front ++ tail ≡ sent_in 0 (orders_in turns) → split.tail ≡ tail → BeginLeftOf (length (orders_in turns)) (cuts_on m clocks until begun b) (courses front) tail
       → (end : LinkState) (t : AreTurns (clock_of (board_at m b)) 0 (orders_in turns) (first_state (board_at m b) pins b entries) end)
-      → AllHeed front tail (start (board_at m b) pins) (steps_of (clock_of (board_at m b)) 0 (orders_in turns) (first_state (board_at m b) pins b entries) end t)
-  heeds_by front [] are at left end t = none_heed front [] (steps_of (clock_of (board_at m b)) 0 (orders_in turns) (first_state (board_at m b) pins b entries) end t) (start (board_at m b) pins) refl
+      → AllHeed front tail (new_world (board_at m b) pins) (steps_of (clock_of (board_at m b)) 0 (orders_in turns) (first_state (board_at m b) pins b entries) end t)
+  heeds_by front [] are at left end t = none_heed front [] (steps_of (clock_of (board_at m b)) 0 (orders_in turns) (first_state (board_at m b) pins b entries) end t) (new_world (board_at m b) pins) refl
   heeds_by front (s ∷ tail) are at left end t =
       let y = left_at m clocks until b begun (courses front) s.turn s.order.command left in
       let turn = y.at in
@@ -93,5 +93,5 @@ module _ (m : Machine) (v : IsValidMachine m) (switches : List Switch) (pins : L
 
   -- so what its board takes first of the units that come too late finds its stepper free
   pub board_heeds : (end : LinkState) (t : AreTurns (clock_of (board_at m b)) 0 (orders_in turns) (first_state (board_at m b) pins b entries) end)
-      → AllHeed split.front split.tail (start (board_at m b) pins) (steps_of (clock_of (board_at m b)) 0 (orders_in turns) (first_state (board_at m b) pins b entries) end t)
+      → AllHeed split.front split.tail (new_world (board_at m b) pins) (steps_of (clock_of (board_at m b)) 0 (orders_in turns) (first_state (board_at m b) pins b entries) end t)
   board_heeds end t = heeds_by split.front split.tail split.are refl split.begun end t

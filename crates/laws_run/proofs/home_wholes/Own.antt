@@ -47,9 +47,9 @@ use Rattle.session_work.specs.declared.table.ReactorTurn.{ReactorTurn}
 use Rattle.session_run.specs.Boards.{came_from, came_in}
 use Rattle.session_run.specs.Runs.{RunsOver}
 use Rattle.laws_board.proofs.sections.Lists.{cons_same, same_place}
-use Rattle.laws_board.specs.plans.Planned.{Plans, Seen}
+use Rattle.laws_board.specs.plans.Planned.{Plans, PlannerInput}
 use Rattle.laws_board.specs.causes.Short.{HaveShortDictionaries}
-use Rattle.laws_homing.specs.fired_runs.Since.{AllRead, AreBehind, AreRead, BeginsApart, ReadsSwitchTrue}
+use Rattle.laws_homing.specs.fired_runs.Since.{AllRead, AreNotAhead, AreSoInTurns, BeginsApart, ReadsSwitchTrue}
 use Rattle.laws_homing.proofs.fired_runs.Seeing.{answered_read}
 use Rattle.laws_homing.specs.home_plans.Notes.{CameNotes, WasBegun}
 use Rattle.laws_homing.proofs.home_plans.Knowing.{now_was}
@@ -77,7 +77,7 @@ axis_board m (a ∷ axes) (suc i) low all = axis_board m axes i (omega (arith, l
 
 -- what a board tells of its switch in a run is read so
 abbrev pub SoRead : Machine → List Switch → ℕ → List Came → List BoardTurn → Type 0
-SoRead m switches b came turns = BeginsApart m switches came × AllRead (ReadsSwitchTrue m switches b) came turns × AreBehind m switches b came
+SoRead m switches b came turns = BeginsApart m switches came × AllRead (ReadsSwitchTrue m switches b) came turns × AreNotAhead m switches b came
 
 back_same : {X : Type 0} (xs ys us vs : List X) → xs ++ ys ≡ us ++ vs → length ys ≡ length vs → ys ≡ vs
 back_same [] ys [] vs e same = e
@@ -88,7 +88,7 @@ back_same (x ∷ xs) ys (u ∷ us) vs e same = back_same xs ys us vs (cons_same 
 -- what is read so in a run is so up to a turn
 pub read_to : (m : Machine) (switches : List Switch) (pins : List (List Level)) (entries : List Entry) (b : ℕ) (came : List Came) (turns : List BoardTurn) → IsInRun m switches pins entries b came turns → SoRead m switches b came turns
     → (ahead : List Came) (c : Came) (before : List Came) → came ≡ ahead ++ c ∷ before → (later past : List BoardTurn) → turns ≡ later ++ past → length past ≡ length before
-    → AreRead (ReadsSwitchTrue m switches b) (c ∷ before) past × AreBehind m switches b (c ∷ before)
+    → AreSoInTurns (ReadsSwitchTrue m switches b) (c ∷ before) past × AreNotAhead m switches b (c ∷ before)
 read_to m switches pins entries b came turns run so ahead c before are later past made long =
     let size : length came ≡ length ahead + length (c ∷ before) = ap length are ∙ length-append ahead (c ∷ before) in
     let f = split_at m switches pins entries b (length before) came turns run (omega (arith, size)) in
@@ -97,7 +97,7 @@ read_to m switches pins entries b came turns run so ahead c before are later pas
     let count = as_long m switches b f.before f.past (run_before m switches pins entries b f.c f.before f.t f.past f.run).both in
     let at = f.at in
     let turns_same = back_same (f.later ++ f.t ∷ []) f.past later past (append_assoc f.later (f.t ∷ []) f.past ∙ sym f.turns_is ∙ made) (omega (arith, count, at, long)) in
-    let Is : Came → List Came → List BoardTurn → Type 0 = λ d came_by z. AreRead (ReadsSwitchTrue m switches b) (d ∷ came_by) z × AreBehind m switches b (d ∷ came_by) in
+    let Is : Came → List Came → List BoardTurn → Type 0 = λ d came_by z. AreSoInTurns (ReadsSwitchTrue m switches b) (d ∷ came_by) z × AreNotAhead m switches b (d ∷ came_by) in
     subst (λ (z : List BoardTurn). Is c before z) turns_same (subst (λ (z : Came). Is z before f.past) same.0 (subst (λ (z : List Came). Is f.c z f.past) same.1 (here.1, here.2)))
 
 -- what the reactor knows of lines in some turns it knows in those before
@@ -257,13 +257,13 @@ module _ (m : Machine) (v : IsValidMachine m) (s : Scene) (ts : List MotionTurn)
 no_line : (m : Machine) (switches : List Switch) (i : ℕ) (a : AxisDef) (tick : ℕ) → [] ≡ cut_line m switches i a (Some tick) → ⊥
 no_line m switches i a tick e = cc
 
-pub none_ends : (m : Machine) (s : Scene) (seen : Seen) (k : ℕ) (before : List Came) (r : ReactorTurn) (rs : List ReactorTurn) → seen.begun ≡ [] → TellEnds m s.switches seen.begun k (r ∷ rs) → TellsAnswer m s.switches (came_in r) before r.lines → ⊥
+pub none_ends : (m : Machine) (s : Scene) (seen : PlannerInput) (k : ℕ) (before : List Came) (r : ReactorTurn) (rs : List ReactorTurn) → seen.begun ≡ [] → TellEnds m s.switches seen.begun k (r ∷ rs) → TellsAnswer m s.switches (came_in r) before r.lines → ⊥
 none_ends m s seen k before r rs none ends x = elim ends.0 [
   | inl w ↦ (let e = w.ended in in_none e.past e.s e.later seen.begun none e.cut)
   | inr n ↦ no_line m s.switches x.homing.section (axis_at m x.homing.axis) x.tick (sym n.lines_are ∙ x.lines_are)
 ]
 
-none_own : (m : Machine) (s : Scene) (ts : List MotionTurn) (first : ReactorTurn) (rest : List ReactorTurn) (seen : Seen) (k : ℕ) (before : List Came) (rs last : List ReactorTurn) → seen.begun ≡ [] → TellEnds m s.switches seen.begun k (rs ++ last)
+none_own : (m : Machine) (s : Scene) (ts : List MotionTurn) (first : ReactorTurn) (rest : List ReactorTurn) (seen : PlannerInput) (k : ℕ) (before : List Came) (rs last : List ReactorTurn) → seen.begun ≡ [] → TellEnds m s.switches seen.begun k (rs ++ last)
     → TellTriggersBehind m s seen ts first rest before rs
 none_own m s ts first rest seen k before [] last none ends = tt
 none_own m s ts first rest seen k before (r ∷ rs) last none ends = (

@@ -12,7 +12,7 @@ use Rattle.board_sim.specs.Board.{Controller, is_shut, stepper_at}
 use Rattle.board_sim.specs.Fair.{Meant, commands_of, only, pending_at}
 use Rattle.board_sim.specs.Rig.{Rig, takes, takes_all}
 use Rattle.board_sim.proofs.RigShut.{all_left_by}
-use Rattle.laws_board.specs.sections.Known.{AreQueued, Sent, orders_in}
+use Rattle.laws_board.specs.sections.Known.{AreQueued, Sent, orders_sent}
 use Rattle.laws_board.specs.sections.Timely.{AreTimely}
 use Rattle.laws_board.specs.sections.Courses.{Course, IsSince, IsStopped, course_behind, course_from, course_of, courses, no_course, AreGoodOn, AreInTime, IsMadeBy}
 use Rattle.laws_board.proofs.sections.Commanding.{all_stand, finds_on, stands_same}
@@ -82,7 +82,7 @@ pub record Aim (p : Script) : Type 0 where
 -- taken; and none starts a trigger.
 abbrev pub MayCome : ℕ → List Sent → List Sent → Type 0
 MayCome low done to_come =
-    AllStill to_come ⊎ ((old : List Sent) × (new : List Sent) × (to_come ≡ old ++ new) × EachTame (commands_of (orders_in old)) × AllBefore low (done ++ old) × AllStill new)
+    AllStill to_come ⊎ ((old : List Sent) × (new : List Sent) × (to_come ≡ old ++ new) × EachTame (commands_of (orders_sent old)) × AllBefore low (done ++ old) × AllStill new)
 
 -- a board that took some commands, behind which others are still to come, while no trigger of it can trigger
 abbrev pub StandsFree : ℕ → List Sent → List Sent → Rig → Type 0
@@ -159,7 +159,7 @@ one_still low done to_come s r runs on (may, off, free) = elim may [
       λ oid since. next_free low oid s.turn (courses done oid) r s.order.command s.order.ticks runs fine.0 off on (free oid) (subst (λ (x : Course). IsSince low x.since) (one_course done s oid) since),
     )
 
-    old : (old new : List Sent) → s ∷ to_come ≡ old ++ new → EachTame (commands_of (orders_in old)) → AllBefore low (done ++ old) → AllStill new → StandsFree low (done ++ s ∷ []) to_come (takes r s.order.command).rig
+    old : (old new : List Sent) → s ∷ to_come ≡ old ++ new → EachTame (commands_of (orders_sent old)) → AllBefore low (done ++ old) → AllStill new → StandsFree low (done ++ s ∷ []) to_come (takes r s.order.command).rig
     old [] new e tame before fine = still (subst AllStill (sym e) fine)
     old (y ∷ ys) new e tame before fine =
         let first : s ≡ y = cons_same s y to_come (ys ++ new) e in
@@ -209,26 +209,26 @@ ran_before r ms on = by r.controller.state refl
     by (Shut reason t first) e = absurd (shut_on r ms reason t first e on)
 
 -- the next commands are taken
-pub take_still : (low : ℕ) (ss done to_come : List Sent) (r : Rig) → StandsFree low done (ss ++ to_come) r → (takes_all r (commands_of (orders_in ss))).rig.controller.state ≡ Running
-    → StandsFree low (done ++ ss) to_come (takes_all r (commands_of (orders_in ss))).rig
+pub take_still : (low : ℕ) (ss done to_come : List Sent) (r : Rig) → StandsFree low done (ss ++ to_come) r → (takes_all r (commands_of (orders_sent ss))).rig.controller.state ≡ Running
+    → StandsFree low (done ++ ss) to_come (takes_all r (commands_of (orders_sent ss))).rig
 take_still low [] done to_come r free on = subst (λ (x : List Sent). StandsFree low x to_come r) (sym (append-nil done)) free
 take_still low (s ∷ ss) done to_come r free on =
     let after = (takes r s.order.command).rig in
-    let one = one_still low done (ss ++ to_come) s r (ran_before r (orders_in (s ∷ ss)) on) (ran_before after (orders_in ss) on) free in
-    subst (λ (x : List Sent). StandsFree low x to_come (takes_all after (commands_of (orders_in ss))).rig) (append_assoc done (s ∷ []) ss) (take_still low ss (done ++ s ∷ []) to_come after one on)
+    let one = one_still low done (ss ++ to_come) s r (ran_before r (orders_sent (s ∷ ss)) on) (ran_before after (orders_sent ss) on) free in
+    subst (λ (x : List Sent). StandsFree low x to_come (takes_all after (commands_of (orders_sent ss))).rig) (append_assoc done (s ∷ []) ss) (take_still low ss (done ++ s ∷ []) to_come after one on)
 
 -- the first commands of those that are left are taken
 pub take_ahead : (p : Script) (a : Aim p) (by turn : ℕ) (first done others : List Sent) (r : Rig) (made : List Pulse) → done ++ (first ++ others) ≡ p.all → ((j k : ℕ) → j ≤ k → p.own j ≤ p.own k) → by ≤ turn
     → BoardStands p.own p.stops p.slots by turn (courses done) r.controller → ((oid : ℕ) → IsMadeBy p.own p.stops oid (stepper_at r.controller oid) (courses done oid) (only oid made))
-    → AreQueued by first → ((oid : ℕ) → AreGoodOn p.own p.stops p.slots oid (courses done oid) first) → AreTimely (p.own turn) (orders_in first) → AreInTime p.stops by first
-    → TakesFind p by (courses done) r (orders_in first) → (takes_all r (commands_of (orders_in first))).rig.controller.state ≡ Running → Phase p a done r made → Phase p a (done ++ first) (takes_all r (commands_of (orders_in first))).rig made
+    → AreQueued by first → ((oid : ℕ) → AreGoodOn p.own p.stops p.slots oid (courses done oid) first) → AreTimely (p.own turn) (orders_sent first) → AreInTime p.stops by first
+    → TakesFind p by (courses done) r (orders_sent first) → (takes_all r (commands_of (orders_sent first))).rig.controller.state ≡ Running → Phase p a done r made → Phase p a (done ++ first) (takes_all r (commands_of (orders_sent first))).rig made
 take_ahead p a by turn [] done others r made all up le stands is old good timely time finds on ph =
     subst (λ (x : List Sent). Phase p a x r made) (sym (append-nil done)) ph
 take_ahead p a by turn (s ∷ ss) done others r made all up le stands is old good timely time finds on ph =
     let c = s.order.command in
     let after = (takes r c).rig in
     let one = all_stand p.own up p.stops p.slots by turn (s ∷ []) (courses done) r stands le (old.0, tt) (λ oid. ((good oid).0, tt)) (timely.0, tt) (time.0, tt) (λ oid st. ((finds oid st).0, λ none. tt)) in
-    let end = (takes_all after (commands_of (orders_in ss))).rig in
+    let end = (takes_all after (commands_of (orders_sent ss))).rig in
     let e : (oid : ℕ) → courses (done ++ s ∷ []) oid ≡ course_behind oid (courses done oid) s = one_course done s in
     let cut : (done ++ s ∷ []) ++ (ss ++ others) ≡ p.all = append_assoc done (s ∷ []) (ss ++ others) ∙ all in
     elim one.1 [
@@ -237,9 +237,9 @@ take_ahead p a by turn (s ∷ ss) done others r made all up le stands is old goo
           let now = one_ahead p a by turn done (ss ++ others) s r made all up (omega (arith, old.0, le)) stands is g.0.running ph in
           let rest = take_ahead p a by turn ss (done ++ s ∷ []) others after made cut up le stand (λ oid. rw (e oid) (g.1 oid (only oid made) (is oid))) old.1
           (λ oid. rw (e oid) (good oid).1) timely.1 time.1
-          (λ oid st. finds_on p.stops by s (courses done) r (orders_in ss) time.0 finds oid (subst (λ (x : Course). IsStopped p.stops by x.since) (e oid) st)) on now in
+          (λ oid st. finds_on p.stops by s (courses done) r (orders_sent ss) time.0 finds oid (subst (λ (x : Course). IsStopped p.stops by x.since) (e oid) st)) on now in
           subst (λ (x : List Sent). Phase p a x end made) (append_assoc done (s ∷ []) ss) rest
       | inr g ↦
           let (reason, t, first, state, may) = g.0 in
-          absurd (shut_on after (orders_in ss) reason t first state on)
+          absurd (shut_on after (orders_sent ss) reason t first state on)
     ]

@@ -19,7 +19,7 @@ use Rattle.board_sim.proofs.Enough.{none_at}
 use Rattle.board_world.specs.declared.event.Event.{Event}
 use Rattle.board_world.specs.declared.event.Event.TheVariants as event
 use Rattle.board_world.specs.Stands.{IsOrdered}
-use Rattle.board_world.specs.World.{Core, Step, Do, Turn, does, happens, in_turn, orders_of, queued_by as step_queues, run, start, takes_in}
+use Rattle.board_world.specs.World.{Core, Step, Do, Turn, does, after_event, in_turn, orders_of, queued_by as step_queues, run_world, new_world, takes_in}
 use Rattle.board_world.proofs.Runs.{ordered_by, ordered_turn, start_ordered}
 use Rattle.link_work.specs.Runs.{queued_in}
 use Rattle.link_work.specs.Stands.{first_state, orders}
@@ -39,7 +39,7 @@ use Rattle.laws_homing.specs.home_runs.Guards.{AreCalm}
 use Rattle.laws_homing.specs.clear_groups.Resting.{EachTame}
 use Rattle.laws_homing.specs.fired_runs.Since.{IsReadSo}
 use Rattle.laws_homing.proofs.clear_groups.Off.{running_off}
-use Rattle.laws_homing.specs.home_runs.Sections.{HomesFrom, IsAnswered, IsOf, TakesSetUp, queued_by}
+use Rattle.laws_homing.specs.home_runs.Sections.{HomesFrom, GroupAnswers, IsOf, TakesSetUp, queued_in_turns}
 use Rattle.laws_homing.specs.home_runs.Settled.{AreHomed, IsHomed, SetNoClockFrom}
 use Rattle.laws_homing.specs.home_runs.Told.{IsMember}
 use Rattle.laws_homing.specs.home_runs.Windows.{BringCalm}
@@ -78,7 +78,7 @@ mean_parts [] ys a = (tt, a)
 mean_parts (x ∷ xs) ys a = let p = mean_parts xs ys a.1 in ((a.0, p.0), p.1)
 
 -- what is taken in an event, and what is left
-takes_still : (h : Core) (e : Event) → MeanTame (orders_of e) → (q : IsCalmQueue h) → MeanTame (takes_in h e) × IsCalmQueue (happens h e)
+takes_still : (h : Core) (e : Event) → MeanTame (orders_of e) → (q : IsCalmQueue h) → MeanTame (takes_in h e) × IsCalmQueue (after_event h e)
 takes_still h e brings q =
     let o = ordered_by h e q.ordered in
     let l = left_by h e q.left o q.rest in
@@ -105,12 +105,12 @@ does_off h event.LoseReply a off = off
 abbrev Rests : Core → Core → Type 0
 Rests h g = IsCalmQueue g × (AllFired h.board → AllFired g.board)
 
-steps_rest : (steps : List Step) (h : Core) → MeanTame (flat_map step_queues steps) → IsCalmQueue h → Rests h (run steps h)
+steps_rest : (steps : List Step) (h : Core) → MeanTame (flat_map step_queues steps) → IsCalmQueue h → Rests h (run_world steps h)
 steps_rest [] h brings q = (q, λ off. off)
 steps_rest (Do e ∷ steps) h brings q =
     let both = mean_parts (orders_of e) (flat_map step_queues steps) brings in
     let one = takes_still h e both.0 q in
-    let rest = steps_rest steps (happens h e) both.1 one.1 in
+    let rest = steps_rest steps (after_event h e) both.1 one.1 in
     (rest.0, λ off. rest.1 (does_off h e one.0 off))
 steps_rest (Turn turn ∷ steps) h brings q =
     let next : IsCalmQueue (in_turn h turn) = record { ordered = ordered_turn h turn q.ordered; left = q.left; rest = q.rest; still = q.still } in
@@ -138,7 +138,7 @@ turns_rest clock first (t ∷ later) past are still q =
     (now.0, λ off. now.1 (old.1 off))
 
 -- a board to which nothing was told
-start_rests : (b : BoardDef) (pins : List (List Level)) → IsCalmQueue (start b pins) × AllFired (start b pins).board
+start_rests : (b : BoardDef) (pins : List (List Level)) → IsCalmQueue (new_world b pins) × AllFired (new_world b pins).board
 start_rests b pins = (
   record { ordered = start_ordered b pins; left = []; rest = refl; still = tt },
   λ oid s is. let none : None ≡ Some s = sym (none_at 256 oid) ∙ is in absurd (cc),
@@ -147,18 +147,18 @@ start_rests b pins = (
 -- what was queued behind some turns
 record Behind (j : ℕ) (late past : List BoardTurn) : Type 0 where
   queue : List Meant
-  are : queued_by (late ++ past) ≡ queued_by past ++ queue
+  are : queued_in_turns (late ++ past) ≡ queued_in_turns past ++ queue
   calm : BringCalm 0 j late → AreCalm 0 j queue
   still : TurnsStill late → MeanTame queue
 
 late_queue : (j : ℕ) (late past : List BoardTurn) → Behind j late past
-late_queue j [] past = record { queue = []; are = sym (append-nil (queued_by past)); calm = λ b. tt; still = λ s. tt }
+late_queue j [] past = record { queue = []; are = sym (append-nil (queued_in_turns past)); calm = λ b. tt; still = λ s. tt }
 late_queue j (t ∷ late) past =
     let rest = late_queue j late past in
     let new = queued_in (orders t.control t.batch) in
     record {
       queue = rest.queue ++ new;
-      are = ap (λ (l : List Meant). l ++ new) rest.are ∙ append_assoc (queued_by past) rest.queue new;
+      are = ap (λ (l : List Meant). l ++ new) rest.are ∙ append_assoc (queued_in_turns past) rest.queue new;
       calm = λ b. calm_both 0 j rest.queue new (rest.calm b.1) b.0;
       still = λ s. mean_both rest.queue new (rest.still s.1) (queued_tame (orders t.control t.batch) s.0);
     }
@@ -178,9 +178,9 @@ Ended m pins entries b turns =
     h.board.controller.state ≡ Running → IsCalmQueue h × AllFired h.board
 
 homed_rests : (m : Machine) (switches : List Switch) (pins : List (List Level)) (entries : List Entry) (b : ℕ) (c : Came) (before : List Came) (window late past : List BoardTurn) (h : Homing) (from : ℕ) (more : List Meant) → IsValidMachine m
-    → IsInRun m switches pins entries b before (window ++ (late ++ past)) → (a : IsAnswered m switches c before h) → state_at b c.states ≡ latest_state (window ++ (late ++ past)) → a.from ≡ from
+    → IsInRun m switches pins entries b before (window ++ (late ++ past)) → (a : GroupAnswers m switches c before h) → state_at b c.states ≡ latest_state (window ++ (late ++ past)) → a.from ≡ from
     → SetNoClockFrom from (window ++ (late ++ past)) → IsMember b (members_of h.group) → h.start ≤ length past + 249 → length (late ++ past) + 1 ≤ h.start
-    → queued_by past ++ more ≡ (stands_after (first_state (board_at m b) pins b entries) (late ++ past)).core.taken → (stands_after (first_state (board_at m b) pins b entries) (late ++ past)).core.link.up ≡ []
+    → queued_in_turns past ++ more ≡ (stands_after (first_state (board_at m b) pins b entries) (late ++ past)).core.taken → (stands_after (first_state (board_at m b) pins b entries) (late ++ past)).core.link.up ≡ []
     → TurnsStill (window ++ late) → Ended m pins entries b (window ++ (late ++ past))
 homed_rests m switches pins entries b c before window late past h from more v r a at same none member soon heard took quiet still runs =
     let j = trigger_of m b in
@@ -201,8 +201,8 @@ homed_rests m switches pins entries b c before window late past h from more v r 
     let rest : core.taken ++ left ≡ core.queued = ap (λ (x : List Meant). x ++ left) o.first ∙ take-append-drop (length core.link.taken) core.queued in
     let parts = late_queue j late past in
     let both : more ++ left ≡ parts.queue =
-    append_cancel_left (queued_by past) (more ++ left) parts.queue
-    (sym (append_assoc (queued_by past) more left) ∙ ap (λ (x : List Meant). x ++ left) took ∙ rest ∙ all_queued d pins b entries mid old.run.turns_are ∙ parts.are) in
+    append_cancel_left (queued_in_turns past) (more ++ left) parts.queue
+    (sym (append_assoc (queued_in_turns past) more left) ∙ ap (λ (x : List Meant). x ++ left) took ∙ rest ∙ all_queued d pins b entries mid old.run.turns_are ∙ parts.are) in
     let calm_late = run_calm m switches pins entries b old.came late past 0 j from h.start ms old.run old.homes old.none (omega (arith, begins, soon)) (omega (arith, soon)) in
     let calm = (calm_parts 0 j more left (subst (λ (x : List Meant). AreCalm 0 j x) (sym both) (parts.calm calm_late))).1 in
     let left_still = (mean_parts more left (subst MeanTame (sym both) (parts.still (still_behind window late still)))).1 in

@@ -13,17 +13,17 @@ use Rattle.msg_code.specs.declared.cmd.Cmd.TheVariants as cmd
 use Rattle.board_sim.specs.Board.{stepper_at}
 use Rattle.board_sim.specs.Fair.{Meant, commands_of, only}
 use Rattle.board_world.specs.Orders.{plain, unit_orders, unit_ticks, units_orders}
-use Rattle.board_world.specs.World.{Core, Step, run, start}
+use Rattle.board_world.specs.World.{Core, Step, run_world, new_world}
 use Rattle.step_feed.specs.Units.{StepUnit}
 use Rattle.section_units.specs.Sections.{AreBefore, base_of, section_steps}
 use Rattle.link_work.specs.Runs.{queued_in}
 use Rattle.link_work.specs.Turn.{Orders}
 use Rattle.link_work.proofs.Sending.{run_append}
-use Rattle.laws_board.specs.sections.Courses.{AreMadeFor, Course, IsMadeBy, IsSince, courses, course_from, no_course, parts_of}
+use Rattle.laws_board.specs.sections.Courses.{AreMadeFor, Course, IsMadeBy, IsSince, courses, course_from, no_course, course_parts}
 use Rattle.laws_board.specs.sections.Homes.{AreBeforeFirst, AreInTurn, AreOrdersIn, AreReleasedIn, IsHomeRun, IsHomeSpan, IsMovesIn, IsSectionBy, RunSection}
 use Rattle.laws_board.specs.sections.Ends.{MayBe}
 use Rattle.laws_board.specs.sections.Stops.{NeverStop}
-use Rattle.laws_board.specs.sections.Known.{Sent, orders_in, sent_at, sent_in}
+use Rattle.laws_board.specs.sections.Known.{Sent, orders_sent, sent_at, sent_in}
 use Rattle.laws_board.proofs.sections.Coursed.{begins, turns_keep}
 use Rattle.laws_board.proofs.sections.Entering.{AreEarly}
 use Rattle.laws_board.proofs.sections.Clocks.{ticks_rise}
@@ -113,7 +113,7 @@ before_in turn to (o ∷ os) l = before_both to (sent_at turn (queued_in o)) (se
 clash : (r t f : ℕ) → Running ≡ Shut r t f → ⊥
 clash r t f e = cc
 
-orders_long : (ss : List Sent) → length (orders_in ss) ≡ length ss
+orders_long : (ss : List Sent) → length (orders_sent ss) ≡ length ss
 orders_long [] = refl
 orders_long (x ∷ ss) = ap (λ n. suc n) (orders_long ss)
 
@@ -136,10 +136,10 @@ module _ (b : BoardDef) (pins : List (List Level)) (own : ℕ → ℕ) (clocks :
   Stop = length before + length during
 
   abbrev pub At_mid : Core
-  At_mid = run first (start b pins)
+  At_mid = run_world first (new_world b pins)
 
   abbrev pub At_end : Core
-  At_end = run (first ++ second) (start b pins)
+  At_end = run_world (first ++ second) (new_world b pins)
 
   pub span_is : sent_in 0 before ++ (sent_in (length before) during ++ sent_in Stop behind) ≡ S.all
   span_is =
@@ -150,8 +150,8 @@ module _ (b : BoardDef) (pins : List (List Level)) (own : ℕ → ℕ) (clocks :
   pub mid_keeps : Keeps S (length before) (length before) (sent_in 0 before) At_mid
   mid_keeps =
       let zero_more : 0 + length before ≡ length before = omega arith in
-      let k = turns_keep S 0 [] (sent_in (length before) during ++ sent_in Stop behind) before first (start b pins) r.first_turns (begins S b pins r.begin refl) span_is (timely_front first second (start b pins) r.timely) r.first_settled
-      (heed_front S.front S.tail first second (start b pins) r.heed) in
+      let k = turns_keep S 0 [] (sent_in (length before) during ++ sent_in Stop behind) before first (new_world b pins) r.first_turns (begins S b pins r.begin refl) span_is (timely_front first second (new_world b pins) r.timely) r.first_settled
+      (heed_front S.front S.tail first second (new_world b pins) r.heed) in
       subst (λ n. Keeps S n n (sent_in 0 before) At_mid) zero_more k.1
 
   abbrev pub Sent_by : List Sent
@@ -162,9 +162,9 @@ module _ (b : BoardDef) (pins : List (List Level)) (own : ℕ → ℕ) (clocks :
 
   pub last_keeps : Keeps S Stop Stop Sent_by At_end
   last_keeps =
-      let k = turns_keep S (length before) (sent_in 0 before) (sent_in Stop behind) during second At_mid r.second_turns mid_keeps last_all (timely_behind first second (start b pins) r.timely) r.second_settled
-      (heed_behind S.front S.tail first second (start b pins) r.heed) in
-      subst (λ (h : Core). Keeps S Stop Stop Sent_by h) (sym (run_append first second (start b pins))) k.1
+      let k = turns_keep S (length before) (sent_in 0 before) (sent_in Stop behind) during second At_mid r.second_turns mid_keeps last_all (timely_behind first second (new_world b pins) r.timely) r.second_settled
+      (heed_behind S.front S.tail first second (new_world b pins) r.heed) in
+      subst (λ (h : Core). Keeps S Stop Stop Sent_by h) (sym (run_append first second (new_world b pins))) k.1
 
   -- why it may have shut down
   pub reason_last : MayBe At_end.board.controller.state
@@ -181,7 +181,7 @@ module _ (b : BoardDef) (pins : List (List Level)) (own : ℕ → ℕ) (clocks :
   never_last tick first_tick never shut =
       let zero_more : 0 + length before ≡ length before = omega arith in
       let all : Sent_by ≡ sent_in 0 (before ++ during) = ap (λ n. sent_in 0 before ++ sent_in n during) (sym zero_more) ∙ sym (sent_in_append 0 before during) in
-      let queue : At_end.queued ≡ flat_map queued_in (before ++ during) = sym last_keeps.queued ∙ ap orders_in all ∙ sent_orders 0 (before ++ during) in
+      let queue : At_end.queued ≡ flat_map queued_in (before ++ during) = sym last_keeps.queued ∙ ap orders_sent all ∙ sent_orders 0 (before ++ during) in
       never_shut b pins (before ++ during) (first ++ second) tick first_tick last_keeps.ordered queue never shut
 
   -- the first triple that comes too late, where it is queued before the last turn: a board that runs then has not taken all
@@ -226,7 +226,7 @@ module _ (b : BoardDef) (pins : List (List Level)) (own : ℕ → ℕ) (clocks :
 -- The turns of a run: those before the units of a section may be released, those in which they are, others up to a turn, and those behind it.
 module _ (b : BoardDef) (pins : List (List Level)) (own : ℕ → ℕ) (clocks : Clocks) (ready : ℕ) (stops : ℕ → Option ℕ) (past : List RunSection) (s : RunSection) (later : List RunSection) (before mine others behind : List Orders) (first second : List Step)
     (r : IsHomeSpan b pins own clocks ready stops (past ++ s ∷ later) before (mine ++ others) behind first second) (moves : s.homes ≡ false) (low : length before + 250 ≡ s.section.start) (over : length before + length mine ≡ s.section.end + 5)
-    (out : AreReleasedIn past) (released : AreBefore (s.section.end + 5) s.section.releases) (still : IsStillAt (run first (start b pins))) (brings : BringStill mine) where
+    (out : AreReleasedIn past) (released : AreBefore (s.section.end + 5) s.section.releases) (still : IsStillAt (run_world first (new_world b pins))) (brings : BringStill mine) where
   abbrev P : Script
   P = S b pins own clocks ready stops (past ++ s ∷ later) before (mine ++ others) behind first second r
 
@@ -334,8 +334,8 @@ module _ (b : BoardDef) (pins : List (List Level)) (own : ℕ → ℕ) (clocks :
             let rest = sent_in a (mine ++ others) ++ sent_in End behind in
             let before_all : g.done ++ (g.left ++ rest) ≡ P.all = sym (append_assoc g.done g.left rest) ∙ ap (λ x. x ++ rest) (sym g.sent_is) ∙ whole_is in
             let same : done ≡ g.done = done_same done left g.done (g.left ++ rest) P.all cut before_all (taken ∙ sym g.taken) in
-            let queue : Mid.taken ++ orders_in g.left ≡ Mid.queued = ap (λ x. x ++ orders_in g.left) (sym g.taken) ∙ sym (orders_append g.done g.left) ∙ ap orders_in (sym g.sent_is) ∙ mid_is.queued in
-            let off = still running (orders_in g.left) queue in
+            let queue : Mid.taken ++ orders_sent g.left ≡ Mid.queued = ap (λ x. x ++ orders_sent g.left) (sym g.taken) ∙ sym (orders_append g.done g.left) ∙ ap orders_sent (sym g.sent_is) ∙ mid_is.queued in
+            let off = still running (orders_sent g.left) queue in
             let to_come = g.left ++ sent_in a mine in
             let upto : done ++ to_come ≡ Upto = ap (λ x. x ++ to_come) same ∙ sym (append_assoc g.done g.left (sent_in a mine)) ∙ ap (λ x. x ++ sent_in a mine) (sym g.sent_is) in
             let old : AllBefore a (g.done ++ g.left) = subst (λ (x : List Sent). AllBefore a x) g.sent_is (before_in 0 a before (omega arith)) in
@@ -349,8 +349,8 @@ module _ (b : BoardDef) (pins : List (List Level)) (own : ℕ → ℕ) (clocks :
 
   last_stage : Stage P aim Last
   last_stage =
-      let g = turns_stage P aim (length before) (sent_in 0 before) (sent_in End behind) (mine ++ others) second Mid r.second_turns mid_is end_is (timely_behind first second (start b pins) r.timely) r.second_settled (heed_behind P.front P.tail first second (start b pins) r.heed) mid_stage in
-      subst (λ (h : Core). Stage P aim h) (sym (run_append first second (start b pins))) g
+      let g = turns_stage P aim (length before) (sent_in 0 before) (sent_in End behind) (mine ++ others) second Mid r.second_turns mid_is end_is (timely_behind first second (new_world b pins) r.timely) r.second_settled (heed_behind P.front P.tail first second (new_world b pins) r.heed) mid_stage in
+      subst (λ (h : Core). Stage P aim h) (sym (run_append first second (new_world b pins))) g
 
   -- At the end the steps are all made, or some command of these turns was not taken; then all pulses are before the section's end.
   abbrev pub AllEarly : Type 0
@@ -373,7 +373,7 @@ module _ (b : BoardDef) (pins : List (List Level)) (own : ℕ → ℕ) (clocks :
       let long = length-append before mine in
       let front = run_front own clocks b.freq b.slots ready stops past s later xs ys (subst Run cut_all r.run_is) (omega (arith, long, over)) in
       let sent : Upto ≡ sent_in 0 xs = ap (λ n. sent_in 0 before ++ sent_in n mine) (sym zero_more) ∙ sym (sent_in_append 0 before mine) in
-      let Made : List Sent → Type 0 = λ x. AreMadeFor own stops (parts_of (courses x oid)) (only oid Last.made) in
+      let Made : List Sent → Type 0 = λ x. AreMadeFor own stops (course_parts (courses x oid)) (only oid Last.made) in
       let f = run_fronts own clocks b.freq b.slots ready stops (past ++ s ∷ []) xs r.ticks front (released_with past s out (λ _. released)) oid (only oid Last.made) (subst Made sent made) in
       fronts_early own oid (s.section.end + 5) (past ++ s ∷ []) (only oid Last.made) r.ticks (over_front ready (s.section.end + 5) past s later r.run_is.row (omega arith)) f
 

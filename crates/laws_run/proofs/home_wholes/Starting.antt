@@ -26,7 +26,7 @@ use Rattle.trigger_group.specs.declared.round.Round.{Round}
 use Rattle.trigger_group.specs.declared.round.Round.TheVariants.{Homes, Relays, Resets, Starts, Timeouts}
 use Rattle.trigger_group.specs.declared.seen.Fired.{Fired}
 use Rattle.trigger_group.specs.declared.seen.Seen.{Seen}
-use Rattle.trigger_group.specs.Group.{GroupState, all_fired, first_timeout, goes, limit, orders, orders_in, orders_to, phase, relay_in, relays_in, reset, round_of, steppers, stop, to_board, unless_fired}
+use Rattle.trigger_group.specs.Group.{GroupState, all_fired, first_timeout, goes, limit, orders, orders_of_group, orders_to, phase, relay_in, relays_in, reset, round_of, steppers, stop, to_board, unless_fired}
 use Rattle.axis_homing.specs.declared.homing.Homing.{Homing}
 use Rattle.axis_homing.specs.Homing.{answer_in, by_answer, command_to, commands_to, hears_all, homing_turn, order_command}
 use Rattle.axis_homing.specs.Rising.{members_of}
@@ -35,13 +35,13 @@ use Rattle.board_asking.specs.declared.asking.Stage.{Stage}
 use Rattle.board_asking.specs.declared.asking.Stage.TheVariants.{Config, Configure, Connected, Identify, Uptime}
 use Rattle.board_asking.specs.declared.setup.Setup.{Setup}
 use Rattle.board_asking.specs.declared.setup.Setup.TheVariants.{Endstop, Finish, Oids, Stepper, Trsync}
-use Rattle.board_asking.specs.Asking.{asks, is_due, question, ready}
+use Rattle.board_asking.specs.Asking.{asks, is_question_due, question, ready}
 use Rattle.board_asking.specs.Drift.{asks_now, clock_question, drifts, waits_in}
 use Rattle.board_asking.specs.Machine.{configuration, control_bytes, fitting, setup_command}
 use Rattle.host_reactor.specs.declared.ordered.Known.{Known}
 use Rattle.host_reactor.specs.Notes.{noted}
 use Rattle.host_reactor.specs.Reactor.{Reacted, homing_commands, stop_command, stops}
-use Rattle.host_reactor.specs.Runs.{Came, known_by, last_turn}
+use Rattle.host_reactor.specs.Runs.{Came, known_by, last_reacted}
 use Rattle.laws_board.specs.turns.Turns.{BoardTurn}
 use Rattle.laws_board.specs.clocks.Runs.{IsInRun}
 use Rattle.laws_board.proofs.clocks.Controls.{states_start}
@@ -72,11 +72,11 @@ setups_still [] = tt
 setups_still (s ∷ ss) = (setup_still s, setups_still ss)
 
 asks_still : (turn : ℕ) (setups : List Setup) (a : Asking) (stage : Stage) → EachStill (asks setups turn a stage)
-asks_still turn setups a (Identify offset) = each_if (is_due turn a.since) (question (Identify offset)) (tt, tt)
-asks_still turn setups a Uptime = each_if (is_due turn a.since) (question Uptime) (tt, tt)
+asks_still turn setups a (Identify offset) = each_if (is_question_due turn a.since) (question (Identify offset)) (tt, tt)
+asks_still turn setups a Uptime = each_if (is_question_due turn a.since) (question Uptime) (tt, tt)
 asks_still turn setups a (Configure n) = setups_still (fitting control_bytes (drop n setups))
-asks_still turn setups a Config = each_if (is_due turn a.since) (question Config) (tt, tt)
-asks_still turn setups a Connected = each_if (is_due turn a.since) (question Connected) tt
+asks_still turn setups a Config = each_if (is_question_due turn a.since) (question Config) (tt, tt)
+asks_still turn setups a Connected = each_if (is_question_due turn a.since) (question Connected) tt
 
 stop_still : (s : Bool) → EachStill (stop_command s)
 stop_still true = (tt, tt)
@@ -152,7 +152,7 @@ goes_still b g turn =
     (ctls_if b (nat_lt g.sent (limit g)) (round_of (Timeouts (limit g)) g.members) (round_still b (Timeouts (limit g)) g.members (λ i. tt)))
     (ctls_if b (relays_in (relay_in g turn) turn) (round_of Relays g.members) (round_still b Relays g.members (λ i. tt)))
 
-in_still : (b : ℕ) (p : Phase) (g : GroupState) (turn : ℕ) → (IsMember b (members_of g) → PhaseStill p) → CtlsStill b (orders_in p g turn)
+in_still : (b : ℕ) (p : Phase) (g : GroupState) (turn : ℕ) → (IsMember b (members_of g) → PhaseStill p) → CtlsStill b (orders_of_group p g turn)
 in_still b (Sends round) g turn f = round_still b round g.members f
 in_still b Goes g turn f = ctls_unless b (all_fired g.members) (goes g turn) (goes_still b g turn)
 in_still b Rests g turn f = tt
@@ -255,4 +255,4 @@ pub control_either : (m : Machine) (switches : List Switch) (pins : List (List L
     → IsInRun m switches pins entries b (c ∷ before) (t ∷ turns) → EachStill t.control.commands ⊎ IsSettingUp b (length before) (noted m c.note (known_by m switches before)).homing
 control_either m switches pins entries b c before t turns r =
     let x = turn_of m switches pins entries b c before t turns r in
-    turn_either m b c (noted m c.note (known_by m switches before)) (length before) x.a (last_turn m switches c before) t x.turned
+    turn_either m b c (noted m c.note (known_by m switches before)) (length before) x.a (last_reacted m switches c before) t x.turned

@@ -14,7 +14,7 @@ use Rattle.msg_code.specs.declared.cmd.Cmd.TheVariants as cmd
 use Rattle.board_sim.specs.Board.{Controller, stepper_at, slot_to, passes_on, with_stepper, refusal, takes_triple, first_of, queue_step, set_dir, reset, make_stepper, is_none_pending, stop}
 use Rattle.board_sim.specs.Board as board
 use Rattle.board_sim.specs.Halted.{is_halted}
-use Rattle.board_sim.specs.Rig.{Passed, Rig, Slot, slot_at, levels_of, becomes, make_trigger, make_endstop, expires_at_once, set_timeout, trigger, home, acts, acts_running, takes, earliest, runs_to, rests_to, happens_to, happens, goes_on, at_of, passes_by, pass, passes, all_left}
+use Rattle.board_sim.specs.Rig.{Passed, Rig, Slot, slot_at, levels_of, becomes, make_trigger, make_endstop, expires_at_once, set_timeout, trigger, home, acts, acts_running, takes, earliest_moment, runs_to, rests_to, happens_to, happens_at, goes_on, at_of, passes_by, pass, passes, all_left}
 use Rattle.board_sim.proofs.Keeps.{slots_at}
 use Rattle.laws_homing.specs.clear_groups.Resting.{IsTame}
 use Rattle.laws_homing.proofs.clear_boards.Slots.{set_either}
@@ -207,7 +207,7 @@ happens_free r until oid None at off i f = f
 happens_free r until oid (Some s) at off i f =
     subst (λ (b : Controller). IsFree i b) (sym (becomes_same r oid s (trig.advanced (levels_of r s.pin) until s.trigger).trigger (off oid s at))) f
 
-goes_free : (o : Option (ℕ × ℕ)) (r : Rig) (t : ℕ) (rest : Passed) → AllFired r → (let q = (happens r t (at_of o)).rig in AllFired q → Frees q rest.rig) → Frees r (goes_on o (rests_to r t) (passes_by (happens r t (at_of o)) rest)).rig
+goes_free : (o : Option (ℕ × ℕ)) (r : Rig) (t : ℕ) (rest : Passed) → AllFired r → (let q = (happens_at r t (at_of o)).rig in AllFired q → Frees q rest.rig) → Frees r (goes_on o (rests_to r t) (passes_by (happens_at r t (at_of o)) rest)).rig
 goes_free None r t rest off more i f = time_free r.controller t i f
 goes_free (Some at) r t rest off more i f =
     let ran = (runs_to r (at.0 / 3)).rig in
@@ -216,8 +216,8 @@ goes_free (Some at) r t rest off more i f =
 steps_free : (n : ℕ) (r : Rig) (t : ℕ) → AllFired r → Frees r (pass n r t).rig
 steps_free zero r t off i f = f
 steps_free (suc n) r t off i f =
-    let o = earliest r t 0 r.triggers in
-    let next = (happens r t (at_of o)).rig in
+    let o = earliest_moment r t 0 r.triggers in
+    let next = (happens_at r t (at_of o)).rig in
     goes_free o r t (pass n next t) off (λ off_next. steps_free n next t off_next) i f
 
 pub time_passes : (r : Rig) (t : ℕ) → AllFired r → Outlasts r (passes r t).rig

@@ -7,10 +7,10 @@ use Rattle.msg_code.specs.declared.unit.Batch.{Batch}
 use Rattle.msg_code.specs.declared.unit.Control.{Control}
 use Rattle.msg_code.specs.declared.talk.State.{State}
 use Rattle.wire_scene.specs.declared.scene.Switch.{Switch}
-use Rattle.link_work.specs.Stands.{Seen, StandsFor, orders}
+use Rattle.link_work.specs.Stands.{SeenLink, StandsFor, orders}
 use Rattle.link_work.specs.Told.{IsTold}
 use Rattle.link_work.specs.Turn.{IsTurn, LinkState}
-use Rattle.host_reactor.specs.Runs.{Came, known_by, last_turn, state_at}
+use Rattle.host_reactor.specs.Runs.{Came, known_by, last_reacted, state_at}
 use Rattle.laws_board.specs.turns.Turns.{AreBoardTurns, BoardTurn, IsBoardOf, control_at, latest_state, stands_after}
 use Rattle.laws_board.specs.sections.Links.{AreTold}
 use Rattle.session_work.specs.declared.table.LinkTurn.{LinkTurn}
@@ -20,7 +20,7 @@ use Rattle.session_work.specs.Heads.{IsRow}
 use Rattle.session_work.specs.Links.{LinkStep}
 use Rattle.session_work.specs.Rows.{gather, item}
 use Rattle.session_work.specs.Turns.{Goes}
-use Rattle.laws_run.specs.lanes.Boards.{behind, orders_of, states_of}
+use Rattle.laws_run.specs.lanes.Boards.{turns_behind, orders_of, states_of}
 use Rattle.laws_board.specs.plans.Boards.{TookStates}
 use Rattle.laws_run.specs.lanes.Turns.{AllGoOn, GoesOnIn, IsLastTurn, ShowsLink, came_before}
 use Rattle.session_run.specs.Boards.{came_in}
@@ -29,11 +29,11 @@ use Rattle.laws_run.proofs.lanes.Items.{item_control, item_some, item_state, non
 -- what a board made from a turn on, up to the last one that the reactor took
 pub record Walked (m : Machine) (switches : List Switch) (b : ℕ) (clock : BoardClock) (begin : LinkState) (before : List Came) (turns : List BoardTurn) (r : ReactorTurn) (more : List ReactorTurn) (us : List LinkTurn) : Type 0 where
   pub made : List BoardTurn
-  pub both : IsBoardOf m switches b (came_before before (r ∷ more)) (behind turns made)
-  pub are : AreBoardTurns clock begin (behind turns made)
-  pub in_range : board_tick clock (length (behind turns made)) < tick_limit
-  pub few : length (behind turns made) ≤ 2 ^ 59
-  pub told : AreTold clock (length turns) (orders_of made) (states_of made) (stands_after begin turns) (stands_after begin (behind turns made))
+  pub both : IsBoardOf m switches b (came_before before (r ∷ more)) (turns_behind turns made)
+  pub are : AreBoardTurns clock begin (turns_behind turns made)
+  pub in_range : board_tick clock (length (turns_behind turns made)) < tick_limit
+  pub few : length (turns_behind turns made) ≤ 2 ^ 59
+  pub told : AreTold clock (length turns) (orders_of made) (states_of made) (stands_after begin turns) (stands_after begin (turns_behind turns made))
   pub states : TookStates b more (states_of made)
   pub left : List Batch
   pub batches : map (λ o. o.batch) (orders_of made) ++ left ≡ gather (λ u. u.batch ∷ []) us
@@ -55,7 +55,7 @@ no_state s ss e = cc
 out_not : (s : State) (k : ℕ) → s ≡ bare_state k true → s.out ≡ false → ⊥
 out_not s k e f = let g : s.out ≡ true = ap (λ (x : State). x.out) e in let h : true ≡ false = sym g ∙ f in cc
 
-module _ {L : Type 0} (steps : L → ℕ → Control → Batch → State → L → Type 0) (view : L → Seen) (shows : ShowsLink steps view) (m : Machine) (switches : List Switch) (b : ℕ) (clock : BoardClock) (begin : LinkState) (board : b < length m.boards) where
+module _ {L : Type 0} (steps : L → ℕ → Control → Batch → State → L → Type 0) (view : L → SeenLink) (shows : ShowsLink steps view) (m : Machine) (switches : List Switch) (b : ℕ) (clock : BoardClock) (begin : LinkState) (board : b < length m.boards) where
   -- one turn of the board, and how its link stands behind it
   record Went (turns : List BoardTurn) (k : ℕ) (u : LinkTurn) (y : L) : Type 0 where
     pub turn : BoardTurn
@@ -116,7 +116,7 @@ module _ {L : Type 0} (steps : L → ℕ → Control → Batch → State → L �
         | inl on_time ↦
             let next : goes.0 ≡ (goes.0.0, false) = (λ i. (goes.0.0, on_time.1 i)) in
             let w = went turns k x u goes.0.0 number are st same on_time.3 in
-            let ordered : control_at b (last_turn m switches (came_in r) before).ordered.controls ≡ w.turn.control ∷ [] =
+            let ordered : control_at b (last_reacted m switches (came_in r) before).ordered.controls ≡ w.turn.control ∷ [] =
             ap (control_at b) (sym on.controls_are) ∙ item_control b r.controls ∙ control ∙ ap (λ (z : Control). z ∷ []) (taken.0 ∙ sym w.control_is) in
             let told_now : state_at b r.states ≡ latest_state turns = item_state b r.states ∙ pending in
             record {
@@ -148,7 +148,7 @@ module _ {L : Type 0} (steps : L → ℕ → Control → Batch → State → L �
         are = rest.are;
         in_range = rest.in_range;
         few = rest.few;
-        told = (t.after, l.went.are.0.0, l.went.are.0.1, subst (λ (n : ℕ). AreTold clock n (orders_of rest.made) (states_of rest.made) t.after (stands_after begin (behind (t ∷ turns) rest.made))) (sym turn_number) rest.told);
+        told = (t.after, l.went.are.0.0, l.went.are.0.1, subst (λ (n : ℕ). AreTold clock n (orders_of rest.made) (states_of rest.made) t.after (stands_after begin (turns_behind (t ∷ turns) rest.made))) (sym turn_number) rest.told);
         states = (now, rest.states);
         left = rest.left;
         batches = ap (λ (z : Batch). z ∷ (map (λ o. o.batch) (orders_of rest.made) ++ rest.left)) l.went.batch_is ∙ ap (λ (z : List Batch). l.u.batch ∷ z) rest.batches

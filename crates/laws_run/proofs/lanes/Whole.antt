@@ -4,7 +4,7 @@ use Rattle.std.proofs.lemmas.List.{length-map}
 use Rattle.plan_types.specs.declared.clock.BoardClock.{BoardClock}
 use Rattle.plan_types.specs.declared.machine.Machine.{Machine}
 use Rattle.wire_scene.specs.declared.scene.Switch.{Switch}
-use Rattle.link_work.specs.Stands.{Seen, StandsFor, orders}
+use Rattle.link_work.specs.Stands.{SeenLink, StandsFor, orders}
 use Rattle.link_work.specs.Turn.{LinkState, Orders}
 use Rattle.msg_code.specs.declared.talk.State.{State}
 use Rattle.host_reactor.specs.Runs.{Came, GoesOn, HaveStates, known_by}
@@ -24,7 +24,7 @@ use Rattle.session_work.specs.Rows.{gather, item}
 use Rattle.session_lanes.specs.Runs.{AreLogs, Carried, IsLog}
 use Rattle.session_work.specs.Turns.{Goes}
 use Rattle.session_work.proofs.Goes.{gather_on}
-use Rattle.laws_run.specs.lanes.Boards.{IsInWhole, behind, orders_of, states_of}
+use Rattle.laws_run.specs.lanes.Boards.{IsInWhole, turns_behind, orders_of, states_of}
 use Rattle.laws_board.specs.plans.Boards.{TookStates}
 use Rattle.laws_run.specs.lanes.Turns.{AllGoOn, AllHaveControls, IsLastTurn, ShowsLink, came_before}
 use Rattle.session_run.specs.Boards.{came_in}
@@ -56,7 +56,7 @@ first_none n r (inl row) = row.1
 first_none n r (inr row) = let e = row.0 in absurd (omega arith)
 
 -- the orders of turns behind others
-orders_behind : (turns made : List BoardTurn) → orders_in (behind turns made) ≡ orders_in turns ++ orders_of made
+orders_behind : (turns made : List BoardTurn) → orders_in (turns_behind turns made) ≡ orders_in turns ++ orders_of made
 orders_behind turns [] = sym (append-nil (orders_in turns))
 orders_behind turns (t ∷ made) = orders_behind (t ∷ turns) made ∙ append_assoc (orders_in turns) (orders t.control t.batch ∷ []) (orders_of made)
 
@@ -98,7 +98,7 @@ last_turn_is m switches before r [] last all = record {
 last_turn_is m switches before r (x ∷ rs) last all = last_turn_is m switches (came_in r ∷ before) x rs last all.1
 
 module _ {M L A O : Type 0} (mo : Motion M) (l : Link L) (a : Reactor A) (o : Out O) where
-  from_log : (view : L → Seen) → ShowsLink l.turns view → (m : Machine) (switches : List Switch) (b : ℕ) (clock : BoardClock) (begin : LinkState) (ts : List MotionTurn) (first : ReactorTurn) (rest : List ReactorTurn) (end : ReactorTurn) (n : ℕ) (s : L) (x : LinkLog)
+  from_log : (view : L → SeenLink) → ShowsLink l.turns view → (m : Machine) (switches : List Switch) (b : ℕ) (clock : BoardClock) (begin : LinkState) (ts : List MotionTurn) (first : ReactorTurn) (rest : List ReactorTurn) (end : ReactorTurn) (n : ℕ) (s : L) (x : LinkLog)
       → b < length m.boards → AllGoOn m switches [] (first ∷ rest) → IsLastTurn m end → IsLog mo l a o ts (first ∷ rest) end n b s x → StandsFor (view s) begin → (view s).clock ≡ clock → IsInWhole m switches b clock begin ts first (rest ++ end ∷ [])
   from_log view shows m switches b clock begin ts first rest end n s x board all ending log stands same =
       let us = log.0 in
@@ -130,7 +130,7 @@ module _ {M L A O : Type 0} (mo : Motion M) (l : Link L) (a : Reactor A) (o : Ou
       }
 
   -- So it is up to a turn before the last one that goes on, of the planner's turns that the board had by then.
-  from_front : (view : L → Seen) → ShowsLink l.turns view → (m : Machine) (switches : List Switch) (b : ℕ) (clock : BoardClock) (begin : LinkState) (ts front later : List MotionTurn) (first : ReactorTurn) (rest : List ReactorTurn) (last end : ReactorTurn) (n : ℕ) (s : L) (x : LinkLog)
+  from_front : (view : L → SeenLink) → ShowsLink l.turns view → (m : Machine) (switches : List Switch) (b : ℕ) (clock : BoardClock) (begin : LinkState) (ts front later : List MotionTurn) (first : ReactorTurn) (rest : List ReactorTurn) (last end : ReactorTurn) (n : ℕ) (s : L) (x : LinkLog)
       → b < length m.boards → AllGoOn m switches [] (first ∷ (rest ++ last ∷ [])) → IsLog mo l a o ts (first ∷ (rest ++ last ∷ [])) end n b s x → StandsFor (view s) begin → (view s).clock ≡ clock
       → ts ≡ front ++ later → length (rest ++ last ∷ []) ≤ length (gather (λ t. item b t.batches) front) → IsInWhole m switches b clock begin front first (rest ++ last ∷ [])
   from_front view shows m switches b clock begin ts front later first rest last end n s x board all log stands same cut long =
@@ -192,14 +192,14 @@ module _ {M L A O : Type 0} (mo : Motion M) (l : Link L) (a : Reactor A) (o : Ou
       first_is y s e = cc
   log_at ts rs end n j (suc b) i (y ∷ ss) (x ∷ xs) s logs e at = log_at ts rs end n (j + 1) b i ss xs s logs.1 (omega arith) at
 
-  pub in_whole : (view : L → Seen) → ShowsLink l.turns view → (m : Machine) (switches : List Switch) (b : ℕ) (clock : BoardClock) (begin : LinkState) (ts : List MotionTurn) (first : ReactorTurn) (rest : List ReactorTurn) (end : ReactorTurn) (n : ℕ) (links : List L) (logs : List LinkLog) (s : L)
+  pub in_whole : (view : L → SeenLink) → ShowsLink l.turns view → (m : Machine) (switches : List Switch) (b : ℕ) (clock : BoardClock) (begin : LinkState) (ts : List MotionTurn) (first : ReactorTurn) (rest : List ReactorTurn) (end : ReactorTurn) (n : ℕ) (links : List L) (logs : List LinkLog) (s : L)
       → b < length m.boards → AllGoOn m switches [] (first ∷ rest) → IsLastTurn m end → AreLogs mo l a o ts (first ∷ rest) end n 0 links logs → item b links ≡ s ∷ [] → StandsFor (view s) begin → (view s).clock ≡ clock
       → IsInWhole m switches b clock begin ts first (rest ++ end ∷ [])
   in_whole view shows m switches b clock begin ts first rest end n links logs s board all ending are at stands same =
       let log = log_at ts (first ∷ rest) end n 0 b b links logs s are (omega arith) at in
       from_log view shows m switches b clock begin ts first rest end n s log.0 board all ending log.1 stands same
 
-  pub in_front : (view : L → Seen) → ShowsLink l.turns view → (m : Machine) (switches : List Switch) (b : ℕ) (clock : BoardClock) (begin : LinkState) (ts front later : List MotionTurn) (first : ReactorTurn) (rest : List ReactorTurn) (last end : ReactorTurn) (n : ℕ) (links : List L)
+  pub in_front : (view : L → SeenLink) → ShowsLink l.turns view → (m : Machine) (switches : List Switch) (b : ℕ) (clock : BoardClock) (begin : LinkState) (ts front later : List MotionTurn) (first : ReactorTurn) (rest : List ReactorTurn) (last end : ReactorTurn) (n : ℕ) (links : List L)
       (logs : List LinkLog) (s : L) → b < length m.boards → AllGoOn m switches [] (first ∷ (rest ++ last ∷ [])) → AreLogs mo l a o ts (first ∷ (rest ++ last ∷ [])) end n 0 links logs → item b links ≡ s ∷ [] → StandsFor (view s) begin → (view s).clock ≡ clock
       → ts ≡ front ++ later → length (rest ++ last ∷ []) ≤ length (gather (λ t. item b t.batches) front) → IsInWhole m switches b clock begin front first (rest ++ last ∷ [])
   in_front view shows m switches b clock begin ts front later first rest last end n links logs s board all are at stands same cut long =

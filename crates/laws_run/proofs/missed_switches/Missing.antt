@@ -48,7 +48,7 @@ use Rattle.laws_board.specs.plans.Planned.{Plans}
 use Rattle.laws_board.specs.turns.Turns.{BoardTurn, latest_state, stands_after}
 use Rattle.laws_board.proofs.clocks.Lines.{noted_phase}
 use Rattle.laws_board.proofs.sections.Boarding.{runs_on}
-use Rattle.laws_homing.specs.fired_runs.Since.{AreBehind, BeginsApart}
+use Rattle.laws_homing.specs.fired_runs.Since.{AreNotAhead, BeginsApart}
 use Rattle.laws_homing.specs.home_parts.Answers.{ArePastConnecting}
 use Rattle.laws_homing.specs.home_parts.Known.{KnowsLately, StartInRange}
 use Rattle.laws_homing.specs.home_plans.Notes.{CameNotes, WasBegun}
@@ -147,7 +147,7 @@ module _ (m : Machine) (v : IsValidMachine m) (s : Scene) (ts : List MotionTurn)
         let size = long in
         starts_behind m v b (length rest) Ready t.first t.clocks p.seen.begun low (lines m v s ts p t first rest end c told f short b low) (row m v s ts p t first rest end c told f short) r.early past x later cut (omega (arith, near, size))
 
-    behind_all : AreBehind m s.switches b (came_in end ∷ Heard)
+    behind_all : AreNotAhead m s.switches b (came_in end ∷ Heard)
     behind_all =
         let r = turn m v s ts p t first rest end c told f short in
         let early = r.early in

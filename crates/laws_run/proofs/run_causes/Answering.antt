@@ -40,7 +40,7 @@ use Rattle.session_run.specs.declared.tell.Kept.{Kept}
 use Rattle.session_run.specs.Boards.{AreReactorTurns, came_from, came_in}
 use Rattle.session_run.specs.Runs.{RunsOver}
 use Rattle.laws_board.specs.sections.Parts.{AreOrdersOf}
-use Rattle.laws_run.specs.lanes.Boards.{IsInWhole, behind, orders_of, states_of}
+use Rattle.laws_run.specs.lanes.Boards.{IsInWhole, turns_behind, orders_of, states_of}
 use Rattle.laws_run.proofs.lanes.Items.{item_state}
 use Rattle.laws_board.specs.plans.Given.{TookControls}
 use Rattle.laws_board.specs.plans.Lines.{TookNotes}
@@ -123,9 +123,9 @@ module _ (m : Machine) (v : IsValidMachine m) (s : Scene) (ts : List MotionTurn)
     pub w : IsInWhole m s.switches b (clock_of (board_at m b)) (link_of m s b) ts first (rest ++ end ∷ [])
     w = f.boards b first rest low refl
 
-    run : IsInRun m s.switches (pins_of (board_at m b) b s.switches) s.entries b (came_from [] (first ∷ rest)) (behind [] w.made)
+    run : IsInRun m s.switches (pins_of (board_at m b) b s.switches) s.entries b (came_from [] (first ∷ rest)) (turns_behind [] w.made)
     run =
-        let Run : List Came → Type 0 = λ x. IsInRun m s.switches (pins_of (board_at m b) b s.switches) s.entries b x (behind [] w.made) in
+        let Run : List Came → Type 0 = λ x. IsInRun m s.switches (pins_of (board_at m b) b s.switches) s.entries b x (turns_behind [] w.made) in
         subst Run (came_cut [] first rest end) (record { board = low; goes_on = w.goes_on; turns_are = w.turns_are; both = w.both; in_range = w.in_range })
 
     -- the last state of the board
@@ -136,13 +136,13 @@ module _ (m : Machine) (v : IsValidMachine m) (s : Scene) (ts : List MotionTurn)
     count =
         length-map w.made (λ (x : BoardTurn). orders x.control x.batch) ∙ sym (length-map w.made (λ (x : BoardTurn). x.state)) ∙ took_long b (rest ++ end ∷ []) (states_of w.made) w.states
 
-    heard : state_at b end.states ≡ latest_state (behind [] w.made)
+    heard : state_at b end.states ≡ latest_state (turns_behind [] w.made)
     heard = item_state b end.states ∙ last.at ∙ sym (latest_behind [] w.made last.front last.last last.are)
 
     few_came : length (came_from [] (first ∷ rest)) < 2 ^ 59
     few_came =
-        let same = as_long m s.switches b (came_from [] (first ∷ rest)) (behind [] w.made) run.both in
-        let few = few_turns (board_at m b) (length (behind [] w.made)) (valid_at m.boards b low v.boards) w.in_range in
+        let same = as_long m s.switches b (came_from [] (first ∷ rest)) (turns_behind [] w.made) run.both in
+        let few = few_turns (board_at m b) (length (turns_behind [] w.made)) (valid_at m.boards b low v.boards) w.in_range in
         omega (arith, same, few)
 
   have : (b : ℕ) → b < length m.boards → HaveStates m (came_in end ∷ All_came)
@@ -163,21 +163,21 @@ module _ (m : Machine) (v : IsValidMachine m) (s : Scene) (ts : List MotionTurn)
         low,
         x,
         λ fits. (
-            let why = stale_cause m s.switches (pins_of (board_at m board) board s.switches) s.entries board (came_in end) All_came (behind [] x.made) turn v (run board low) (heard board low) fits (few_came board low) (first_is high) (ended ∙ ap Some e) in
+            let why = stale_cause m s.switches (pins_of (board_at m board) board s.switches) s.entries board (came_in end) All_came (turns_behind [] x.made) turn v (run board low) (heard board low) fits (few_came board low) (first_is high) (ended ∙ ap Some e) in
             let asked = why.1 in
-            (why.0, asked.0, asked.1, asked.2, asked.3, asked.4, asked.5, all_around board low fits turn why.0 asked.0 (row_low turn (length (behind [] x.made)) asked.0 asked.2) asked.5)),
+            (why.0, asked.0, asked.1, asked.2, asked.3, asked.4, asked.5, all_around board low fits turn why.0 asked.0 (row_low turn (length (turns_behind [] x.made)) asked.0 asked.2) asked.5)),
       )
     where
-      all_around : (b : ℕ) (low : b < length m.boards) → UnitsFit (behind [] (w b low).made) → (turn : ℕ) → 1_000 ≤ turn → (ks : List ℕ) → All (λ k. (turn ≤ k) × (k + 4 ≤ length (behind [] (w b low).made))) ks
-          → AreAskedAndHindered (link_of m s b) (behind [] (w b low).made) ks → All (λ k. IsDisturbedAround (link_of m s b) (behind [] (w b low).made) k) ks
-      all_around b low fits turn late [] within h = All-nil (λ k. IsDisturbedAround (link_of m s b) (behind [] (w b low).made) k)
+      all_around : (b : ℕ) (low : b < length m.boards) → UnitsFit (turns_behind [] (w b low).made) → (turn : ℕ) → 1_000 ≤ turn → (ks : List ℕ) → All (λ k. (turn ≤ k) × (k + 4 ≤ length (turns_behind [] (w b low).made))) ks
+          → AreAskedAndHindered (link_of m s b) (turns_behind [] (w b low).made) ks → All (λ k. IsDisturbedAround (link_of m s b) (turns_behind [] (w b low).made) k) ks
+      all_around b low fits turn late [] within h = All-nil (λ k. IsDisturbedAround (link_of m s b) (turns_behind [] (w b low).made) k)
       all_around b low fits turn late (k ∷ ks) within h =
-          let Within : ℕ → Type 0 = λ i. (turn ≤ i) × (i + 4 ≤ length (behind [] (w b low).made)) in
+          let Within : ℕ → Type 0 = λ i. (turn ≤ i) × (i + 4 ≤ length (turns_behind [] (w b low).made)) in
           let here = All-head Within k ks within in
           let from = here.0 in
           let until = here.1 in
-          All-cons (λ i. IsDisturbedAround (link_of m s b) (behind [] (w b low).made) i) k ks
-          (around m s.switches (pins_of (board_at m b) b s.switches) s.entries b All_came (behind [] (w b low).made) k v (run b low) fits (omega (arith, from, late)) (omega (arith, until)) h.0.1)
+          All-cons (λ i. IsDisturbedAround (link_of m s b) (turns_behind [] (w b low).made) i) k ks
+          (around m s.switches (pins_of (board_at m b) b s.switches) s.entries b All_came (turns_behind [] (w b low).made) k v (run b low) fits (omega (arith, from, late)) (omega (arith, until)) h.0.1)
           (all_around b low fits turn late ks (All-tail Within k ks within) h.1)
 
   -- a board that gave no answer
@@ -198,7 +198,7 @@ module _ (m : Machine) (v : IsValidMachine m) (s : Scene) (ts : List MotionTurn)
     none_sent : (b : ℕ) (low : b < length m.boards) → p.seen.told ≡ None → NoUnits (orders_of (w b low).made)
     none_sent b low e =
         let Took : List Orders → Type 0 = λ x. TookControls x in
-        let controls = subst Took (w b low).in_order (controlled m v s.switches (pins_of (board_at m b) b s.switches) s.entries b (came_from [] (first ∷ rest)) (behind [] (w b low).made) (run b low) (none_moves e)) in
+        let controls = subst Took (w b low).in_order (controlled m v s.switches (pins_of (board_at m b) b s.switches) s.entries b (came_from [] (first ∷ rest)) (turns_behind [] (w b low).made) (run b low) (none_moves e)) in
         let t : Told = record { clocks = []; first = 0 } in
         let Of : List Started → Type 0 = λ x. AreOrdersOf (parts_on m t.clocks x b) 0 (orders_of (w b low).made) in
         let size = count b low in
@@ -227,8 +227,8 @@ module _ (m : Machine) (v : IsValidMachine m) (s : Scene) (ts : List MotionTurn)
         let low = eight.0 in
         let x = w board low in
         let No : List Orders → Type 0 = λ z. NoUnits z in
-        let none = no_steps (behind [] x.made) (subst No (sym x.in_order) (none_sent board low (connecting_untold phase))) in
-        let why = connect_cause m s.switches (pins_of (board_at m board) board s.switches) s.entries board (came_in end) All_came (behind [] x.made) turn v (run board low) all (heard board low) none (few_came board low) (first_is high) (ended ∙ ap Some e) in
+        let none = no_steps (turns_behind [] x.made) (subst No (sym x.in_order) (none_sent board low (connecting_untold phase))) in
+        let why = connect_cause m s.switches (pins_of (board_at m board) board s.switches) s.entries board (came_in end) All_came (turns_behind [] x.made) turn v (run board low) all (heard board low) none (few_came board low) (first_is high) (ended ∙ ap Some e) in
         (low, x, why.0, why.1, why.2, why.3)
 
     pub given_none : (board turn : ℕ) → c ≡ cause.Connect board turn → GaveNoAnswer m s board turn ts (first ∷ rest) end

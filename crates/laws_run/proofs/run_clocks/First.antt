@@ -34,7 +34,7 @@ use Rattle.session_work.specs.declared.table.ReactorTurn.{ReactorTurn}
 use Rattle.session_run.specs.declared.tell.Kept.{Kept}
 use Rattle.session_run.specs.Boards.{came_from, came_in}
 use Rattle.session_run.specs.Runs.{RunsOver}
-use Rattle.laws_run.specs.lanes.Boards.{IsInWhole, behind}
+use Rattle.laws_run.specs.lanes.Boards.{IsInWhole, turns_behind}
 use Rattle.laws_board.specs.plans.Planned.{Plans}
 use Rattle.laws_run.specs.run_headline.Made.{IsMade}
 use Rattle.laws_run.specs.run_headline.Timely.{link_of}
@@ -74,10 +74,10 @@ module _ (m : Machine) (v : IsValidMachine m) (s : Scene) (ts : List MotionTurn)
     before : IsInRun m s.switches (pins_of (board_at m b) b s.switches) s.entries b (came_from [] r.past) turns
     is : before_turn (length r.past) all ≡ turns
 
-  at : (b : ℕ) (w : IsInWhole m s.switches b (clock_of (board_at m b)) (link_of m s b) ts first (rest ++ end ∷ [])) → b < length m.boards → At b (behind [] w.made)
+  at : (b : ℕ) (w : IsInWhole m s.switches b (clock_of (board_at m b)) (link_of m s b) ts first (rest ++ end ∷ [])) → b < length m.boards → At b (turns_behind [] w.made)
   at b w h =
       let pins = pins_of (board_at m b) b s.switches in
-      let turns = behind [] w.made in
+      let turns = turns_behind [] w.made in
       let past = came_from [] r.past in
       let Run : List Came → Type 0 = λ c. IsInRun m s.switches pins s.entries b c turns in
       let f = front_of m v s.switches pins s.entries b (came_in r.turn ∷ past) r.later turns (subst Run r.came_is (run_of m v s ts p t first rest end told b w h)) in
@@ -89,13 +89,13 @@ module _ (m : Machine) (v : IsValidMachine m) (s : Scene) (ts : List MotionTurn)
       record { turn = l.0; turns = l.1; run = l.3; before = l.4; is = ap (λ n. before_turn n turns) count ∙ ap (before_turn (length l.1)) cut ∙ before_cut f.later l.0 l.1 }
 
   bare : (b : ℕ) (w : IsInWhole m s.switches b (clock_of (board_at m b)) (link_of m s b) ts first (rest ++ end ∷ [])) → b < length m.boards → entries_of b Down true s.entries ≡ [] → entries_of b Up true s.entries ≡ []
-      → IsUndisturbed (stands_after (link_of m s b) (before_turn (length r.past) (behind [] w.made)))
+      → IsUndisturbed (stands_after (link_of m s b) (before_turn (length r.past) (turns_behind [] w.made)))
   bare b w h d u =
       let x = at b w h in
       let Still : List BoardTurn → Type 0 = λ z. IsUndisturbed (stands_after (link_of m s b) z) in
       subst Still (sym x.is) (none_disturbs m s.switches (pins_of (board_at m b) b s.switches) s.entries b (came_from [] r.past) x.turns x.before r.is.phase d u)
 
-  taken : (b : ℕ) (w : IsInWhole m s.switches b (clock_of (board_at m b)) (link_of m s b) ts first (rest ++ end ∷ [])) → b < length m.boards → IsUndisturbed (stands_after (link_of m s b) (before_turn (length r.past) (behind [] w.made)))
+  taken : (b : ℕ) (w : IsInWhole m s.switches b (clock_of (board_at m b)) (link_of m s b) ts first (rest ++ end ∷ [])) → b < length m.boards → IsUndisturbed (stands_after (link_of m s b) (before_turn (length r.past) (turns_behind [] w.made)))
       → IsTakenAtOnce (clock_of (board_at m b)) (clocks_at t.clocks b).first
   taken b w h still =
       let x = at b w h in

@@ -17,8 +17,8 @@ use Rattle.link_work.specs.Switches.{pins_of}
 use Rattle.host_reactor.specs.declared.ordered.Phase.TheVariants.{Connecting, Running}
 use Rattle.host_reactor.specs.Notes.{noted}
 use Rattle.host_reactor.specs.Reactor.{Run}
-use Rattle.host_reactor.specs.Rows.{IsWhole}
-use Rattle.host_reactor.specs.Runs.{Came, known_by, last_turn}
+use Rattle.host_reactor.specs.Rows.{HasEachBoard}
+use Rattle.host_reactor.specs.Runs.{Came, known_by, last_reacted}
 use Rattle.host_reactor.proofs.Rowing.{rowed, whole-first}
 use Rattle.laws_board.specs.clocks.Runs.{IsInRun}
 use Rattle.laws_board.specs.clocks.Samples.{first_line}
@@ -30,7 +30,7 @@ use Rattle.session_work.specs.Rows.{gather}
 use Rattle.session_run.specs.declared.tell.Kept.{Kept}
 use Rattle.session_run.specs.Boards.{AreReactorTurns, came_from, came_in}
 use Rattle.session_run.specs.Runs.{RunsOver}
-use Rattle.laws_run.specs.lanes.Boards.{behind}
+use Rattle.laws_run.specs.lanes.Boards.{turns_behind}
 use Rattle.laws_run.proofs.lanes.Whole.{gather_both}
 use Rattle.laws_run.specs.run_ends.Boards.{boards_of, lines_at}
 use Rattle.laws_run.proofs.run_ends.Connecting.{Connects, after_boards, as_clocks, boards_append, both_none, end_none, tells_boards}
@@ -54,7 +54,7 @@ record Told (m : Machine) (switches : List Switch) (before : List Came) (turns :
   later : List ReactorTurn
   are : turns ≡ past ++ turn ∷ later
   quiet : boards_of (Lines past) ≡ []
-  tells : Connects (noted m turn.note (known_by m switches (came_from before past))) (length (came_from before past)) (last_turn m switches (came_in turn) (came_from before past))
+  tells : Connects (noted m turn.note (known_by m switches (came_from before past))) (length (came_from before past)) (last_reacted m switches (came_in turn) (came_from before past))
 
 find : (m : Machine) (switches : List Switch) (before : List Came) (ts : List ReactorTurn) → AreReactorTurns m switches before ts → (boards_of (Lines ts) ≡ []) ⊎ Told m switches before ts
 find m switches before [] h = inl refl
@@ -69,7 +69,7 @@ find m switches before (t ∷ ts) h = elim (tells_boards m switches (known_by m 
 ]
 
 -- a reactor knows a clock line for each board once connecting ended
-known_whole : (m : Machine) (switches : List Switch) (came : List Came) → IsWhole m (known_by m switches came)
+known_whole : (m : Machine) (switches : List Switch) (came : List Came) → HasEachBoard m (known_by m switches came)
 known_whole m switches [] = whole-first m
 known_whole m switches (c ∷ before) = (rowed m switches (known_by m switches before) (length before) c.states c.note (known_whole m switches before)).whole
 
@@ -87,7 +87,7 @@ module _ (m : Machine) (v : IsValidMachine m) (s : Scene) (ts : List MotionTurn)
       let pins = pins_of (board_at m b) b s.switches in
       let clock = clock_of (board_at m b) in
       let w = f.boards b first rest h refl in
-      let turns = behind [] w.made in
+      let turns = turns_behind [] w.made in
       let came = came_in x.turn ∷ came_from [] x.past in
       let Run : List Came → Type 0 = λ z. IsInRun m s.switches pins s.entries b z turns in
       let run = subst Run (came_cut [] first rest end) (record { board = h; goes_on = w.goes_on; turns_are = w.turns_are; both = w.both; in_range = w.in_range }) in

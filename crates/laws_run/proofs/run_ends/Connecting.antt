@@ -33,9 +33,9 @@ use Rattle.host_reactor.specs.declared.ordered.Phase.TheVariants.{Connecting, Ru
 use Rattle.host_reactor.specs.declared.ordered.Reading.{Reading}
 use Rattle.host_reactor.specs.Notes.{noted, news_of, is_out}
 use Rattle.host_reactor.specs.Reactor.{Reacted, after_homing, asks_boards, by_phase, carries_on, cut_line, finishes, is_connected_now, phase_after, reacts, unless_ended, unless_given_up, unless_homing_ends, unless_late_stale, unless_stale}
-use Rattle.host_reactor.specs.Report.{count_lines, drift_line, drift_lines, first_lines, machine_line, place_of, pulse_at, pulse_line, pulse_lines, section_line}
+use Rattle.host_reactor.specs.Report.{count_lines, drift_line, drift_lines, first_lines, machine_line, stepper_place, pulse_at, pulse_line, pulse_lines, section_line}
 use Rattle.host_reactor.specs.Running.{first_cause, is_finished, stop_of}
-use Rattle.host_reactor.specs.Runs.{Came, known_by, last_turn}
+use Rattle.host_reactor.specs.Runs.{Came, known_by, last_reacted}
 use Rattle.laws_board.proofs.clocks.Lines.{noted_phase}
 use Rattle.laws_board.proofs.clocks.Turning.{goes}
 use Rattle.session_work.specs.declared.table.ReactorTurn.{ReactorTurn}
@@ -78,7 +78,7 @@ one_pulse m b p (Some place) = refl
 
 pulses_none : (m : Machine) (b : ℕ) (ps : List Pulse) → boards_of (flat_map (pulse_line m b) ps) ≡ []
 pulses_none m b [] = refl
-pulses_none m b (p ∷ ps) = both_none (pulse_line m b p) (flat_map (pulse_line m b) ps) (one_pulse m b p (place_of 0 b p.stepper m.steppers)) (pulses_none m b ps)
+pulses_none m b (p ∷ ps) = both_none (pulse_line m b p) (flat_map (pulse_line m b) ps) (one_pulse m b p (stepper_place 0 b p.stepper m.steppers)) (pulses_none m b ps)
 
 states_none : (m : Machine) (b : ℕ) (states : List State) → boards_of (pulse_lines m b states) ≡ []
 states_none m b [] = refl
@@ -191,7 +191,7 @@ not_running : (stop : Option ℕ) → phase_after stop ≡ Connecting → ⊥
 not_running None e = let f : Running ≡ Connecting = e in cc
 not_running (Some line) e = let f : Stopping line ≡ Connecting = e in cc
 
-pub was_connecting : (m : Machine) (switches : List Switch) (c : Came) (before : List Came) → (last_turn m switches c before).ordered.end ≡ None → (known_by m switches (c ∷ before)).phase ≡ Connecting → (known_by m switches before).phase ≡ Connecting
+pub was_connecting : (m : Machine) (switches : List Switch) (c : Came) (before : List Came) → (last_reacted m switches c before).ordered.end ≡ None → (known_by m switches (c ∷ before)).phase ≡ Connecting → (known_by m switches before).phase ≡ Connecting
 was_connecting m switches c before on e =
     let r = known_by m switches before in
     elim (goes m switches r (length before) c.states c.note on) [

@@ -31,7 +31,7 @@ use Rattle.host_reactor.specs.declared.ordered.Phase.TheVariants.{Connecting, Ru
 use Rattle.host_reactor.specs.declared.ordered.Reading.{Reading}
 use Rattle.host_reactor.specs.Notes.{noted, news_of, is_out}
 use Rattle.host_reactor.specs.Reactor.{Reacted, after_homing, asks_boards, by_phase, carries_on, cut_line, ends, finishes, is_connected_now, reacts, unless_ended, unless_given_up, unless_homing_ends, unless_late_stale, unless_stale}
-use Rattle.host_reactor.specs.Report.{count_lines, drift_line, drift_lines, first_lines, machine_line, place_of, pulse_at, pulse_line, pulse_lines, section_line}
+use Rattle.host_reactor.specs.Report.{count_lines, drift_line, drift_lines, first_lines, machine_line, stepper_place, pulse_at, pulse_line, pulse_lines, section_line}
 use Rattle.host_reactor.specs.Running.{any_out, is_finished, late, or_cause, stop_of}
 use Rattle.laws_run.specs.run_ends.Boards.{count_in, counts_of}
 use Rattle.laws_run.specs.run_ends.Ends.{GoesThrough}
@@ -72,7 +72,7 @@ one_pulse m b p (Some place) = refl
 
 pulses_none : (m : Machine) (b : ℕ) (ps : List Pulse) → counts_of (flat_map (pulse_line m b) ps) ≡ []
 pulses_none m b [] = refl
-pulses_none m b (p ∷ ps) = both_none (pulse_line m b p) (flat_map (pulse_line m b) ps) (one_pulse m b p (place_of 0 b p.stepper m.steppers)) (pulses_none m b ps)
+pulses_none m b (p ∷ ps) = both_none (pulse_line m b p) (flat_map (pulse_line m b) ps) (one_pulse m b p (stepper_place 0 b p.stepper m.steppers)) (pulses_none m b ps)
 
 states_none : (m : Machine) (b : ℕ) (states : List State) → counts_of (pulse_lines m b states) ≡ []
 states_none m b [] = refl

@@ -11,7 +11,7 @@ use Rattle.msg_code.specs.declared.talk.NoteNews.TheVariants as news
 use Rattle.wire_scene.specs.declared.scene.Switch.{Switch}
 use Rattle.host_reactor.specs.declared.ordered.Known.{Known}
 use Rattle.host_reactor.specs.declared.ordered.Reading.{Reading}
-use Rattle.host_reactor.specs.Notes.{noted, told, told_all}
+use Rattle.host_reactor.specs.Notes.{noted, known_behind, told_all}
 use Rattle.host_reactor.specs.Runs.{Came, known_by}
 use Rattle.motion_work.specs.Further.{AreFurther}
 use Rattle.motion_work.specs.Puts.{ArePut, IsReadNews, begun_notes}
@@ -48,13 +48,13 @@ by_next k (s ∷ ss) = let one = one_by s.end k in let rest = by_next k ss in om
 
 all_told : (m : Machine) (xs ys : List NoteNews) (r : Known) → told_all m (xs ++ ys) r ≡ told_all m ys (told_all m xs r)
 all_told m [] ys r = refl
-all_told m (x ∷ xs) ys r = all_told m xs ys (told m r x)
+all_told m (x ∷ xs) ys r = all_told m xs ys (known_behind m r x)
 
 -- the notes of ends
 done_few : (m : Machine) (k i : ℕ) (ss : List Started) (r : Known) → (told_all m (done_notes k i ss) r).done ≤ r.done + ending_at k ss
 done_few m k i [] r = omega arith
 done_few m k i (s ∷ ss) r = elim (eqb_tells s.end k) [
-  | inl p ↦ let rest = done_few m k (i + 1) ss (told m r (news.Done i k)) in rw p.0 (omega (arith, rest))
+  | inl p ↦ let rest = done_few m k (i + 1) ss (known_behind m r (news.Done i k)) in rw p.0 (omega (arith, rest))
   | inr p ↦ let rest = done_few m k (i + 1) ss r in rw p.0 (omega (arith, rest))
 ]
 
@@ -62,7 +62,7 @@ done_few m k i (s ∷ ss) r = elim (eqb_tells s.end k) [
 done_last : (m : Machine) (k i : ℕ) (ss : List Started) (r : Known) → ((told_all m (done_notes k i ss) r).ended ≡ k) ⊎ (((told_all m (done_notes k i ss) r).ended ≡ r.ended) × All (λ s. s.end ≢ k) ss)
 done_last m k i [] r = inr (refl, All-nil (λ (s : Started). s.end ≢ k))
 done_last m k i (s ∷ ss) r = elim (eqb_tells s.end k) [
-  | inl p ↦ elim (done_last m k (i + 1) ss (told m r (news.Done i k))) [ inl e ↦ rw p.0 (inl e) | inr e ↦ rw p.0 (inl e.0) ]
+  | inl p ↦ elim (done_last m k (i + 1) ss (known_behind m r (news.Done i k))) [ inl e ↦ rw p.0 (inl e) | inr e ↦ rw p.0 (inl e.0) ]
   | inr p ↦ elim (done_last m k (i + 1) ss r) [ inl e ↦ rw p.0 (inl e) | inr e ↦ rw p.0 (inr (e.0, All-cons (λ (x : Started). x.end ≢ k) s ss p.1 e.1)) ]
 ]
 
@@ -82,7 +82,7 @@ last_same k n p (s ∷ ss) e a h =
 
 done_read : (m : Machine) (k i : ℕ) (ss : List Started) (r : Known) → (told_all m (done_notes k i ss) r).reading ≡ r.reading
 done_read m k i [] r = refl
-done_read m k i (s ∷ ss) r = elim (eqb_tells s.end k) [ inl p ↦ rw p.0 (done_read m k (i + 1) ss (told m r (news.Done i k))) | inr p ↦ rw p.0 (done_read m k (i + 1) ss r) ]
+done_read m k i (s ∷ ss) r = elim (eqb_tells s.end k) [ inl p ↦ rw p.0 (done_read m k (i + 1) ss (known_behind m r (news.Done i k))) | inr p ↦ rw p.0 (done_read m k (i + 1) ss r) ]
 
 -- the notes of starts leave all this
 abbrev Same : Known → Known → Type 0
@@ -91,14 +91,14 @@ Same r s = (s.done ≡ r.done) × (s.ended ≡ r.ended) × (s.reading ≡ r.read
 begun_same : (m : Machine) (k i : ℕ) (ss : List Started) (r : Known) → Same r (told_all m (begun_notes k i ss) r)
 begun_same m k i [] r = (refl, refl, refl)
 begun_same m k i (s ∷ ss) r = elim (eqb_tells s.start (k + 260)) [
-  | inl p ↦ rw p.0 (begun_same m k (i + 1) ss (told m r (news.Start i s.section.kind s.start s.last s.moving)))
+  | inl p ↦ rw p.0 (begun_same m k (i + 1) ss (known_behind m r (news.Start i s.section.kind s.start s.last s.moving)))
   | inr p ↦ rw p.0 (begun_same m k (i + 1) ss r)
 ]
 
 -- and those of further clock lines
 further_same : (m : Machine) (k : ℕ) (ns : List NoteNews) (r : Known) → AreFurther k ns → Same r (told_all m ns r)
 further_same m k [] r h = (refl, refl, refl)
-further_same m k (news.Line board line from ∷ ns) r h = further_same m k ns (told m r (news.Line board line from)) h.1
+further_same m k (news.Line board line from ∷ ns) r h = further_same m k ns (known_behind m r (news.Line board line from)) h.1
 further_same m k (news.Start section kind turn last moving ∷ ns) r h = absurd h
 further_same m k (news.Done section turn ∷ ns) r h = absurd h
 further_same m k (news.Read end sections ∷ ns) r h = absurd h
@@ -220,10 +220,10 @@ IsRead (Some reading) = Unit {0}
 
 told_read : (m : Machine) (ns : List NoteNews) (r : Known) → IsRead r.reading → IsRead (told_all m ns r).reading
 told_read m [] r h = h
-told_read m (news.Start section kind turn last moving ∷ ns) r h = told_read m ns (told m r (news.Start section kind turn last moving)) h
-told_read m (news.Done section turn ∷ ns) r h = told_read m ns (told m r (news.Done section turn)) h
-told_read m (news.Read end sections ∷ ns) r h = told_read m ns (told m r (news.Read end sections)) tt
-told_read m (news.Line board line from ∷ ns) r h = told_read m ns (told m r (news.Line board line from)) h
+told_read m (news.Start section kind turn last moving ∷ ns) r h = told_read m ns (known_behind m r (news.Start section kind turn last moving)) h
+told_read m (news.Done section turn ∷ ns) r h = told_read m ns (known_behind m r (news.Done section turn)) h
+told_read m (news.Read end sections ∷ ns) r h = told_read m ns (known_behind m r (news.Read end sections)) tt
+told_read m (news.Line board line from ∷ ns) r h = told_read m ns (known_behind m r (news.Line board line from)) h
 
 pub read_note : (m : Machine) (note : Option Note) (r : Known) → IsRead r.reading → IsRead (noted m note r).reading
 read_note m None r h = h

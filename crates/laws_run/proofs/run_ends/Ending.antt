@@ -29,7 +29,7 @@ use Rattle.axis_homing.specs.Homing.{answer_in, by_answer, hears_all, homing_tur
 use Rattle.host_reactor.specs.declared.ordered.Known.{Known}
 use Rattle.host_reactor.specs.declared.ordered.Phase.{Phase}
 use Rattle.host_reactor.specs.declared.ordered.Phase.TheVariants.{Connecting, Running, Stopping}
-use Rattle.host_reactor.specs.Notes.{noted, news_of, is_out, told, told_all}
+use Rattle.host_reactor.specs.Notes.{noted, news_of, is_out, known_behind, told_all}
 use Rattle.host_reactor.specs.Rows.{IsOwn}
 use Rattle.host_reactor.specs.Reactor.{after_homing, asks_boards, by_phase, carries_on, cut_line, finishes, is_connected_now, reacts, unless_ended, unless_given_up, unless_homing_ends, unless_late_stale, unless_stale}
 use Rattle.host_reactor.specs.Report.{first_lines}
@@ -214,7 +214,7 @@ first_so false None (Some d) m switches r k states lines c n is other e =
 first_so false None None m switches r k states lines c n is other e = phase_so r.phase m switches r k states lines c refl is e
 
 -- what a note tells isn't what the reactor is told to stop for
-told_stays : (m : Machine) (r : Known) (n : NoteNews) → (told m r n).stopped ≡ r.stopped
+told_stays : (m : Machine) (r : Known) (n : NoteNews) → (known_behind m r n).stopped ≡ r.stopped
 told_stays m r (news.Start section kind turn last moving) = refl
 told_stays m r (news.Done section turn) = refl
 told_stays m r (news.Read end sections) = refl
@@ -222,7 +222,7 @@ told_stays m r (news.Line board line from) = refl
 
 all_stay : (m : Machine) (ns : List NoteNews) (r : Known) → (told_all m ns r).stopped ≡ r.stopped
 all_stay m [] r = refl
-all_stay m (n ∷ ns) r = all_stay m ns (told m r n) ∙ told_stays m r n
+all_stay m (n ∷ ns) r = all_stay m ns (known_behind m r n) ∙ told_stays m r n
 
 pub note_stays : (m : Machine) (note : Option Note) (r : Known) → (noted m note r).stopped ≡ r.stopped
 note_stays m None r = refl

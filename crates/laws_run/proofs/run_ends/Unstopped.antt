@@ -18,7 +18,7 @@ use Rattle.board_asking.specs.declared.asking.Stage.{Stage}
 use Rattle.board_asking.specs.declared.asking.Stage.TheVariants.{Identify, Uptime, Configure, Config, Connected}
 use Rattle.board_asking.specs.declared.setup.Setup.{Setup}
 use Rattle.board_asking.specs.declared.setup.Setup.TheVariants.{Oids, Stepper, Trsync, Endstop, Finish}
-use Rattle.board_asking.specs.Asking.{asks, is_due, question, ready}
+use Rattle.board_asking.specs.Asking.{asks, is_question_due, question, ready}
 use Rattle.board_asking.specs.Drift.{asks_now, drifts, waits_in}
 use Rattle.board_asking.specs.Machine.{configuration, control_bytes, fitting, setup_command}
 use Rattle.axis_homing.specs.declared.homing.Homing.{Homing}
@@ -28,7 +28,7 @@ use Rattle.host_reactor.specs.declared.ordered.Phase.{Phase}
 use Rattle.host_reactor.specs.declared.ordered.Phase.TheVariants.{Connecting, Running, Stopping}
 use Rattle.host_reactor.specs.Notes.{noted}
 use Rattle.host_reactor.specs.Reactor.{Reacted, phase_after, run_control, stop_command, stops}
-use Rattle.host_reactor.specs.Runs.{Came, known_by, last_turn}
+use Rattle.host_reactor.specs.Runs.{Came, known_by, last_reacted}
 use Rattle.laws_board.specs.turns.Turns.{BoardTurn}
 use Rattle.laws_board.specs.clocks.Runs.{IsInRun, orders_in}
 use Rattle.laws_board.proofs.clocks.Lines.{noted_phase, run_before, turn_of}
@@ -61,11 +61,11 @@ all_setups [] = tt
 all_setups (s ∷ ss) = (one_setup s, all_setups ss)
 
 pub asks_none : (turn : ℕ) (setups : List Setup) (a : Asking) (stage : Stage) → NoStops (asks setups turn a stage)
-asks_none turn setups a (Identify offset) = none_if (is_due turn a.since) (question (Identify offset)) (tt, tt)
-asks_none turn setups a Uptime = none_if (is_due turn a.since) (question Uptime) (tt, tt)
+asks_none turn setups a (Identify offset) = none_if (is_question_due turn a.since) (question (Identify offset)) (tt, tt)
+asks_none turn setups a Uptime = none_if (is_question_due turn a.since) (question Uptime) (tt, tt)
 asks_none turn setups a (Configure n) = all_setups (fitting control_bytes (drop n setups))
-asks_none turn setups a Config = none_if (is_due turn a.since) (question Config) (tt, tt)
-asks_none turn setups a Connected = none_if (is_due turn a.since) (question Connected) tt
+asks_none turn setups a Config = none_if (is_question_due turn a.since) (question Config) (tt, tt)
+asks_none turn setups a Connected = none_if (is_question_due turn a.since) (question Connected) tt
 
 -- a running turn in which no board homes, and which doesn't stop
 runs_none : (m : Machine) (k b : ℕ) (clocks : List Clocks) (states : List State) (own : Clocks) (a : Asking) (h : Option Homing) (stop : Option ℕ) → h ≡ None → ((line : ℕ) → phase_after stop ≡ Stopping line → ⊥)
@@ -95,7 +95,7 @@ pub not_yet : (p : Phase) (line : ℕ) → (p ≡ Connecting) ⊎ (p ≡ Running
 not_yet p line (inl c) f = let g : Connecting ≡ Stopping line = sym c ∙ f in cc
 not_yet p line (inr c) f = let g : Running ≡ Stopping line = sym c ∙ f in cc
 
-pub not_before : (m : Machine) (switches : List Switch) (c : Came) (before : List Came) → (last_turn m switches c before).ordered.end ≡ None → (line : ℕ) → (known_by m switches before).phase ≡ Stopping line → ⊥
+pub not_before : (m : Machine) (switches : List Switch) (c : Came) (before : List Came) → (last_reacted m switches c before).ordered.end ≡ None → (line : ℕ) → (known_by m switches before).phase ≡ Stopping line → ⊥
 not_before m switches c before e line f =
     let r = known_by m switches before in
     not_yet (noted m c.note r).phase line (elim (goes m switches r (length before) c.states c.note e) [
@@ -115,6 +115,6 @@ never_stop m switches pins entries b (c ∷ before) [] r h n = absurd r.both
 never_stop m switches pins entries b (c ∷ before) (t ∷ turns) r h n =
     let x = turn_of m switches pins entries b c before t turns r in
     let k = noted m c.note (known_by m switches before) in
-    let none = turn_none m b (length before) c k x.a (last_turn m switches c before) t x.turned h.0 n in
+    let none = turn_none m b (length before) c k x.a (last_reacted m switches c before) t x.turned h.0 n in
     none_later (orders_in turns) (orders t.control t.batch)
     (never_stop m switches pins entries b before turns (run_before m switches pins entries b c before t turns r) h.1 (not_before m switches c before r.goes_on.0)) (all_none t.control.commands none)

@@ -18,7 +18,7 @@ use Rattle.board_asking.specs.declared.asking.Asking.{Asking}
 use Rattle.board_asking.specs.declared.asking.Stage.{Stage}
 use Rattle.board_asking.specs.declared.asking.Stage.TheVariants.{Identify, Uptime, Configure, Config, Connected}
 use Rattle.board_asking.specs.declared.setup.Setup.{Setup}
-use Rattle.board_asking.specs.Asking.{after_asks, after_clock, after_drift, after_piece, answered, asked, hears, is_connected, is_due, is_in_time, is_out, is_over, listens, more, or_else, ready, ready_stage, sample_of, settled, tells_clock, was_put, were_put}
+use Rattle.board_asking.specs.Asking.{after_asks, after_clock, after_drift, after_piece, answered, asked, hears_first, is_connected, is_question_due, is_in_time, is_out, is_over, listens, more, or_asking, ready, ready_stage, sample_of, settled, tells_clock, was_put, were_put}
 use Rattle.board_asking.specs.Connecting.{all_connected, ask_all, board_line, listen_all, ready_all}
 use Rattle.board_asking.specs.Drift.{after_question, asks_now, drifts, is_asked_now, is_unanswered, new_lines, waiting, waits_in}
 use Rattle.board_asking.specs.Machine.{configuration}
@@ -29,8 +29,8 @@ use Rattle.host_reactor.specs.declared.ordered.Phase.{Phase}
 use Rattle.host_reactor.specs.declared.ordered.Phase.TheVariants.{Connecting, Running, Stopping}
 use Rattle.host_reactor.specs.Notes.{noted}
 use Rattle.host_reactor.specs.Reactor.{Reacted, homed, homing_commands, new_askings, phase_after, run_askings}
-use Rattle.host_reactor.specs.Rows.{IsWhole}
-use Rattle.host_reactor.specs.Runs.{Came, GoesOn, known_by, last_turn}
+use Rattle.host_reactor.specs.Rows.{HasEachBoard}
+use Rattle.host_reactor.specs.Runs.{Came, GoesOn, known_by, last_reacted}
 use Rattle.host_reactor.proofs.Rowing.{rowed, whole-first}
 use Rattle.laws_board.proofs.clocks.Lines.{noted_askings, noted_phase}
 use Rattle.laws_board.proofs.clocks.Turning.{Goes, goes}
@@ -107,13 +107,13 @@ answer_heard turn a Config number c = tt
 answer_heard turn a Connected number (cmd.Uptime high clock) = if_heard (tells_clock a number) a (after_drift a (sample_of a turn high clock)) refl refl
 answer_heard turn a Connected number c = tt
 
-or_heard : (a : Asking) (o : Option Asking) (b : Asking) → IfHeard a o → IsHeard a b → IsHeard a (or_else o b)
+or_heard : (a : Asking) (o : Option Asking) (b : Asking) → IfHeard a o → IsHeard a b → IsHeard a (or_asking o b)
 or_heard a None b s i = i
 or_heard a (Some c) b s i = record { waits = s.0; since = inl s.1 }
 
-news_heard : (turn : ℕ) (ns : List News) (a : Asking) → IsHeard a (hears turn ns a)
+news_heard : (turn : ℕ) (ns : List News) (a : Asking) → IsHeard a (hears_first turn ns a)
 news_heard turn [] a = heard_same a
-news_heard turn (n ∷ ns) a = or_heard a (answered turn a a.stage n.number n.answer) (hears turn ns a) (answer_heard turn a a.stage n.number n.answer) (news_heard turn ns a)
+news_heard turn (n ∷ ns) a = or_heard a (answered turn a a.stage n.number n.answer) (hears_first turn ns a) (answer_heard turn a a.stage n.number n.answer) (news_heard turn ns a)
 
 either_heard : (t : Bool) (a b c : Asking) → IsHeard a b → IsHeard a c → IsHeard a (cond t b c)
 either_heard true a b c i j = i
@@ -123,7 +123,7 @@ state_heard : (a : Asking) (s : State) → IsHeard a (listens a s)
 state_heard a s =
     let b = were_put s.turn s.asked a in
     let put = put_heard s.turn s.asked a in
-    either_heard (is_in_time s.turn b.since) a (hears s.turn s.news b) b (heard_then a b (hears s.turn s.news b) put (news_heard s.turn s.news b)) put
+    either_heard (is_in_time s.turn b.since) a (hears_first s.turn s.news b) b (heard_then a b (hears_first s.turn s.news b) put (news_heard s.turn s.news b)) put
 
 stage_ready : (setups : List Setup) (stage : Stage) → is_connected (ready_stage setups stage) ≡ is_connected stage
 stage_ready setups (Identify offset) = refl
@@ -154,10 +154,10 @@ unless_due true k a n r = (r.0, λ c. cc)
 unless_due false k a n r = r
 
 asks_rest : (setups : List Setup) (k : ℕ) (a : Asking) (stage : Stage) → a.stage ≡ stage → Rests a → Rests (after_asks setups k a stage)
-asks_rest setups k a (Identify offset) e r = unless_due (is_due k a.since) k a (ap is_connected e) r
-asks_rest setups k a Uptime e r = unless_due (is_due k a.since) k a (ap is_connected e) r
+asks_rest setups k a (Identify offset) e r = unless_due (is_question_due k a.since) k a (ap is_connected e) r
+asks_rest setups k a Uptime e r = unless_due (is_question_due k a.since) k a (ap is_connected e) r
 asks_rest setups k a (Configure n) e r = (r.0, λ c. cc)
-asks_rest setups k a Config e r = unless_due (is_due k a.since) k a (ap is_connected e) r
+asks_rest setups k a Config e r = unless_due (is_question_due k a.since) k a (ap is_connected e) r
 asks_rest setups k a Connected e r = r
 
 all_asked : (m : Machine) (k b : ℕ) (askings : List Asking) → Each Rests askings → Each Rests (ask_all m k b askings)
@@ -258,11 +258,11 @@ stand_by : (m : Machine) (switches : List Switch) (came : List Came) → GoesOn 
 stand_by m switches [] g = new_rest m.boards
 stand_by m switches (c ∷ before) g =
     let r = known_by m switches before in
-    stand_on m (noted m c.note r) (length before) c.states (last_turn m switches c before) (stand_noted m c r (length before) (stand_by m switches before g.1))
+    stand_on m (noted m c.note r) (length before) c.states (last_reacted m switches c before) (stand_noted m c r (length before) (stand_by m switches before g.1))
     (goes m switches r (length before) c.states c.note g.0)
 
 -- there is an asking for each board
-pub whole_by : (m : Machine) (switches : List Switch) (came : List Came) → IsWhole m (known_by m switches came)
+pub whole_by : (m : Machine) (switches : List Switch) (came : List Came) → HasEachBoard m (known_by m switches came)
 whole_by m switches [] = whole-first m
 whole_by m switches (c ∷ before) = (rowed m switches (known_by m switches before) (length before) c.states c.note (whole_by m switches before)).whole
 
@@ -302,12 +302,12 @@ turn_late m r k states x board line s (inr (inr a)) h =
     let few = late.1 in
     (late.0, omega (arith, few))
 
-pub asked_late : (m : Machine) (switches : List Switch) (c : Came) (before : List Came) → GoesOn m switches before → (last_turn m switches c before).ordered.end ≡ None → (board : ℕ) (line : Line)
-    → WasHeard board line (lines_in (last_turn m switches c before).ordered.word.news) → (1_000 ≤ length before) × (board < length m.boards)
+pub asked_late : (m : Machine) (switches : List Switch) (c : Came) (before : List Came) → GoesOn m switches before → (last_reacted m switches c before).ordered.end ≡ None → (board : ℕ) (line : Line)
+    → WasHeard board line (lines_in (last_reacted m switches c before).ordered.word.news) → (1_000 ≤ length before) × (board < length m.boards)
 asked_late m switches c before g e board line h =
     let r = known_by m switches before in
     let k = length before in
-    let late = turn_late m (noted m c.note r) k c.states (last_turn m switches c before) board line (stand_noted m c r k (stand_by m switches before g)) (goes m switches r k c.states c.note e) h in
+    let late = turn_late m (noted m c.note r) k c.states (last_reacted m switches c before) board line (stand_noted m c r k (stand_by m switches before g)) (goes m switches r k c.states c.note e) h in
     let whole = (whole_by m switches before).askings in
     let same : length (noted m c.note r).askings.items ≡ length m.boards = ap (λ y. length y.items) (noted_askings m c.note r) ∙ whole in
     (late.0, subst (λ n. board < n) same late.1)

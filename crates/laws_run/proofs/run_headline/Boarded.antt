@@ -22,7 +22,7 @@ use Rattle.link_work.specs.Stands.{orders}
 use Rattle.link_work.specs.Switches.{pins_of}
 use Rattle.link_work.specs.Turn.{Orders}
 use Rattle.clock_line.specs.Samples.{ppm_size}
-use Rattle.host_reactor.specs.Runs.{Came, known_by, last_turn}
+use Rattle.host_reactor.specs.Runs.{Came, known_by, last_reacted}
 use Rattle.laws_board.specs.turns.Turns.{BoardTurn, stands_after}
 use Rattle.laws_board.specs.clocks.Runs.{IsInRun, UnitsFit, orders_in}
 use Rattle.laws_board.proofs.clocks.Lines.{as_long, told_lines}
@@ -40,13 +40,13 @@ use Rattle.board_world.specs.World.{on_wire}
 use Rattle.link_work.specs.Limits.{bytes_in}
 use Rattle.plan_types.specs.Sections.{clocks_at, first_start}
 use Rattle.laws_board.specs.sections.Events.{AreOwn}
-use Rattle.laws_board.specs.sections.Parts.{IsRun, MakesIn}
+use Rattle.laws_board.specs.sections.Parts.{IsBoardRun, MakesIn}
 use Rattle.laws_board.proofs.orders.Going.{own_on}
 use Rattle.laws_board.specs.sections.Links.{turns_told}
 use Rattle.laws_board.proofs.sections.Calm.{calm_links}
 use Rattle.laws_board.proofs.sections.HeededLinks.{few_heeded, ten_seconds}
 use Rattle.laws_board.specs.sections.Timely.{ControlsKeep}
-use Rattle.laws_run.specs.lanes.Boards.{IsInWhole, behind, orders_of, states_of}
+use Rattle.laws_run.specs.lanes.Boards.{IsInWhole, turns_behind, orders_of, states_of}
 use Rattle.laws_run.specs.lanes.Turns.{came_before}
 use Rattle.laws_board.specs.plans.Boards.{TookStates}
 use Rattle.laws_board.specs.plans.Given.{TookControls}
@@ -138,7 +138,7 @@ module _ (m : Machine) (v : IsValidMachine m) (s : Scene) (ts : List MotionTurn)
     pub are : first ∷ rest ≡ past ++ turn ∷ later
     pub came_is : came_from [] (first ∷ rest) ≡ came_from (came_in turn ∷ came_from [] past) later
     pub heard : HeardIn m 0 p.made t
-    pub is : Connected m (known_by m s.switches (came_from [] past)) (length (came_from [] past)) (last_turn m s.switches (came_in turn) (came_from [] past)) heard.clocks
+    pub is : Connected m (known_by m s.switches (came_from [] past)) (length (came_from [] past)) (last_reacted m s.switches (came_in turn) (came_from [] past)) heard.clocks
     pub early : length (came_from [] past) + 260 ≤ t.first
     pub first_is : t.first ≡ first_start (length (came_from [] past))
     pub number : length heard.past ≡ length (came_from [] past)
@@ -168,7 +168,7 @@ module _ (m : Machine) (v : IsValidMachine m) (s : Scene) (ts : List MotionTurn)
         | inl a ↦
             let q = said m s.switches [] (first ∷ rest) w tt turns a in
             let before = came_from [] q.past in
-            let x = last_turn m s.switches (came_in q.turn) before in
+            let x = last_reacted m s.switches (came_in q.turn) before in
             let lines : told_of m x.ordered.word ≡ Some h.clocks = ap (told_of m) (sym q.word_is) ∙ h.tells.lines in
             let is = connected m s.switches (came_in q.turn) before h.clocks q.goes_on lines in
             let number : w.turn ≡ length before = ap (λ (y : WordMsg). y.turn) q.word_is ∙ is.turn in
@@ -207,10 +207,10 @@ module _ (m : Machine) (v : IsValidMachine m) (s : Scene) (ts : List MotionTurn)
 
   -- the turns of a board, as the laws of boards have them
   pub run_of : (b : ℕ) (w : IsInWhole m s.switches b (clock_of (board_at m b)) (link_of m s b) ts first (rest ++ end ∷ [])) → b < length m.boards
-      → IsInRun m s.switches (pins_of (board_at m b) b s.switches) s.entries b (came_from [] (first ∷ rest)) (behind [] w.made)
+      → IsInRun m s.switches (pins_of (board_at m b) b s.switches) s.entries b (came_from [] (first ∷ rest)) (turns_behind [] w.made)
   run_of b w h =
       let pins = pins_of (board_at m b) b s.switches in
-      let turns = behind [] w.made in
+      let turns = turns_behind [] w.made in
       let run_first : IsInRun m s.switches pins s.entries b (came_before [] (first ∷ rest ++ end ∷ [])) turns = record { board = h; goes_on = w.goes_on; turns_are = w.turns_are; both = w.both; in_range = w.in_range } in
       let Run : List Came → Type 0 = λ c. IsInRun m s.switches pins s.entries b c turns in
       subst Run (came_cut [] first rest end) run_first
@@ -227,11 +227,11 @@ module _ (m : Machine) (v : IsValidMachine m) (s : Scene) (ts : List MotionTurn)
     pub each : EachHeld (IsSaid ready b) (clocks_at t.clocks b).held
 
   line_sampled : (b : ℕ) (w : IsInWhole m s.switches b (clock_of (board_at m b)) (link_of m s b) ts first (rest ++ end ∷ [])) → b < length m.boards → (ready : ℕ) (line : Line) (from : ℕ) → IsSaid ready b line from
-      → IsSampled (clock_of (board_at m b)) (behind [] w.made) line
+      → IsSampled (clock_of (board_at m b)) (turns_behind [] w.made) line
   line_sampled b w h n line from x =
       let clock = clock_of (board_at m b) in
       let pins = pins_of (board_at m b) b s.switches in
-      let turns = behind [] w.made in
+      let turns = turns_behind [] w.made in
       let q = x.said in
       let before = came_from [] q.past in
       let Run : List Came → Type 0 = λ c. IsInRun m s.switches pins s.entries b c turns in
@@ -240,7 +240,7 @@ module _ (m : Machine) (v : IsValidMachine m) (s : Scene) (ts : List MotionTurn)
       let l = one_less m v s.switches pins s.entries b (came_in q.turn) before f.front f.run in
       let told = told_lines m s.switches pins s.entries b (came_in q.turn) before l.0 l.1 l.3 in
       let Heard : WordMsg → Type 0 = λ y. WasHeard b line (lines_in y.news) in
-      let own = line_among (IsSampled clock l.1) b line (last_turn m s.switches (came_in q.turn) before).ordered.word.news (subst Heard q.word_is x.heard) told in
+      let own = line_among (IsSampled clock l.1) b line (last_reacted m s.switches (came_in q.turn) before).ordered.word.news (subst Heard q.word_is x.heard) told in
       let cut : turns ≡ (f.later ++ l.0 ∷ []) ++ l.1 = f.cut ∙ ap (λ y. f.later ++ y) l.2 ∙ sym (append_assoc f.later (l.0 ∷ []) l.1) in
       subst (λ y. IsSampled clock y line) (sym cut) (sampled_later m v s.switches pins s.entries b clock (f.later ++ l.0 ∷ []) l.1 line own)
 
@@ -268,11 +268,11 @@ module _ (m : Machine) (v : IsValidMachine m) (s : Scene) (ts : List MotionTurn)
   pub first_in_range : (b : ℕ) (r : Ready) → b < length m.boards → (clocks_at t.clocks b).first.clock < 2 ^ 62
   first_in_range b r h = subst (λ (x : Line). x.clock < 2 ^ 62) (sym (first_same b r h)) (r.heard.in_range b h)
 
-  pub lined : (b : ℕ) (r : Ready) (w : IsInWhole m s.switches b (clock_of (board_at m b)) (link_of m s b) ts first (rest ++ end ∷ [])) → b < length m.boards → Lined b (behind [] w.made) (length (came_from [] r.past))
+  pub lined : (b : ℕ) (r : Ready) (w : IsInWhole m s.switches b (clock_of (board_at m b)) (link_of m s b) ts first (rest ++ end ∷ [])) → b < length m.boards → Lined b (turns_behind [] w.made) (length (came_from [] r.past))
   lined b r w h =
       let clock = clock_of (board_at m b) in
       let pins = pins_of (board_at m b) b s.switches in
-      let turns = behind [] w.made in
+      let turns = turns_behind [] w.made in
       let before = came_from [] r.past in
       let firsts = r.heard.clocks in
       let Run : List Came → Type 0 = λ c. IsInRun m s.switches pins s.entries b c turns in
@@ -320,10 +320,10 @@ module _ (m : Machine) (v : IsValidMachine m) (s : Scene) (ts : List MotionTurn)
         small = omega (arith, small, count, place, number, r.first_is);
         near = λ b h.
             let valid = valid_at m.boards b h v.boards in
-            follows_clock (clock_of (board_at m b)) (behind [] (whole b h).made) (clocks_at t.clocks b).first valid.freq.whole (drift_few (board_at m b).drift valid.drift_low valid.drift_high) (lined b r (whole b h) h).line.sampled;
+            follows_clock (clock_of (board_at m b)) (turns_behind [] (whole b h).made) (clocks_at t.clocks b).first valid.freq.whole (drift_few (board_at m b).drift valid.drift_low valid.drift_high) (lined b r (whole b h) h).line.sampled;
         all_near = λ b h.
             let valid = valid_at m.boards b h v.boards in
-            follow_clock (clock_of (board_at m b)) (behind [] (whole b h).made) (clocks_at t.clocks b).held valid.freq.whole (drift_few (board_at m b).drift valid.drift_low valid.drift_high) (lined b r (whole b h) h).sampled;
+            follow_clock (clock_of (board_at m b)) (turns_behind [] (whole b h).made) (clocks_at t.clocks b).held valid.freq.whole (drift_few (board_at m b).drift valid.drift_low valid.drift_high) (lined b r (whole b h) h).sampled;
       }
 
   -- where the clock lines of a board are renewed in time, they follow it
@@ -334,7 +334,7 @@ module _ (m : Machine) (v : IsValidMachine m) (s : Scene) (ts : List MotionTurn)
       let size = ap length r.are ∙ length-append r.past (r.turn ∷ r.later) in
       let long = came_long [] r.past in
       record {
-        all = behind [] w.made;
+        all = turns_behind [] w.made;
         freq = (valid_at m.boards b h v.boards).freq;
         kept = own.kept;
         first = own.line.sampled;
@@ -348,14 +348,14 @@ module _ (m : Machine) (v : IsValidMachine m) (s : Scene) (ts : List MotionTurn)
   -- what is known of a board whose clock lines are renewed in time
   record Placed (b ready : ℕ) (w : IsInWhole m s.switches b (clock_of (board_at m b)) (link_of m s b) ts first (rest ++ end ∷ [])) : Type 0 where
     count : length (orders_of w.made) ≡ length (rest ++ end ∷ [])
-    is : IsRun (Own m b (length rest)) (clocks_at t.clocks b) (board_at m b).freq (board_at m b).slots ready (parts_on m t.clocks p.seen.begun b) (orders_of w.made)
-    run : IsInRun m s.switches (pins_of (board_at m b) b s.switches) s.entries b (came_from [] (first ∷ rest)) (behind [] w.made)
+    is : IsBoardRun (Own m b (length rest)) (clocks_at t.clocks b) (board_at m b).freq (board_at m b).slots ready (parts_on m t.clocks p.seen.begun b) (orders_of w.made)
+    run : IsInRun m s.switches (pins_of (board_at m b) b s.switches) s.entries b (came_from [] (first ∷ rest)) (turns_behind [] w.made)
 
   placed : (b : ℕ) (r : Ready) (w : IsInWhole m s.switches b (clock_of (board_at m b)) (link_of m s b) ts first (rest ++ end ∷ [])) → b < length m.boards → AreMoves p.seen.begun → AllMoves (came_from [] (first ∷ rest)) → length (rest ++ end ∷ []) ≤ length p.made
       → StayYoung m b (clocks_at t.clocks b) (length rest) → Placed b (length (came_from [] r.past)) w
   placed b r w h homes moves goes renewed =
       let pins = pins_of (board_at m b) b s.switches in
-      let turns = behind [] w.made in
+      let turns = turns_behind [] w.made in
       let parts = parts_on m t.clocks p.seen.begun b in
       let cut = came_cut [] first rest end in
       let before = came_from [] r.past in
@@ -386,7 +386,7 @@ module _ (m : Machine) (v : IsValidMachine m) (s : Scene) (ts : List MotionTurn)
       → (done : List Orders) (o : Orders) (more : List Orders) → orders_of w.made ≡ done ++ o ∷ more → ControlsKeep done
   controls_before b r w x =
       let Fronts : List Orders → Type 0 = λ os. (done : List Orders) (o : Orders) (more : List Orders) → os ≡ done ++ o ∷ more → ControlsKeep done in
-      subst Fronts w.in_order (controls_limited m v s.switches (pins_of (board_at m b) b s.switches) s.entries b (came_from [] (first ∷ rest)) (behind [] w.made) x.run)
+      subst Fronts w.in_order (controls_limited m v s.switches (pins_of (board_at m b) b s.switches) s.entries b (came_from [] (first ∷ rest)) (turns_behind [] w.made) x.run)
 
   -- a board that is spoiled little is timely, whether or not a unit was sent late
   pub few_near : (b : ℕ) (r : Ready) (w : IsInWhole m s.switches b (clock_of (board_at m b)) (link_of m s b) ts first (rest ++ end ∷ [])) → b < length m.boards → AreMoves p.seen.begun → AllMoves (came_from [] (first ∷ rest)) → length (rest ++ end ∷ []) ≤ length p.made
@@ -397,7 +397,7 @@ module _ (m : Machine) (v : IsValidMachine m) (s : Scene) (ts : List MotionTurn)
       let clock = clock_of def in
       let pins = pins_of def b s.switches in
       let parts = parts_on m t.clocks p.seen.begun b in
-      let after = stands_after (link_of m s b) (behind [] w.made) in
+      let after = stands_after (link_of m s b) (turns_behind [] w.made) in
       let all = turns_told clock 0 (orders_of w.made) (states_of w.made) (link_of m s b) after w.told in
       few_heeded def pins b s.entries (Own m b (length rest)) (clocks_at t.clocks b) (length (came_from [] r.past)) 10_000 (length p.made) parts (orders_of w.made) after all (subst (λ n. AreOwn def n (Own m b (length rest))) (sym x.count) (own_to b h)) x.is (sent_on m t.clocks (length p.made) b p.seen.begun h homes (all_sent m (length m.boards) ts p t told)) (omega (arith, x.count, goes))
       (controls_before b r w x)

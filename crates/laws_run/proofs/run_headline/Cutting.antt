@@ -7,7 +7,7 @@ use Rattle.plan_types.specs.Machines.{board_at}
 use Rattle.io_core.specs.declared.traits.Files.{Ghosts as Files}
 use Rattle.io_core.specs.declared.traits.Sink.{Ghosts as Sink}
 use Rattle.wire_scene.specs.declared.scene.Scene.{Scene}
-use Rattle.link_work.specs.Stands.{Seen as LinkSeen}
+use Rattle.link_work.specs.Stands.{SeenLink as LinkSeen}
 use Rattle.host_reactor.specs.Reactor.{Run, first_run}
 use Rattle.host_reactor.specs.Runs.{known_by}
 use Rattle.session_lanes.specs.declared.near.Told.{Told}

@@ -28,7 +28,7 @@ use Rattle.host_reactor.specs.declared.ordered.Phase.TheVariants.{Connecting, Ru
 use Rattle.host_reactor.specs.declared.ordered.Reading.{Reading}
 use Rattle.host_reactor.specs.Notes.{is_out, news_of, noted}
 use Rattle.host_reactor.specs.Reactor.{Reacted, after_homing, asks_boards, by_phase, carries_on, cut_line, finishes, is_connected_now, reacts, unless_ended, unless_given_up, unless_homing_ends, unless_late_stale, unless_stale}
-use Rattle.host_reactor.specs.Report.{count_lines, drift_lines, first_lines, machine_line, place_of, pulse_at, pulse_line, pulse_lines, section_line}
+use Rattle.host_reactor.specs.Report.{count_lines, drift_lines, first_lines, machine_line, stepper_place, pulse_at, pulse_line, pulse_lines, section_line}
 use Rattle.host_reactor.specs.Running.{first_cause, is_finished, stop_of}
 use Rattle.wire_scene.specs.declared.scene.Switch.{Switch}
 use Rattle.laws_board.specs.plans.Lines.{drift_in, drifts_of}
@@ -60,7 +60,7 @@ pulse_none m b p (Some place) = tt
 
 pub state_none : (m : Machine) (b : ℕ) (ps : List Pulse) → NoneDrifts (flat_map (pulse_line m b) ps)
 state_none m b [] = tt
-state_none m b (p ∷ ps) = drifts_both (pulse_line m b p) (flat_map (pulse_line m b) ps) (pulse_none m b p (place_of 0 b p.stepper m.steppers)) (state_none m b ps)
+state_none m b (p ∷ ps) = drifts_both (pulse_line m b p) (flat_map (pulse_line m b) ps) (pulse_none m b p (stepper_place 0 b p.stepper m.steppers)) (state_none m b ps)
 
 pub pulses_none : (m : Machine) (b : ℕ) (states : List State) → NoneDrifts (pulse_lines m b states)
 pulses_none m b [] = tt

@@ -15,7 +15,7 @@ use Rattle.msg_code.specs.declared.talk.State.{State}
 use Rattle.msg_code.specs.declared.talk.WordMsg.{WordMsg}
 use Rattle.wire_scene.specs.declared.scene.Scene.{Scene}
 use Rattle.wire_scene.specs.declared.scene.Switch.{Switch}
-use Rattle.link_work.specs.Stands.{Seen as LinkSeen}
+use Rattle.link_work.specs.Stands.{SeenLink as LinkSeen}
 use Rattle.host_reactor.specs.declared.ordered.Known.{Known}
 use Rattle.host_reactor.specs.declared.ordered.Reading.{Reading}
 use Rattle.host_reactor.specs.declared.ordered.Phase.TheVariants.{Connecting}
@@ -54,7 +54,7 @@ pub use Rattle.laws_run.proofs.run_headline.Boarded.{came_long}
 use Rattle.laws_run.proofs.run_headline.Heard.{NoneOut}
 
 -- the link of a run, as the laws of boards ask for it
-pub shows_link : ShowsLink links.Turns (λ (x : LinkSeen). x)
+pub shows_link : ShowsLink links.TurnsLink (λ (x : LinkSeen). x)
 shows_link = record {
   turned = λ x k c b s y h l st. let t = h.turned l st in (t.0, t.1, t.2, t.3);
   in_range = λ x k c b s y h. h.in_range;

@@ -10,13 +10,13 @@ use Rattle.report_text.specs.declared.line.ReportLine.{ReportLine}
 use Rattle.wire_scene.specs.declared.scene.Switch.{Switch}
 use Rattle.host_reactor.specs.declared.ordered.Known.{Known}
 use Rattle.host_reactor.specs.Reactor.{Run, first_told, reacts}
-use Rattle.host_reactor.specs.Rows.{EndsFor, IsOwn}
+use Rattle.host_reactor.specs.Rows.{MayEndFor, IsOwn}
 use Rattle.host_reactor.specs.Runs.{Came, known_by}
 use Rattle.host_reactor.proofs.Blames.{blames}
 use Rattle.session_work.specs.declared.head.Head.{Head}
 use Rattle.session_work.specs.declared.table.ReactorTurn.{ReactorTurn}
 use Rattle.session_work.specs.Heads.{IsRow, ReactorStep, ServeStep, Served, Wrote}
-use Rattle.session_work.specs.Reactors.{ends}
+use Rattle.session_work.specs.Reactors.{answered_ends}
 use Rattle.session_work.specs.Rows.{gather, option_items}
 use Rattle.session_work.specs.Turns.{Goes}
 use Rattle.session_run.specs.declared.desk.Desk.{Desk}
@@ -44,7 +44,7 @@ no_fault c own other (inr (stop.Memory, e)) = other e
 no_fault c own other (inr (stop.Failed, e)) = subst IsOwn e own
 
 -- a run that ends for a cause of its own was not told to stop
-untold : (c : Cause) (o : Option Cause) → IsOwn c → (c ≡ cause.Memory → ⊥) → Faulty o → EndsFor o c → o ≡ None
+untold : (c : Cause) (o : Option Cause) → IsOwn c → (c ≡ cause.Memory → ⊥) → Faulty o → MayEndFor o c → o ≡ None
 untold c o own other told (inl e) = absurd (other e)
 untold c o own other told (inr (inl e)) = absurd (no_fault c own other (subst Faulty e told))
 untold c o own other told (inr (inr e)) = e.0
@@ -143,7 +143,7 @@ module _ {F S : Type 0} (f : Files F) (o : Sink S) where
 
   -- A piece that says that no more can be read is read in the turn before the one that ends the run, and this, where it is not for want of
   -- memory, not for a cause of its own; or it is the last one.
-  pub stop_last : (n k h : ℕ) (x : Head Run D) (rs : List ReactorTurn) (t : ReactorTurn) (y : Head Run D) (c : Cause) → Told x → ends rs ≡ [] → t.end ≡ Some c
+  pub stop_last : (n k h : ℕ) (x : Head Run D) (rs : List ReactorTurn) (t : ReactorTurn) (y : Head Run D) (c : Cause) → Told x → answered_ends rs ≡ [] → t.end ≡ Some c
       → Goes (ReactorStep reactor (desk_out f o) n) k x (rs ++ t ∷ []) y → AnyStops h (gather (λ z. z.pieces) (rs ++ t ∷ [])) → (k + length rs + 1 ≤ h) ⊎ ((h ≡ k + length rs) × ((c ≡ cause.Memory → ⊥) → IsOwn c → ⊥))
   stop_last n k h x [] t y c told none e g a =
       let Of : Option Cause → Type 0 = λ z. Served reactor (desk_out f o) k g.1.0 z t.pieces g.0 in
@@ -153,7 +153,7 @@ module _ {F S : Type 0} (f : Files F) (o : Sink S) where
         | inr s ↦ absurd s
       ]
   stop_last n k h x (u ∷ rs) t y c told none e g a =
-      let here = none_first u.end (ends rs) none in
+      let here = none_first u.end (answered_ends rs) none in
       let Of : Option Cause → Type 0 = λ z. Served reactor (desk_out f o) k g.1.0 z u.pieces g.0 in
       elim (split_stops h u.pieces (gather (λ (z : ReactorTurn). z.pieces) (rs ++ t ∷ [])) a) [
         | inl s ↦
@@ -165,9 +165,9 @@ module _ {F S : Type 0} (f : Files F) (o : Sink S) where
         ]
       ]
     where
-      after : (ss : List ReactorTurn) → ends ss ≡ [] → (z : Head Run D) → Goes (ReactorStep reactor (desk_out f o) n) (k + 1) z (ss ++ t ∷ []) y → (h ≡ k + 1) × Halts z → Told z → (h ≡ k + length (u ∷ ss)) × ((c ≡ cause.Memory → ⊥) → IsOwn c → ⊥)
+      after : (ss : List ReactorTurn) → answered_ends ss ≡ [] → (z : Head Run D) → Goes (ReactorStep reactor (desk_out f o) n) (k + 1) z (ss ++ t ∷ []) y → (h ≡ k + 1) × Halts z → Told z → (h ≡ k + length (u ∷ ss)) × ((c ≡ cause.Memory → ⊥) → IsOwn c → ⊥)
       after [] unended z go halt faulty = let at = halt.0 in (omega (arith, at), λ other. never_own n (k + 1) z t go.0 c faulty halt.1 e other go.1)
-      after (w ∷ ss) unended z go halt faulty = absurd (stops_now n (k + 1) z w go.0 halt.1 (none_first w.end (ends ss) unended).0 go.1)
+      after (w ∷ ss) unended z go halt faulty = absurd (stops_now n (k + 1) z w go.0 halt.1 (none_first w.end (answered_ends ss) unended).0 go.1)
 
   module _ (m : Machine) (switches : List Switch) where
     abbrev Follows : List Came → Run → Type 0
@@ -186,13 +186,13 @@ module _ {F S : Type 0} (f : Files F) (o : Sink S) where
     none_in None cs e = (refl, e)
     none_in (Some c) cs e = cc
 
-    pub last : (n k : ℕ) (before : List Came) (x : Head Run D) (ts : List ReactorTurn) (t : ReactorTurn) (y : Head Run D) → n ≡ length m.boards → k ≡ length before → ends ts ≡ []
+    pub last : (n k : ℕ) (before : List Came) (x : Head Run D) (ts : List ReactorTurn) (t : ReactorTurn) (y : Head Run D) → n ≡ length m.boards → k ≡ length before → answered_ends ts ≡ []
         → Goes (ReactorStep reactor (desk_out f o) n) k x (ts ++ t ∷ []) y → Follows before x.machine → Told x → Last (came_from before ts) n t y
     last n k before x [] t y count number none g h told =
         let Step : Head Run D → Type 0 = λ z. ReactorStep reactor (desk_out f o) n k x t z in
         record { k = k; number = number; x = x; follows = h; told = told; step = subst Step g.2 g.1 }
     last n k before x (u ∷ ts) t y count number none g h told =
-        let here = none_in u.end (ends ts) none in
+        let here = none_in u.end (answered_ends ts) none in
         let one = reacting.turn (desk_out f o) m switches n k before x u g.0 count number here.0 g.1 h in
         last n (k + 1) (came_in u ∷ before) g.0 ts t y count (let e = number in omega arith) here.1 g.2 one.1 (goes_on n k x u g.0 here.0 g.1)
 

@@ -22,7 +22,7 @@ use Rattle.link_work.proofs.Late.{limits_split}
 use Rattle.host_reactor.specs.declared.ordered.Phase.{Phase}
 use Rattle.host_reactor.specs.declared.ordered.Phase.TheVariants.{Connecting, Running, Stopping}
 use Rattle.host_reactor.specs.Notes.{noted}
-use Rattle.host_reactor.specs.Runs.{Came, known_by, last_turn}
+use Rattle.host_reactor.specs.Runs.{Came, known_by, last_reacted}
 use Rattle.laws_board.specs.turns.Turns.{BoardTurn}
 use Rattle.laws_board.specs.clocks.Runs.{IsInRun, UnitsFit, orders_in}
 use Rattle.laws_board.specs.clocks.Samples.{IsSampled, lines_told}
@@ -108,7 +108,7 @@ module _ (m : Machine) (v : IsValidMachine m) (switches : List Switch) (pins : L
   not_stopping p q line e (inl c) f = let g : Connecting ≡ Stopping line = sym c ∙ sym e ∙ f in cc
   not_stopping p q line e (inr c) f = let g : Running ≡ Stopping line = sym c ∙ sym e ∙ f in cc
 
-  before_on : (c : Came) (before : List Came) → (last_turn m switches c before).ordered.end ≡ None → (line : ℕ) → (known_by m switches before).phase ≡ Stopping line → ⊥
+  before_on : (c : Came) (before : List Came) → (last_reacted m switches c before).ordered.end ≡ None → (line : ℕ) → (known_by m switches before).phase ≡ Stopping line → ⊥
   before_on c before e line f =
       let r = known_by m switches before in
       not_stopping r.phase (noted m c.note r).phase line (sym (noted_phase m c.note r)) (elim (goes m switches r (length before) c.states c.note e) [
@@ -186,7 +186,7 @@ module _ (m : Machine) (v : IsValidMachine m) (switches : List Switch) (pins : L
     pub sampled : IsSampled (clock_of (board_at m b)) all first
     pub early : first.at ≤ ready * turn_ns
 
-  pub first_sampled : (came : List Came) (c : Came) (t : BoardTurn) (turns later : List BoardTurn) (firsts : List Clocks) → Run (c ∷ came) (t ∷ turns) → Connected m (known_by m switches came) (length came) (last_turn m switches c came) firsts
+  pub first_sampled : (came : List Came) (c : Came) (t : BoardTurn) (turns later : List BoardTurn) (firsts : List Clocks) → Run (c ∷ came) (t ∷ turns) → Connected m (known_by m switches came) (length came) (last_reacted m switches c came) firsts
       → IsFirst (later ++ t ∷ turns) (length turns) (clocks_at firsts b).first
   first_sampled came c t turns later firsts r x =
       let clock = clock_of (board_at m b) in
@@ -213,7 +213,7 @@ module _ (m : Machine) (v : IsValidMachine m) (switches : List Switch) (pins : L
 
   -- the steppers
   pub stepper_made : (came : List Came) (c : Came) (t : BoardTurn) (turns : List BoardTurn) (clocks : List Clocks) (all more : List Orders) → Run (c ∷ came) (t ∷ turns)
-      → Connected m (known_by m switches came) (length came) (last_turn m switches c came) clocks → all ≡ orders_in (t ∷ turns) ++ more
+      → Connected m (known_by m switches came) (length came) (last_reacted m switches c came) clocks → all ≡ orders_in (t ∷ turns) ++ more
       → (s : ℕ) → s < length m.steppers → (stepper_at m s).board ≡ b → MakesIn (stepper_at m s).oid (take (length turns) all)
   stepper_made came c t turns clocks all more r x are s low on =
       let running : (known_by m switches (c ∷ came)).phase ≡ Connecting → ⊥ = λ e. let f : Running ≡ Connecting = sym x.then ∙ e in cc in

@@ -14,7 +14,7 @@ use Rattle.host_reactor.specs.declared.ordered.Known.{Known}
 use Rattle.host_reactor.specs.Notes.{noted}
 use Rattle.host_reactor.specs.Reactor.{Reacted}
 use Rattle.host_reactor.specs.Rows.{IsOwn}
-use Rattle.host_reactor.specs.Runs.{Came, known_by, last_turn}
+use Rattle.host_reactor.specs.Runs.{Came, known_by, last_reacted}
 use Rattle.laws_board.proofs.clocks.Turning.{Goes as GoesOn, goes}
 use Rattle.session_work.specs.declared.seat.Seat.{Seat}
 use Rattle.session_work.specs.declared.table.MotionTurn.{MotionTurn}
@@ -94,7 +94,7 @@ none_ends : (m : Machine) (switches : List Switch) (before : List Came) (rs : Li
 none_ends m switches before [] h a = a
 none_ends m switches before (t ∷ rs) h (inl e) =
     let r = known_by m switches before in
-    let x = last_turn m switches (came_in t) before in
+    let x = last_reacted m switches (came_in t) before in
     let on = goes_end m (noted m t.note r) (length before) t.states x (goes m switches r (length before) t.states t.note h.0.goes_on) in
     let f : true ≡ false = sym e ∙ ap (λ (w : WordMsg). w.end) h.0.word_is ∙ on in cc
 none_ends m switches before (t ∷ rs) h (inr a) = none_ends m switches (came_in t ∷ before) rs h.1 a

@@ -22,7 +22,7 @@ use Rattle.session_run.specs.Machines.{planner}
 use Rattle.session_run.specs.Runs.{RunsOver}
 use Rattle.session_run.proofs.First.{count}
 use Rattle.session_run.proofs.Reacting as reacting
-use Rattle.laws_board.specs.plans.Planned.{AreRead, IsPlanning, Plans, Text, nothing_read}
+use Rattle.laws_board.specs.plans.Planned.{AreReadInOrder, IsPlanning, Plans, TextSofar, nothing_read}
 use Rattle.laws_board.proofs.plans.Planning.{plans}
 use Rattle.laws_run.specs.run_headline.Made.{IsMade}
 use Rattle.laws_run.proofs.run_headline.Reading as reading
@@ -48,7 +48,7 @@ module _ {F S : Type 0} (f : Files F) (o : Sink S) (m : Machine) (s : Scene) (na
       reacting.turns (desk_out f o) m s.switches (length r.links) 0 [] (head_at (first_run m s.switches) x) rs (end ∷ []) _ many refl met.2 met.1 (reacting.begins (desk_out f o) m s.switches)
 
   -- the pieces that the planner took are the first ones that were read, so they are the beginning of the file's text
-  text_read : (text : List ℕ) → f.told files name ≡ Some text → kept.at ≡ 0 → AreRead nothing_read r.runs.0 text
+  text_read : (text : List ℕ) → f.told files name ≡ Some text → kept.at ≡ 0 → AreReadInOrder nothing_read r.runs.0 text
   text_read text told at front rest cut =
       let (ts, rs, end, n, x, y, met, logs, happened, has, has') = r.runs in
       let head = head_at (first_run m s.switches) x in
@@ -58,7 +58,7 @@ module _ {F S : Type 0} (f : Files F) (o : Sink S) (m : Machine) (s : Scene) (na
       let put = put_is _ _ _ met.6 in
       let parts : gather (λ (z : ReactorTurn). z.pieces) (rs ++ end ∷ []) ≡ pieces_of front ++ (pieces_of rest ++ met.6.2.0) =
       put ∙ ap (λ z. pieces_of z ++ met.6.2.0) cut ∙ ap (λ z. z ++ met.6.2.0) (pieces_both front rest) ∙ append_assoc (pieces_of front) (pieces_of rest) met.6.2.0 in
-      let Ends : Text → Type 0 = λ z. reading.Ends f o name text z in
+      let Ends : TextSofar → Type 0 = λ z. reading.Ends f o name text z in
       subst Ends (sym (read_in nothing_read front))
       (reading.turns f o name text (length r.links) 0 nothing_read head (rs ++ end ∷ []) (ran_at t y).head (pieces_of front) (pieces_of rest ++ met.6.2.0) met.1 so parts)
     where
@@ -73,7 +73,7 @@ module _ {F S : Type 0} (f : Files F) (o : Sink S) (m : Machine) (s : Scene) (na
       let many : length r.links ≡ length m.boards = count s 0 m.boards r.links r.first in
       let Run : List MotionTurn → Type 0 = λ z. Goes (MotionStep planner (length r.links)) 0 (seated planner r.planning) z met.0.0 in
       let g = goes_cut (MotionStep planner (length r.links)) 0 (seated planner r.planning) met.0.0 front later (subst Run cut met.0.1) in
-      let read : AreRead nothing_read front text = λ a b e. text_read text told at a (b ++ later) (cut ∙ ap (λ z. z ++ later) e ∙ append_assoc a b later) in
+      let read : AreReadInOrder nothing_read front text = λ a b e. text_read text told at a (b ++ later) (cut ∙ ap (λ z. z ++ later) e ∙ append_assoc a b later) in
       let made = plans Planning planner (λ (z : Planning). z.motion) (length r.links) r.planning front g.0 text shows_planner r.fresh g.1 read in
       let Of : Machine → ℕ → Type 0 = λ z i. (p : Plans z i front) × (p.seen.text ≡ text) in
       ∥∥₁_map made (λ w. subst (Of m) many (subst (λ z. Of z (length r.links)) r.printer w))

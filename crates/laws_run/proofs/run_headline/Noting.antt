@@ -14,7 +14,7 @@ use Rattle.msg_code.specs.declared.talk.WordNews.TheVariants as word
 use Rattle.wire_scene.specs.declared.scene.Switch.{Switch}
 use Rattle.host_reactor.specs.declared.ordered.Phase.TheVariants.{Running}
 use Rattle.host_reactor.specs.Reactor.{Reacted}
-use Rattle.host_reactor.specs.Runs.{Came, known_by, last_turn}
+use Rattle.host_reactor.specs.Runs.{Came, known_by, last_reacted}
 use Rattle.laws_board.specs.clocks.Samples.{line_of, lines_told}
 use Rattle.laws_board.proofs.clocks.Lines.{noted_phase}
 use Rattle.laws_board.proofs.clocks.Turning.{goes}
@@ -186,7 +186,7 @@ last_none k n w board line a h = each k n a
     each i (suc j) (inr r) = each (i + 1) j r
 
 -- a word that tells a further line is said in a turn behind connecting
-pub heard_running : (m : Machine) (switches : List Switch) (c : Came) (before : List Came) (board : ℕ) (line : Line) → (last_turn m switches c before).ordered.end ≡ None → WasHeard board line (lines_in (last_turn m switches c before).ordered.word.news)
+pub heard_running : (m : Machine) (switches : List Switch) (c : Came) (before : List Came) (board : ℕ) (line : Line) → (last_reacted m switches c before).ordered.end ≡ None → WasHeard board line (lines_in (last_reacted m switches c before).ordered.word.news)
     → (known_by m switches before).phase ≡ Running
 heard_running m switches c before board line on h =
     let r = known_by m switches before in

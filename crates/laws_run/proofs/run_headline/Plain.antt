@@ -12,7 +12,7 @@ use Rattle.msg_code.specs.declared.talk.State.{State}
 use Rattle.wire_scene.specs.declared.scene.Switch.{Switch}
 use Rattle.axis_homing.specs.Homing.{homing_after, homing_of}
 use Rattle.host_reactor.specs.declared.ordered.Known.{Known}
-use Rattle.host_reactor.specs.Notes.{noted, told, told_all}
+use Rattle.host_reactor.specs.Notes.{noted, known_behind, told_all}
 use Rattle.host_reactor.specs.Reactor.{Reacted, reacts}
 use Rattle.host_reactor.specs.Runs.{Came, GoesOn, known_by}
 use Rattle.laws_board.proofs.clocks.Turning.{Goes, goes}
@@ -95,10 +95,10 @@ all_moves m text begun made first rest kinds put took =
 told_none : (m : Machine) (ns : List NoteNews) (r : Known) → r.homing ≡ None → OfMoves ns → (told_all m ns r).homing ≡ None
 told_none m [] r e h = e
 told_none m (news.Start section kind turn last moving ∷ ns) r e h =
-    told_none m ns (told m r (news.Start section kind turn last moving)) (ap (λ (k : SectionKind). homing_of m section k turn last moving) h.0) h.1
-told_none m (news.Done section turn ∷ ns) r e h = told_none m ns (told m r (news.Done section turn)) e h
-told_none m (news.Read end sections ∷ ns) r e h = told_none m ns (told m r (news.Read end sections)) e h
-told_none m (news.Line board line from ∷ ns) r e h = told_none m ns (told m r (news.Line board line from)) e h
+    told_none m ns (known_behind m r (news.Start section kind turn last moving)) (ap (λ (k : SectionKind). homing_of m section k turn last moving) h.0) h.1
+told_none m (news.Done section turn ∷ ns) r e h = told_none m ns (known_behind m r (news.Done section turn)) e h
+told_none m (news.Read end sections ∷ ns) r e h = told_none m ns (known_behind m r (news.Read end sections)) e h
+told_none m (news.Line board line from ∷ ns) r e h = told_none m ns (known_behind m r (news.Line board line from)) e h
 
 pub noted_none : (m : Machine) (note : Option Note) (r : Known) → r.homing ≡ None → NotesMoves note → (noted m note r).homing ≡ None
 noted_none m None r e h = e

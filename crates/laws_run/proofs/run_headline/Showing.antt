@@ -26,7 +26,7 @@ use Rattle.laws_board.proofs.clocks.Lines.{noted_phase}
 use Rattle.laws_board.specs.causes.Short.{HaveShortDictionaries}
 use Rattle.laws_run.specs.clock_ages.Renewed.{StayYoung}
 use Rattle.laws_run.proofs.clock_ages.Renews.{renews}
-use Rattle.host_reactor.specs.Runs.{Came, known_by, last_turn}
+use Rattle.host_reactor.specs.Runs.{Came, known_by, last_reacted}
 use Rattle.motion_work.specs.Seen.{AreStarted, Started}
 use Rattle.motion_work.specs.Told.{Told}
 use Rattle.session_work.specs.declared.table.MotionTurn.{MotionTurn}
@@ -209,7 +209,7 @@ module _ (m : Machine) (v : IsValidMachine m) (s : Scene) (ts : List MotionTurn)
         let before = came_from [] r.past in
         let Turns : List ReactorTurn → Type 0 = λ z. AreReactorTurns m s.switches [] z in
         let parts = turns_cut m s.switches [] r.past (r.turn ∷ r.later) (subst Turns r.are f.turns) in
-        let x = last_turn m s.switches (came_in r.turn) before in
+        let x = last_reacted m s.switches (came_in r.turn) before in
         let early = before_boards m s.switches [] r.past parts.0 r.is.phase in
         let here : (ls : List Line) × (boards_of r.turn.lines ≡ connected_lines (length before) 0 ls) × (x.ordered.word.news ≡ word.Lines ls ∷ []) = elim (tells_boards m s.switches (known_by m s.switches before) (length before) r.turn.states r.turn.note) [
           | inl q ↦ absurd (let g : Running ≡ Connecting = sym r.is.then ∙ q.1 parts.1.0.goes_on (noted_phase m r.turn.note (known_by m s.switches before) ∙ r.is.phase) in cc)

@@ -31,7 +31,7 @@ use Rattle.host_reactor.specs.declared.ordered.Phase.TheVariants.{Connecting, Ru
 use Rattle.host_reactor.specs.declared.ordered.Reading.{Reading}
 use Rattle.host_reactor.specs.Notes.{is_out, news_of, noted}
 use Rattle.host_reactor.specs.Reactor.{Reacted, after_homing, asks_boards, by_phase, carries_on, cut_line, finishes, is_connected_now, reacts, unless_ended, unless_given_up, unless_homing_ends, unless_late_stale, unless_stale}
-use Rattle.host_reactor.specs.Report.{count_lines, drift_lines, first_lines, machine_line, place_of, pulse_at, pulse_line, pulse_lines, section_line}
+use Rattle.host_reactor.specs.Report.{count_lines, drift_lines, first_lines, machine_line, stepper_place, pulse_at, pulse_line, pulse_lines, section_line}
 use Rattle.host_reactor.specs.Running.{first_cause, is_finished, stop_of}
 use Rattle.host_reactor.specs.Runs.{Came, GoesOn, known_by}
 use Rattle.plan_types.specs.Lines.{Clocks}
@@ -57,10 +57,10 @@ both_parts : (a b : Bool) → (a && b) ≡ true → (a ≡ true) × (b ≡ true)
 both_parts true b e = (refl, e)
 both_parts false b e = cc
 
-found_at : (i b o : ℕ) (ss : List StepperDef) (q : ℕ) → place_of i b o ss ≡ Some q → IsFound i b ss q
+found_at : (i b o : ℕ) (ss : List StepperDef) (q : ℕ) → stepper_place i b o ss ≡ Some q → IsFound i b ss q
 found_at i b o [] q e = cc
 found_at i b o (s ∷ ss) q e = by ((s.board == b) && (s.oid == o)) refl e (found_at (i + 1) b o ss q) where
-  by : (t : Bool) → ((s.board == b) && (s.oid == o)) ≡ t → (if t then Some i else place_of (i + 1) b o ss) ≡ Some q → (place_of (i + 1) b o ss ≡ Some q → IsFound (i + 1) b ss q) → IsFound i b (s ∷ ss) q
+  by : (t : Bool) → ((s.board == b) && (s.oid == o)) ≡ t → (if t then Some i else stepper_place (i + 1) b o ss) ≡ Some q → (stepper_place (i + 1) b o ss ≡ Some q → IsFound (i + 1) b ss q) → IsFound i b (s ∷ ss) q
   by true same here later =
       let at : i ≡ q = cc in
       let own : (s.board == b) ≡ true = (both_parts (s.board == b) (s.oid == o) same).0 in
@@ -81,7 +81,7 @@ pulse_told homes m b p (Some q) found =
 
 state_told : (homes : Bool) (m : Machine) (b : ℕ) (ps : List Pulse) → AreTold homes m (flat_map (pulse_line m b) ps)
 state_told homes m b [] = tt
-state_told homes m b (p ∷ ps) = told_append homes m (pulse_line m b p) (flat_map (pulse_line m b) ps) (pulse_told homes m b p (place_of 0 b p.stepper m.steppers) (λ q e. found_at 0 b p.stepper m.steppers q e)) (state_told homes m b ps)
+state_told homes m b (p ∷ ps) = told_append homes m (pulse_line m b p) (flat_map (pulse_line m b) ps) (pulse_told homes m b p (stepper_place 0 b p.stepper m.steppers) (λ q e. found_at 0 b p.stepper m.steppers q e)) (state_told homes m b ps)
 
 pulses_told : (homes : Bool) (m : Machine) (b : ℕ) (states : List State) → AreTold homes m (pulse_lines m b states)
 pulses_told homes m b [] = tt

@@ -23,13 +23,13 @@ use Rattle.host_reactor.specs.declared.ordered.Known.{Known}
 use Rattle.host_reactor.specs.declared.ordered.Phase.TheVariants.{Connecting, Running}
 use Rattle.host_reactor.specs.Notes.{noted}
 use Rattle.host_reactor.specs.Reactor.{Reacted, homed}
-use Rattle.host_reactor.specs.Runs.{Came, GoesOn, known_by, last_turn}
+use Rattle.host_reactor.specs.Runs.{Came, GoesOn, known_by, last_reacted}
 use Rattle.laws_board.specs.clocks.Samples.{line_at}
 use Rattle.laws_board.proofs.clocks.Lines.{noted_phase}
 use Rattle.laws_board.proofs.clocks.Turning.{Goes, goes}
 use Rattle.motion_work.specs.Further.{noted_lines, told_on}
 use Rattle.motion_work.specs.Told.{Told, are_fit, first_told, is_fit, told_at, told_in, told_of}
-use Rattle.motion_work.specs.Told.{last_turn as last_word}
+use Rattle.motion_work.specs.Told.{word_limit as last_word}
 use Rattle.session_work.specs.declared.table.MotionTurn.{MotionTurn}
 use Rattle.session_work.specs.declared.table.ReactorTurn.{ReactorTurn}
 use Rattle.session_work.specs.Leads.{each_turn, last_words, still_word}
@@ -38,7 +38,7 @@ use Rattle.session_work.specs.Rows.{gather}
 use Rattle.session_run.specs.Boards.{AreReactorTurns, came_from, came_in}
 use Rattle.laws_board.specs.plans.Planned as planned
 use Rattle.laws_board.specs.plans.Answers.{TookNoneAhead}
-use Rattle.laws_board.specs.plans.Planned.{AnyEnds, heard_in}
+use Rattle.laws_board.specs.plans.Planned.{AnyEnds, connecting_heard}
 use Rattle.laws_run.proofs.run_headline.Further.{noted_append}
 
 -- a word is among some
@@ -88,7 +88,7 @@ turns_numbered : (m : Machine) (switches : List Switch) (k : ℕ) (before : List
 turns_numbered m switches k before [] e h = tt
 turns_numbered m switches k before (t ∷ rs) e h =
     let r = known_by m switches before in
-    let x = last_turn m switches (came_in t) before in (
+    let x = last_reacted m switches (came_in t) before in (
       ap (λ (w : WordMsg). w.turn) h.0.word_is ∙ goes_turn m (noted m t.note r) (length before) t.states x (goes m switches r (length before) t.states t.note h.0.goes_on) ∙ e,
       turns_numbered m switches (k + 1) (came_in t ∷ before) rs (omega (arith, e)) h.1,
     )
@@ -124,7 +124,7 @@ abbrev pub news_in : List MotionTurn → List NoteNews
 news_in ts = gather (λ t. t.note.news) ts
 
 -- the lines that were told first hold, and notes tell further ones
-pub heard_on : (m : Machine) (k : ℕ) (ws : List WordMsg) (t : Told) → heard_in m k ws (Some t) ≡ Some t
+pub heard_on : (m : Machine) (k : ℕ) (ws : List WordMsg) (t : Told) → connecting_heard m k ws (Some t) ≡ Some t
 heard_on m k [] t = refl
 heard_on m k (w ∷ ws) t = heard_on m k ws t
 
@@ -135,11 +135,11 @@ told_grows m k (x ∷ ts) t =
     ap (λ o. planned.told_of m (k + 1) ts (told_on x.note.news o)) (heard_on m k x.words t) ∙ told_grows m (k + 1) ts mid
     ∙ ap (λ (cs : List Clocks). Some (record { first = t.first; clocks = cs })) (sym (noted_append x.note.news (news_in ts) t.clocks))
 
-words_tell : (m : Machine) (k i : ℕ) (ws : List WordMsg) (t : Told) → k ≤ i → AreNumbered i ws → heard_in m k ws None ≡ Some t → (w : WordMsg) × Among w ws × Tells m t.clocks t.first w
+words_tell : (m : Machine) (k i : ℕ) (ws : List WordMsg) (t : Told) → k ≤ i → AreNumbered i ws → connecting_heard m k ws None ≡ Some t → (w : WordMsg) × Among w ws × Tells m t.clocks t.first w
 words_tell m k i [] t late n e = absurd (let f : None ≡ Some t = e in cc)
 words_tell m k i (w ∷ ws) t late n e = by (told_of m w) refl (λ f. words_tell m k (i + 1) ws t (omega (arith, late)) n.1 f) e
   where
-    by : (o : Option (List Clocks)) → told_of m w ≡ o → (heard_in m k ws None ≡ Some t → (x : WordMsg) × Among x ws × Tells m t.clocks t.first x) → heard_in m k ws (told_at (max k w.turn) o) ≡ Some t
+    by : (o : Option (List Clocks)) → told_of m w ≡ o → (connecting_heard m k ws None ≡ Some t → (x : WordMsg) × Among x ws × Tells m t.clocks t.first x) → connecting_heard m k ws (told_at (max k w.turn) o) ≡ Some t
         → (x : WordMsg) × Among x (w ∷ ws) × Tells m t.clocks t.first x
     by None is rec f = let r = rec f in (r.0, inr r.1, r.2)
     by (Some clocks) is rec f =
@@ -174,9 +174,9 @@ pub turns_tell : (m : Machine) (k taken : ℕ) (ts : List MotionTurn) (t : Told)
     → HeardIn m k ts t
 turns_tell m k taken [] t late in_time range ahead n e = absurd (let f : None ≡ Some t = e in cc)
 turns_tell m k taken (x ∷ ts) t late in_time range ahead n e =
-    by (heard_in m k x.words None) refl in_time.2 (λ here later rest parts f. turns_tell m (k + 1) (taken + length x.words) ts t (omega (arith, here)) later rest ahead.1 parts f) range.0 range.1 e
+    by (connecting_heard m k x.words None) refl in_time.2 (λ here later rest parts f. turns_tell m (k + 1) (taken + length x.words) ts t (omega (arith, here)) later rest ahead.1 parts f) range.0 range.1 e
   where
-    by : (o : Option Told) → heard_in m k x.words None ≡ o → planned.TookInTime m (k + 1) (taken + length x.words) ts (told_on x.note.news o)
+    by : (o : Option Told) → connecting_heard m k x.words None ≡ o → planned.TookInTime m (k + 1) (taken + length x.words) ts (told_on x.note.news o)
         → (k < taken + length x.words → planned.TookInTime m (k + 1) (taken + length x.words) ts None → planned.AllInRange m (k + 1) ts None → AreNumbered (taken + length x.words) (gather (λ y. y.words) ts) → planned.told_of m (k + 1) ts None ≡ Some t → HeardIn m (k + 1) ts t)
         → planned.BeginInRange m o → planned.AllInRange m (k + 1) ts (told_on x.note.news o)
         → planned.told_of m (k + 1) ts (told_on x.note.news o) ≡ Some t → HeardIn m k (x ∷ ts) t
@@ -236,8 +236,8 @@ pub record Said (m : Machine) (switches : List Switch) (before : List Came) (rs 
   pub turn : ReactorTurn
   pub later : List ReactorTurn
   pub are : rs ≡ past ++ turn ∷ later
-  pub word_is : w ≡ (last_turn m switches (came_in turn) (came_from before past)).ordered.word
-  pub goes_on : (last_turn m switches (came_in turn) (came_from before past)).ordered.end ≡ None
+  pub word_is : w ≡ (last_reacted m switches (came_in turn) (came_from before past)).ordered.word
+  pub goes_on : (last_reacted m switches (came_in turn) (came_from before past)).ordered.end ≡ None
   pub went_on : GoesOn m switches (came_from before past)
   pub number : w.turn ≡ length (came_from before past)
 
@@ -245,7 +245,7 @@ pub said : (m : Machine) (switches : List Switch) (before : List Came) (rs : Lis
 said m switches before [] w g h a = absurd a
 said m switches before (r ∷ rs) w g h (inl e) =
     let known = known_by m switches before in
-    let x = last_turn m switches (came_in r) before in
+    let x = last_reacted m switches (came_in r) before in
     record {
       past = [];
       turn = r;
@@ -316,11 +316,11 @@ goes_tell m r k states x clocks (inr (inr a)) e =
     let cut = (homing_turn r.clocks k states r.homing).cut in
     absurd (none_of m (nat_lt k last_word) k (homed cut ++ news) clocks (homed_none m k cut news ∙ new_none m k 0 r.askings.items askings) (subst At a.is e))
 
-pub connected : (m : Machine) (switches : List Switch) (c : Came) (before : List Came) (clocks : List Clocks) → (last_turn m switches c before).ordered.end ≡ None → told_of m (last_turn m switches c before).ordered.word ≡ Some clocks
-    → Connected m (known_by m switches before) (length before) (last_turn m switches c before) clocks
+pub connected : (m : Machine) (switches : List Switch) (c : Came) (before : List Came) (clocks : List Clocks) → (last_reacted m switches c before).ordered.end ≡ None → told_of m (last_reacted m switches c before).ordered.word ≡ Some clocks
+    → Connected m (known_by m switches before) (length before) (last_reacted m switches c before) clocks
 connected m switches c before clocks h e =
     let r = known_by m switches before in
-    let x = last_turn m switches c before in
+    let x = last_reacted m switches c before in
     let d = goes_tell m (noted m c.note r) (length before) c.states x clocks (goes m switches r (length before) c.states c.note h) e in
     record { phase = sym (noted_phase m c.note r) ∙ d.phase; then = d.then; lines = d.lines; news = d.news; turn = d.turn; fit = d.fit; clocks_are = d.clocks_are }
 

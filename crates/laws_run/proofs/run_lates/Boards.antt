@@ -11,7 +11,7 @@ use Rattle.session_work.specs.declared.table.MotionTurn.{MotionTurn}
 use Rattle.session_work.specs.declared.table.ReactorTurn.{ReactorTurn}
 use Rattle.session_run.specs.Boards.{came_from}
 use Rattle.laws_board.specs.sections.Homes.{IsHomeBoard}
-use Rattle.laws_run.specs.lanes.Boards.{IsInWhole, behind}
+use Rattle.laws_run.specs.lanes.Boards.{IsInWhole, turns_behind}
 use Rattle.laws_board.specs.plans.Lines.{TookNotes}
 use Rattle.laws_board.specs.plans.Planned.{Plans}
 use Rattle.laws_board.proofs.plans.Running.{started_in}
@@ -62,11 +62,11 @@ module _ (m : Machine) (v : IsValidMachine m) (s : Scene) (ts : List MotionTurn)
 
   module _ (b : ℕ) (h : b < length m.boards) (w : IsInWhole m s.switches b (clock_of (board_at m b)) (link_of m s b) ts first (rest ++ end ∷ [])) where
     -- the lines of a board are samples
-    pub sampled : Lined m v s ts p t first rest end told b (behind [] w.made) By
+    pub sampled : Lined m v s ts p t first rest end told b (turns_behind [] w.made) By
     sampled = lined m v s ts p t first rest end told b turn w h
 
     -- what a board was sent
-    pub homing : Homing m v s ts p t first rest end told (length p.made) b turn (behind [] w.made)
+    pub homing : Homing m v s ts p t first rest end told (length p.made) b turn (turns_behind [] w.made)
     homing = homing_so m v s ts p t first rest end told (length p.made) f.ahead b f.words_left w turn h f.turns f.words front_notes (omega arith) (inr (omega arith)) (few m v s ts p end c first rest f) (lines b h) sound formed (range b h)
 
     -- and what it did, where it keeps up

@@ -30,7 +30,7 @@ use Rattle.session_run.specs.declared.tell.Kept.{Kept}
 use Rattle.session_run.specs.Boards.{came_from}
 use Rattle.session_run.specs.Runs.{RunsOver}
 use Rattle.laws_board.specs.sections.Ends.{MayBe}
-use Rattle.laws_run.specs.lanes.Boards.{IsInWhole, behind, orders_of}
+use Rattle.laws_run.specs.lanes.Boards.{IsInWhole, turns_behind, orders_of}
 use Rattle.laws_board.specs.plans.Given.{TookControls}
 use Rattle.laws_board.specs.plans.Planned.{Plans}
 use Rattle.laws_homing.specs.home_parts.Cuts.{cuts_on}
@@ -59,30 +59,30 @@ module _ (m : Machine) (v : IsValidMachine m) (s : Scene) (ts : List MotionTurn)
       all_moves m p.seen.text p.seen.begun p.made first rest (subst Of (sym e) (All-nil (λ (x : Started). x.section.kind ≡ Moves))) p.put (notes_before m v s ts p end c first rest f)
 
   module _ (b : ℕ) (low : b < length m.boards) (w : IsInWhole m s.switches b (clock_of (board_at m b)) (link_of m s b) ts first (rest ++ end ∷ [])) where
-    run : IsInRun m s.switches (pins_of (board_at m b) b s.switches) s.entries b (came_from [] (first ∷ rest)) (behind [] w.made)
+    run : IsInRun m s.switches (pins_of (board_at m b) b s.switches) s.entries b (came_from [] (first ∷ rest)) (turns_behind [] w.made)
     run =
-        let In : List Came → Type 0 = λ x. IsInRun m s.switches (pins_of (board_at m b) b s.switches) s.entries b x (behind [] w.made) in
+        let In : List Came → Type 0 = λ x. IsInRun m s.switches (pins_of (board_at m b) b s.switches) s.entries b x (turns_behind [] w.made) in
         subst In (came_cut [] first rest end) (record { board = low; goes_on = w.goes_on; turns_are = w.turns_are; both = w.both; in_range = w.in_range })
 
     -- where no section was begun, nothing homes and no units are sent
-    pub none_controls : p.seen.begun ≡ [] → TookControls (orders_in (behind [] w.made))
-    none_controls e = controlled m v s.switches (pins_of (board_at m b) b s.switches) s.entries b (came_from [] (first ∷ rest)) (behind [] w.made) run (none_moves e)
+    pub none_controls : p.seen.begun ≡ [] → TookControls (orders_in (turns_behind [] w.made))
+    none_controls e = controlled m v s.switches (pins_of (board_at m b) b s.switches) s.entries b (came_from [] (first ∷ rest)) (turns_behind [] w.made) run (none_moves e)
 
-    pub none_sent : p.seen.begun ≡ [] → NoUnits (orders_in (behind [] w.made))
+    pub none_sent : p.seen.begun ≡ [] → NoUnits (orders_in (turns_behind [] w.made))
     none_sent e = let None_in : List Orders → Type 0 = λ x. NoUnits x in subst None_in (sym w.in_order) (unbegun m ts p b (orders_of w.made) low e w.batches)
 
     abbrev End_state : BoardState
-    End_state = (stands_after (link_of m s b) (behind [] w.made)).core.board.controller.state
+    End_state = (stands_after (link_of m s b) (turns_behind [] w.made)).core.board.controller.state
 
     pub none_may : p.seen.begun ≡ [] → (z : BoardState) → End_state ≡ z → MayBe z
     none_may e Running is = tt
-    none_may e (Shut reason tick at) is = inr (controls_may (board_at m b) (pins_of (board_at m b) b s.switches) b s.entries (behind [] w.made) reason tick at w.turns_are (none_sent e) (none_controls e) is)
+    none_may e (Shut reason tick at) is = inr (controls_may (board_at m b) (pins_of (board_at m b) b s.switches) b s.entries (turns_behind [] w.made) reason tick at w.turns_are (none_sent e) (none_controls e) is)
 
     told_may : HaveShortDictionaries m → AllKeepUp m s p.seen.text ts (first ∷ (rest ++ end ∷ [])) → (t : Told) → p.seen.told ≡ Some t → p.seen.begun ≢ [] → MayBe End_state
     told_may short little t told some =
         let k = boards.on m v s ts p t first rest end c told f short b low w (little p b refl some low w) in
-        may_at b s.entries (boards.By m v s ts p t first rest end c told f short) (length (rest ++ end ∷ [])) (cuts_on m t.clocks (length p.made) p.seen.begun b) (here_by m v s ts p t first rest end told (length p.made) b w) (stands_after (link_of m s b) (behind [] w.made)) k
-        (turns_in_order (clock_of (board_at m b)) (link_of m s b) (behind [] w.made) w.turns_are)
+        may_at b s.entries (boards.By m v s ts p t first rest end c told f short) (length (rest ++ end ∷ [])) (cuts_on m t.clocks (length p.made) p.seen.begun b) (here_by m v s ts p t first rest end told (length p.made) b w) (stands_after (link_of m s b) (turns_behind [] w.made)) k
+        (turns_in_order (clock_of (board_at m b)) (link_of m s b) (turns_behind [] w.made) w.turns_are)
 
     pub may : HaveShortDictionaries m → AllKeepUp m s p.seen.text ts (first ∷ (rest ++ end ∷ [])) → (o : Option Told) (begun : List Started) → p.seen.told ≡ o → p.seen.begun ≡ begun → MayBe End_state
     may short little None begun e are = none_may (not_told m v s ts p end c e) End_state refl
@@ -90,7 +90,7 @@ module _ (m : Machine) (v : IsValidMachine m) (s : Scene) (ts : List MotionTurn)
     may short little (Some t) (x ∷ begun) e are = told_may short little t e (λ none. in_none [] x begun p.seen.begun none are)
 
   -- so each of their states tells of none but these
-  pub all_tell : ((b : ℕ) → b < length m.boards → (w : IsInWhole m s.switches b (clock_of (board_at m b)) (link_of m s b) ts first (rest ++ end ∷ [])) → MayBe (stands_after (link_of m s b) (behind [] w.made)).core.board.controller.state) → AllMayTell (first ∷ (rest ++ end ∷ []))
+  pub all_tell : ((b : ℕ) → b < length m.boards → (w : IsInWhole m s.switches b (clock_of (board_at m b)) (link_of m s b) ts first (rest ++ end ∷ [])) → MayBe (stands_after (link_of m s b) (turns_behind [] w.made)).core.board.controller.state) → AllMayTell (first ∷ (rest ++ end ∷ []))
   all_tell may =
       let none : first.states ≡ [] = elim f.turns.0.row [ inl a ↦ a.1 | inr a ↦ absurd (omega (arith, a.0)) ] in
       let States : List State → Type 0 = λ xs. All (λ s. MayTell s) xs in

@@ -22,9 +22,9 @@ use Rattle.wire_scene.specs.declared.scene.Scene.{Scene}
 use Rattle.board_sim.specs.Board.{timer_too_close}
 use Rattle.board_world.specs.World.{AllFair, Core}
 use Rattle.board_world.proofs.Causes.{was_shut}
-use Rattle.link_work.specs.Held.{IsCounted, late_by, lead_of, told_by}
+use Rattle.link_work.specs.Held.{IsCounted, late_by, lead_of, spill_told}
 use Rattle.link_work.specs.Late.{turn_steps}
-use Rattle.link_work.specs.Stands.{Seen, orders}
+use Rattle.link_work.specs.Stands.{SeenLink, orders}
 use Rattle.link_work.specs.Switches.{pins_of}
 use Rattle.link_work.specs.Turn.{LinkState, Orders}
 use Rattle.link_work.proofs.Answered.{begins}
@@ -60,7 +60,7 @@ use Rattle.session_run.specs.Boards.{came_from}
 use Rattle.session_run.specs.Links as links
 use Rattle.session_run.specs.Machines.{link, planner, reactor}
 use Rattle.session_run.specs.Runs.{IsFirstLink, RunsOver}
-use Rattle.laws_run.specs.lanes.Boards.{IsInWhole, behind, orders_of, states_of}
+use Rattle.laws_run.specs.lanes.Boards.{IsInWhole, turns_behind, orders_of, states_of}
 use Rattle.laws_run.specs.run_ends.Ends.{EndsSo}
 use Rattle.laws_run.proofs.run_ends.Ending.{ends_so}
 use Rattle.laws_run.specs.run_headline.Timely.{link_of}
@@ -127,11 +127,11 @@ late_is j b first arrival spoiled spill (s ∷ states) e = by_state j b first ar
 
 -- what the lanes of a board carried, and the turns of its link
 pub record Logged (m : Machine) (s : Scene) (b : ℕ) (ts : List MotionTurn) (rs : List ReactorTurn) (end : ReactorTurn) : Type 0 where
-  pub first : Seen
+  pub first : SeenLink
   pub is : IsFirstLink s b (board_at m b) first
   pub us : List LinkTurn
-  pub last : Seen × Bool
-  pub goes : Goes (LinkStep links.Turns) 0 (first, false) us last
+  pub last : SeenLink × Bool
+  pub goes : Goes (LinkStep links.TurnsLink) 0 (first, false) us last
   pub put_on : List Control
   pub taken_on : List Control
   pub controls : gather (λ t. item b t.controls) rs ++ put_on ≡ gather (λ u. u.control ∷ []) us ++ taken_on
@@ -141,14 +141,14 @@ pub record Logged (m : Machine) (s : Scene) (b : ℕ) (ts : List MotionTurn) (rs
   pub states : gather (λ u. u.state ∷ []) us ≡ gather (λ t. item b t.states) (rs ++ end ∷ []) ++ told_on
 
 module _ {F S : Type 0} (f : Files F) (o : Sink S) where
-  log_at : (ts : List MotionTurn) (rs : List ReactorTurn) (end : ReactorTurn) (n j b i : ℕ) (ss : List Seen) (xs : List LinkLog) (s : Seen) → AreLogs planner link reactor (desk_out f o) ts rs end n j ss xs → j + b ≡ i → item b ss ≡ s ∷ []
+  log_at : (ts : List MotionTurn) (rs : List ReactorTurn) (end : ReactorTurn) (n j b i : ℕ) (ss : List SeenLink) (xs : List LinkLog) (s : SeenLink) → AreLogs planner link reactor (desk_out f o) ts rs end n j ss xs → j + b ≡ i → item b ss ≡ s ∷ []
       → (x : LinkLog) × IsLog planner link reactor (desk_out f o) ts rs end n i s x
   log_at ts rs end n j b i [] xs s logs e at = absurd (let g : [] ≡ s ∷ [] = at in cc)
   log_at ts rs end n j b i (y ∷ ss) [] s logs e at = absurd logs
   log_at ts rs end n j zero i (y ∷ ss) (x ∷ xs) s logs e at =
       let same : y ≡ s = item_same y s at in
       let place : j ≡ i = omega (arith, e) in
-      (x, subst (λ (k : ℕ). IsLog planner link reactor (desk_out f o) ts rs end n k s x) place (subst (λ (z : Seen). IsLog planner link reactor (desk_out f o) ts rs end n j z x) same logs.0))
+      (x, subst (λ (k : ℕ). IsLog planner link reactor (desk_out f o) ts rs end n k s x) place (subst (λ (z : SeenLink). IsLog planner link reactor (desk_out f o) ts rs end n j z x) same logs.0))
   log_at ts rs end n j (suc b) i (y ∷ ss) (x ∷ xs) s logs e at = log_at ts rs end n (j + 1) b i ss xs s logs.1 (omega (arith, e)) at
 
   pub logged : (m : Machine) (s : Scene) (name : List ℕ) (files files' : F) (out out' : S) (kept kept' : Kept) (t : Told Run) (r : RunsOver f o m s name files out kept t files' out' kept') (b : ℕ) → b < length m.boards → Logged m s b r.runs.0 r.runs.1 r.runs.2
@@ -184,9 +184,9 @@ module _ (m : Machine) (v : IsValidMachine m) (s : Scene) (ts : List MotionTurn)
     many = took_long b (rest ++ end ∷ []) (states_of w.made) w.states
 
     -- the last turn of the board
-    pub at_end : IsLast (clock_of (board_at m b)) (behind [] w.made)
+    pub at_end : IsLast (clock_of (board_at m b)) (turns_behind [] w.made)
     at_end =
-        let Both : List Came → Type 0 = λ x. IsBoardOf m s.switches b x (behind [] w.made) in
+        let Both : List Came → Type 0 = λ x. IsBoardOf m s.switches b x (turns_behind [] w.made) in
         let size = length-map w.made (λ (x : BoardTurn). x.state) in
         let long : length (first ∷ rest) ≡ length w.made = (let a = many in let e = length-append rest (end ∷ []) in omega (arith, a, e, size)) in
         let put = controls_put m s.switches b [] [] (first ∷ rest) w.made long f.turns (subst Both (came_cut [] first rest end) w.both) in
@@ -259,7 +259,7 @@ module _ (m : Machine) (v : IsValidMachine m) (s : Scene) (ts : List MotionTurn)
       ran =
           let Run : List Came → List BoardTurn → Type 0 = λ y z. IsInRun m s.switches Pins s.entries b y z in
           ran_by (came_from [] (first ∷ rest)) (subst (λ z. Run (came_from [] (first ∷ rest)) z) at_end.are
-          (subst (λ y. Run y (behind [] w.made)) (came_cut [] first rest end) (record { board = low; goes_on = w.goes_on; turns_are = w.turns_are; both = w.both; in_range = w.in_range })))
+          (subst (λ y. Run y (turns_behind [] w.made)) (came_cut [] first rest end) (record { board = low; goes_on = w.goes_on; turns_are = w.turns_are; both = w.both; in_range = w.in_range })))
 
       found : Found (AllFair Link_before.core (turn_steps Clock (length Past) Now turns_are.0.0.resent Link_before)) Link_before.core Last_turn.after.core timer_too_close arrival due × (arrival ≡ board_tick Clock (length Past))
       found =
@@ -271,7 +271,7 @@ module _ (m : Machine) (v : IsValidMachine m) (s : Scene) (ts : List MotionTurn)
           let Counted : Option ShutNews → Type 0 = λ z. IsCounted (lead_of Clock.drift) (spoiled_by Past Last_turn) (held_by Past Last_turn) z in
           let told_is = subst Counted told at_end.counted in
           let counts = λ (a : ℕ). late_by (lead_of Clock.drift) (spoiled_by Past Last_turn) a (held_by Past Last_turn) in
-          (λ i. (sym x.spoiled_is i, sym x.spill_is i)) ∙ told_is ∙ ap (λ z. told_by z (counts x.news.first)) (ap (λ n. n == timer_too_close) x.reason) ∙ ap counts x.first_is
+          (λ i. (sym x.spoiled_is i, sym x.spill_is i)) ∙ told_is ∙ ap (λ z. spill_told z (counts x.news.first)) (ap (λ n. n == timer_too_close) x.reason) ∙ ap counts x.first_is
 
       pub comes_late : ComesLate m s b due arrival spoiled spill ts first (rest ++ end ∷ [])
       comes_late =

@@ -9,7 +9,7 @@ use Rattle.msg_code.specs.declared.unit.Control.{Control}
 use Rattle.wire_scene.specs.declared.scene.Switch.{Switch}
 use Rattle.link_work.specs.Ends.{Ended, is_idle, is_quiet, spoiled_turns}
 use Rattle.link_work.specs.Held.{IsCounted, held_in, hold, lead_of, spoiled_with}
-use Rattle.link_work.specs.Stands.{Seen, StandsFor, orders}
+use Rattle.link_work.specs.Stands.{SeenLink, StandsFor, orders}
 use Rattle.link_work.specs.Turn.{IsTurn, LinkState}
 use Rattle.link_work.proofs.Bounds.{idle_is, is_idle_where}
 use Rattle.link_work.proofs.Spilled.{counted_as, held_grows}
@@ -26,24 +26,24 @@ use Rattle.session_work.specs.Turns.{Goes}
 use Rattle.session_run.specs.Boards.{AreReactorTurns, came_from, came_in}
 use Rattle.session_run.specs.Links as links
 use Rattle.host_reactor.specs.Runs.{Came}
-use Rattle.laws_run.specs.lanes.Boards.{behind, states_of}
+use Rattle.laws_run.specs.lanes.Boards.{turns_behind, states_of}
 use Rattle.laws_board.specs.plans.Boards.{TookStates}
 use Rattle.laws_run.proofs.lanes.Items.{item_control}
 use Rattle.laws_run.specs.run_lates.Late.{held_by, spoiled_by}
 
 -- turns in front of others
-pub are_front : (clock : BoardClock) (begin : LinkState) (turns made : List BoardTurn) → AreBoardTurns clock begin (behind turns made) → AreBoardTurns clock begin turns
+pub are_front : (clock : BoardClock) (begin : LinkState) (turns made : List BoardTurn) → AreBoardTurns clock begin (turns_behind turns made) → AreBoardTurns clock begin turns
 are_front clock begin turns [] a = a
 are_front clock begin turns (t ∷ made) a = (are_front clock begin (t ∷ turns) made a).1
 
-both_front : (m : Machine) (switches : List Switch) (b : ℕ) (before : List Came) (turns : List BoardTurn) (rs : List ReactorTurn) (made : List BoardTurn) → length rs ≡ length made → IsBoardOf m switches b (came_from before rs) (behind turns made) → IsBoardOf m switches b before turns
+both_front : (m : Machine) (switches : List Switch) (b : ℕ) (before : List Came) (turns : List BoardTurn) (rs : List ReactorTurn) (made : List BoardTurn) → length rs ≡ length made → IsBoardOf m switches b (came_from before rs) (turns_behind turns made) → IsBoardOf m switches b before turns
 both_front m switches b before turns [] [] e k = k
 both_front m switches b before turns [] (t ∷ made) e k = absurd (omega (arith, e))
 both_front m switches b before turns (r ∷ rs) [] e k = absurd (omega (arith, e))
 both_front m switches b before turns (r ∷ rs) (t ∷ made) e k = (both_front m switches b (came_in r ∷ before) (t ∷ turns) rs made (omega (arith, e)) k).2
 
 -- the reactor put the controls that the board took
-pub controls_put : (m : Machine) (switches : List Switch) (b : ℕ) (before : List Came) (turns : List BoardTurn) (rs : List ReactorTurn) (made : List BoardTurn) → length rs ≡ length made → AreReactorTurns m switches before rs → IsBoardOf m switches b (came_from before rs) (behind turns made)
+pub controls_put : (m : Machine) (switches : List Switch) (b : ℕ) (before : List Came) (turns : List BoardTurn) (rs : List ReactorTurn) (made : List BoardTurn) → length rs ≡ length made → AreReactorTurns m switches before rs → IsBoardOf m switches b (came_from before rs) (turns_behind turns made)
     → gather (λ t. item b t.controls) rs ≡ map (λ t. t.control) made
 controls_put m switches b before turns [] [] e are k = refl
 controls_put m switches b before turns [] (t ∷ made) e are k = absurd (omega (arith, e))
@@ -81,7 +81,7 @@ pub record IsLast (clock : BoardClock) (turns : List BoardTurn) : Type 0 where
 
 module _ (clock : BoardClock) (begin : LinkState) where
   -- how a link stands behind some turns of its board
-  pub record Stays (turns : List BoardTurn) (x : Seen) : Type 0 where
+  pub record Stays (turns : List BoardTurn) (x : SeenLink) : Type 0 where
     pub stands : StandsFor x (stands_after begin turns)
     pub clock_is : x.clock ≡ clock
     pub spoiled : x.spoiled ≡ spoiled_turns (ends_in turns)
@@ -92,11 +92,11 @@ module _ (clock : BoardClock) (begin : LinkState) where
   ends_length (t ∷ before) = omega (arith, length-append (ends_in before) (record { turn = length before; link = t.after } ∷ []), ends_length before)
 
   -- one more turn
-  record Passes (turns : List BoardTurn) (t : BoardTurn) (y : Seen) : Type 0 where
+  record Passes (turns : List BoardTurn) (t : BoardTurn) (y : SeenLink) : Type 0 where
     pub next : Stays (t ∷ turns) y
     pub counted : IsCounted (lead_of clock.drift) (spoiled_by turns t) (held_by turns t) t.state.shut
 
-  passes : (turns : List BoardTurn) (t : BoardTurn) (x y : Seen) (k : ℕ) → k ≡ length turns → Stays turns x → AreBoardTurns clock begin (t ∷ turns) → links.Turns x k t.control t.batch t.state y → Passes turns t y
+  passes : (turns : List BoardTurn) (t : BoardTurn) (x y : SeenLink) (k : ℕ) → k ≡ length turns → Stays turns x → AreBoardTurns clock begin (t ∷ turns) → links.TurnsLink x k t.control t.batch t.state y → Passes turns t y
   passes turns t x y k at st are h =
       let o = orders t.control t.batch in
       let l = stands_after begin turns in
@@ -126,17 +126,17 @@ module _ (clock : BoardClock) (begin : LinkState) where
       }
 
   -- the first of some turns, with what was put and taken
-  record Stepped (turns made : List BoardTurn) (t : BoardTurn) (k : ℕ) (us : List LinkTurn) (e : Seen × Bool) (put_on taken_on : List Control) (left rest : List Batch) (told_on : List State) : Type 0 where
-    pub y : Seen
+  record Stepped (turns made : List BoardTurn) (t : BoardTurn) (k : ℕ) (us : List LinkTurn) (e : SeenLink × Bool) (put_on taken_on : List Control) (left rest : List Batch) (told_on : List State) : Type 0 where
+    pub y : SeenLink
     pub passes : Passes turns t y
     pub more : List LinkTurn
-    pub goes : Goes (LinkStep links.Turns) (k + 1) (y, false) more e
+    pub goes : Goes (LinkStep links.TurnsLink) (k + 1) (y, false) more e
     pub controls : map (λ t. t.control) made ++ put_on ≡ gather (λ u. u.control ∷ []) more ++ taken_on
     pub batches : map (λ t. t.batch) made ++ rest ≡ gather (λ u. u.batch ∷ []) more ++ left
     pub states : gather (λ u. u.state ∷ []) more ≡ states_of made ++ told_on
 
-  step : (turns made : List BoardTurn) (t : BoardTurn) (x : Seen) (k : ℕ) (us : List LinkTurn) (e : Seen × Bool) (put_on taken_on : List Control) (left rest : List Batch) (told_on : List State) → k ≡ length turns → Stays turns x → AreBoardTurns clock begin (t ∷ turns)
-      → Goes (LinkStep links.Turns) k (x, false) us e → map (λ t. t.control) (t ∷ made) ++ put_on ≡ gather (λ u. u.control ∷ []) us ++ taken_on → map (λ t. t.batch) (t ∷ made) ++ rest ≡ gather (λ u. u.batch ∷ []) us ++ left
+  step : (turns made : List BoardTurn) (t : BoardTurn) (x : SeenLink) (k : ℕ) (us : List LinkTurn) (e : SeenLink × Bool) (put_on taken_on : List Control) (left rest : List Batch) (told_on : List State) → k ≡ length turns → Stays turns x → AreBoardTurns clock begin (t ∷ turns)
+      → Goes (LinkStep links.TurnsLink) k (x, false) us e → map (λ t. t.control) (t ∷ made) ++ put_on ≡ gather (λ u. u.control ∷ []) us ++ taken_on → map (λ t. t.batch) (t ∷ made) ++ rest ≡ gather (λ u. u.batch ∷ []) us ++ left
       → gather (λ u. u.state ∷ []) us ≡ states_of (t ∷ made) ++ told_on → Stepped turns made t k us e put_on taken_on left rest told_on
   step turns made t x k [] e put_on taken_on left rest told_on at st here goes controls batches states = absurd (none_cons t.state (states_of made ++ told_on) states)
   step turns made t x k (u ∷ us) e put_on taken_on left rest told_on at st here goes controls batches states =
@@ -147,14 +147,14 @@ module _ (clock : BoardClock) (begin : LinkState) where
       let one = goes.1 in
       elim one.1 [
         | inl on_time ↦
-            let Turned : Control × Batch × State → Type 0 = λ z. links.Turns x k z.0 z.1 z.2 goes.0.0 in
+            let Turned : Control × Batch × State → Type 0 = λ z. links.TurnsLink x k z.0 z.1 z.2 goes.0.0 in
             let h = subst Turned (λ i. (sym c.0 i, sym d.0 i, s.0 i)) on_time.3 in
             let next : goes.0 ≡ (goes.0.0, false) = (λ i. (goes.0.0, on_time.1 i)) in
             record {
               y = goes.0.0;
               passes = passes turns t x goes.0.0 k at st here h;
               more = us;
-              goes = subst (λ (z : Seen × Bool). Goes (LinkStep links.Turns) (k + 1) z us e) next goes.2;
+              goes = subst (λ (z : SeenLink × Bool). Goes (LinkStep links.TurnsLink) (k + 1) z us e) next goes.2;
               controls = c.1;
               batches = d.1;
               states = s.1;
@@ -164,9 +164,9 @@ module _ (clock : BoardClock) (begin : LinkState) where
             absurd (true_false (sym bare ∙ out))
       ]
 
-  pub walk : (turns made : List BoardTurn) (x : Seen) (k : ℕ) (us : List LinkTurn) (e : Seen × Bool) (put_on taken_on : List Control) (left rest : List Batch) (told_on : List State) → k ≡ length turns → Stays turns x → AreBoardTurns clock begin (behind turns made)
-      → Goes (LinkStep links.Turns) k (x, false) us e → map (λ t. t.control) made ++ put_on ≡ gather (λ u. u.control ∷ []) us ++ taken_on → map (λ t. t.batch) made ++ rest ≡ gather (λ u. u.batch ∷ []) us ++ left
-      → gather (λ u. u.state ∷ []) us ≡ states_of made ++ told_on → 0 < length made → IsLast clock (behind turns made)
+  pub walk : (turns made : List BoardTurn) (x : SeenLink) (k : ℕ) (us : List LinkTurn) (e : SeenLink × Bool) (put_on taken_on : List Control) (left rest : List Batch) (told_on : List State) → k ≡ length turns → Stays turns x → AreBoardTurns clock begin (turns_behind turns made)
+      → Goes (LinkStep links.TurnsLink) k (x, false) us e → map (λ t. t.control) made ++ put_on ≡ gather (λ u. u.control ∷ []) us ++ taken_on → map (λ t. t.batch) made ++ rest ≡ gather (λ u. u.batch ∷ []) us ++ left
+      → gather (λ u. u.state ∷ []) us ≡ states_of made ++ told_on → 0 < length made → IsLast clock (turns_behind turns made)
   walk turns [] x k us e put_on taken_on left rest told_on at st are goes controls batches states some = absurd (omega (arith, some))
   walk turns (t ∷ []) x k us e put_on taken_on left rest told_on at st are goes controls batches states some =
       let r = step turns [] t x k us e put_on taken_on left rest told_on at st are goes controls batches states in

@@ -58,7 +58,7 @@ use Rattle.laws_board.proofs.sections.Seeking.{Among}
 use Rattle.laws_board.proofs.orders.Going.{own_on}
 use Rattle.laws_homing.proofs.home_runs.Along.{one_end}
 use Rattle.laws_homing.specs.home_parts.Cuts.{cuts_on}
-use Rattle.laws_run.specs.lanes.Boards.{behind}
+use Rattle.laws_run.specs.lanes.Boards.{turns_behind}
 use Rattle.laws_board.specs.plans.Homed.{runs_on}
 use Rattle.laws_board.specs.plans.Planned.{Plans}
 use Rattle.laws_board.specs.causes.Short.{HaveShortDictionaries}
@@ -139,12 +139,12 @@ module _ (m : Machine) (s : Scene) (ts : List MotionTurn) (first : ReactorTurn) 
   -- the limits are kept, the units fair and due, and those of sections
   pub record Known (clocks : List Clocks) (begun : List Started) : Type 0 where
     pub limits : AllKeepLimits (orders_in x.past)
-    pub fair : (ends : List Ended) × EndSo Clock 0 (orders_in (behind [] x.w.made)) Begin ends × AreFairTurns Clock 0 (orders_in (behind [] x.w.made)) Begin ends
-    pub all_due : AllDue Clock (orders_in (behind [] x.w.made))
-    pub units : (before : List Orders) (o : Orders) (after : List Orders) (u : StepUnit) → orders_in (behind [] x.w.made) ≡ before ++ o ∷ after → Among u o.batch.units → IsReleasedBy (parts_on m clocks begun b) u (0 + length before)
+    pub fair : (ends : List Ended) × EndSo Clock 0 (orders_in (turns_behind [] x.w.made)) Begin ends × AreFairTurns Clock 0 (orders_in (turns_behind [] x.w.made)) Begin ends
+    pub all_due : AllDue Clock (orders_in (turns_behind [] x.w.made))
+    pub units : (before : List Orders) (o : Orders) (after : List Orders) (u : StepUnit) → orders_in (turns_behind [] x.w.made) ≡ before ++ o ∷ after → Among u o.batch.units → IsReleasedBy (parts_on m clocks begun b) u (0 + length before)
 
   module _ (clocks : List Clocks) (begun : List Started) (k : Known clocks begun) where
-    cut : orders_in (behind [] x.w.made) ≡ orders_in x.past ++ Now ∷ []
+    cut : orders_in (turns_behind [] x.w.made) ≡ orders_in x.past ++ Now ∷ []
     cut = ap orders_in x.are
 
     fair : IsFairTurn Clock (length x.past) Now (stands_after Begin x.past)
@@ -228,13 +228,13 @@ module _ (m : Machine) (v : IsValidMachine m) (s : Scene) (ts : List MotionTurn)
   abbrev Sections : List RunSection
   Sections = cuts_on m t.clocks (length p.made) p.seen.begun b
 
-  sent : Homing m v s ts p t first rest end told (length p.made) b (boards.turn m v s ts p t first rest end c told f short) (behind [] x.w.made)
+  sent : Homing m v s ts p t first rest end told (length p.made) b (boards.turn m v s ts p t first rest end c told f short) (turns_behind [] x.w.made)
   sent = boards.homing m v s ts p t first rest end c told f short b x.there x.w
 
   far : length (rest ++ end ∷ []) + 250 ≤ length rest + 349 + 1
   far = let size = length-append rest (end ∷ []) in omega (arith, size)
 
-  all_due : AllDue (clock_of (board_at m b)) (orders_in (behind [] x.w.made))
+  all_due : AllDue (clock_of (board_at m b)) (orders_in (turns_behind [] x.w.made))
   all_due =
       let few = lead_most (board_at m b).drift in
       let count = sent.count in
@@ -243,8 +243,8 @@ module _ (m : Machine) (v : IsValidMachine m) (s : Scene) (ts : List MotionTurn)
       let y = boards.sampled m v s ts p t first rest end c told f short b x.there x.w in
       let clock = clock_of (board_at m b) in
       let lines = clocks_at t.clocks b in
-      let near = lines_near m v b x.there (length rest) (length (rest ++ end ∷ [])) By far lines (behind [] x.w.made) r.tracked y.kept y.line.sampled y.sampled y.line.early in
-      orders_due clock (length rest + 349) (length (rest ++ end ∷ [])) far few lines Sections 0 (orders_in (behind [] x.w.made)) (omega (arith, count))
+      let near = lines_near m v b x.there (length rest) (length (rest ++ end ∷ [])) By far lines (turns_behind [] x.w.made) r.tracked y.kept y.line.sampled y.sampled y.line.early in
+      orders_due clock (length rest + 349) (length (rest ++ end ∷ [])) far few lines Sections 0 (orders_in (turns_behind [] x.w.made)) (omega (arith, count))
       (sections_due clock (length rest + 349) (length (rest ++ end ∷ [])) far few _ lines (board_at m b).freq (board_at m b).slots By By _ Sections (own_on (board_at m b) (length rest) (length rest + 349) valid (omega arith)).ticks r.tracked near (omega arith) r.sections r.row)
       r.orders
 
@@ -254,14 +254,14 @@ module _ (m : Machine) (v : IsValidMachine m) (s : Scene) (ts : List MotionTurn)
       let k = boards.on m v s ts p t first rest end c told f short b x.there x.w little in
       let Is : List BoardTurn → Type 0 = λ z. (stands_after (link_of m s b) z).core.board.controller.state ≡ Shut timer_too_close arrival due in
       late_parts m t.clocks (length p.made) b p.seen.begun arrival due
-      (late_at b s.entries By (length (rest ++ end ∷ [])) Sections (here_by m v s ts p t first rest end told (length p.made) b x.w) (stands_after (link_of m s b) (behind [] x.w.made)) arrival due k
-      (turns_in_order (clock_of (board_at m b)) (link_of m s b) (behind [] x.w.made) x.w.turns_are) (subst Is (sym x.are) x.shut))
+      (late_at b s.entries By (length (rest ++ end ∷ [])) Sections (here_by m v s ts p t first rest end told (length p.made) b x.w) (stands_after (link_of m s b) (turns_behind [] x.w.made)) arrival due k
+      (turns_in_order (clock_of (board_at m b)) (link_of m s b) (turns_behind [] x.w.made) x.w.turns_are) (subst Is (sym x.are) x.shut))
 
-  limits : AreOut (length p.made) (runs_on m t.clocks p.seen.begun b) ⊎ UnitsFit (behind [] x.w.made) → (done : List Orders) (o : Orders) (more : List Orders) → orders_in (behind [] x.w.made) ≡ done ++ (o ∷ more) → AllKeepLimits done
+  limits : AreOut (length p.made) (runs_on m t.clocks p.seen.begun b) ⊎ UnitsFit (turns_behind [] x.w.made) → (done : List Orders) (o : Orders) (more : List Orders) → orders_in (turns_behind [] x.w.made) ≡ done ++ (o ∷ more) → AllKeepLimits done
   limits (inl out) = sent.limits out
-  limits (inr fits) = limited m v s.switches (pins_of (board_at m b) b s.switches) s.entries b (came_from [] (first ∷ rest)) (behind [] x.w.made) sent.run fits
+  limits (inr fits) = limited m v s.switches (pins_of (board_at m b) b s.switches) s.entries b (came_from [] (first ∷ rest)) (turns_behind [] x.w.made) sent.run fits
 
-  pub home_unit : AreOut (length p.made) (runs_on m t.clocks p.seen.begun b) ⊎ UnitsFit (behind [] x.w.made) → HasLateUnit m s b due arrival spoiled spill ts first (rest ++ end ∷ []) t.clocks p.seen.begun x
+  pub home_unit : AreOut (length p.made) (runs_on m t.clocks p.seen.begun b) ⊎ UnitsFit (turns_behind [] x.w.made) → HasLateUnit m s b due arrival spoiled spill ts first (rest ++ end ∷ []) t.clocks p.seen.begun x
   home_unit small = has_unit m s ts first rest end b due arrival spoiled spill x t.clocks p.seen.begun (record {
     limits = limits small (orders_in x.past) (orders x.turn.control x.turn.batch) [] (ap orders_in x.are);
     fair = board_fair b s.entries By (length (rest ++ end ∷ [])) Sections (here_by m v s ts p t first rest end told (length p.made) b x.w) (boards.on m v s ts p t first rest end c told f short b x.there x.w little);
@@ -278,7 +278,7 @@ late_none : (m : Machine) (v : IsValidMachine m) (s : Scene) (ts : List MotionTu
     → ComesLate m s b due arrival spoiled spill ts first (rest ++ end ∷ []) → p.seen.begun ≡ [] → ⊥
 late_none m v s ts p end c first rest f b due arrival spoiled spill x none =
     let Is : List BoardTurn → Type 0 = λ z. (stands_after (link_of m s b) z).core.board.controller.state ≡ Shut timer_too_close arrival due in
-    let reason = controls_may (board_at m b) (pins_of (board_at m b) b s.switches) b s.entries (behind [] x.w.made) timer_too_close arrival due x.w.turns_are (none_sent m v s ts p end c first rest f b x.there x.w none) (none_controls m v s ts p end c first rest f b x.there x.w none)
+    let reason = controls_may (board_at m b) (pins_of (board_at m b) b s.switches) b s.entries (turns_behind [] x.w.made) timer_too_close arrival due x.w.turns_are (none_sent m v s ts p end c first rest f b x.there x.w none) (none_controls m v s ts p end c first rest f b x.there x.w none)
     (subst Is (sym x.are) x.shut) in
     omega (arith, reason)
 

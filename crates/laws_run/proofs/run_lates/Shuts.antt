@@ -19,9 +19,9 @@ use Rattle.board_sim.specs.Fair.{Meant, commands_of}
 use Rattle.board_sim.specs.Rig.{takes_all}
 use Rattle.board_world.specs.Orders.{plain, units_orders}
 use Rattle.board_world.specs.Shut.{Shuts, WasShut}
-use Rattle.board_world.specs.World.{Core, Do, Step, Turn, happens, in_turn, run, start, takes_in}
+use Rattle.board_world.specs.World.{Core, Do, Step, Turn, after_event, in_turn, run_world, new_world, takes_in}
 use Rattle.board_world.proofs.Causes.{was_shut}
-use Rattle.link_work.specs.Ends.{last_of}
+use Rattle.link_work.specs.Ends.{last_link}
 use Rattle.link_work.specs.Runs.{queued_in}
 use Rattle.link_work.specs.Stands.{first_state}
 use Rattle.link_work.specs.Turn.{LinkState, Orders}
@@ -43,7 +43,7 @@ use Rattle.laws_board.specs.sections.Parts.{IsControl}
 use Rattle.laws_board.proofs.sections.Each.{shut_as}
 use Rattle.laws_board.proofs.sections.Naming.{in_more, taken_more}
 use Rattle.laws_board.proofs.sections.Seeking.{Among, among_first, among_of, among_split}
-use Rattle.laws_run.specs.lanes.Boards.{behind, states_of}
+use Rattle.laws_run.specs.lanes.Boards.{turns_behind, states_of}
 use Rattle.laws_board.specs.plans.Boards.{TookStates}
 use Rattle.laws_board.specs.plans.Given.{TookControls}
 use Rattle.laws_run.proofs.clear_runs.Punctual.{NoUnits}
@@ -52,14 +52,14 @@ use Rattle.laws_run.specs.run_lates.Late.{AllMayTell, MayTell}
 use Rattle.laws_run.proofs.run_lates.Linked.{are_front, item_same}
 
 -- the command that shut a board down is one of those that it took
-was_named : (steps : List Step) (h : Core) (reason tick first : ℕ) → WasShut h steps reason tick first → (m : Meant) × IsIn m (run steps h).taken × ((b : Controller) × Shuts b m.command reason first)
+was_named : (steps : List Step) (h : Core) (reason tick first : ℕ) → WasShut h steps reason tick first → (m : Meant) × IsIn m (run_world steps h).taken × ((b : Controller) × Shuts b m.command reason first)
 was_named [] h reason tick first w = absurd w
 was_named (Do e ∷ steps) h reason tick first (inl s) =
-    let rest = taken_more steps (happens h e) in
+    let rest = taken_more steps (after_event h e) in
     let In : List Meant → Type 0 = λ x. IsIn s.command x in
     (s.command, subst In (sym rest.1) (in_more s.command h.taken (takes_in h e) rest.0 (s.before, s.behind, s.are)), ((takes_all h.board (commands_of s.before)).rig.controller, s.cause))
 was_named (Turn turn ∷ steps) h reason tick first (inl s) = absurd s
-was_named (Do e ∷ steps) h reason tick first (inr w) = was_named steps (happens h e) reason tick first w
+was_named (Do e ∷ steps) h reason tick first (inr w) = was_named steps (after_event h e) reason tick first w
 was_named (Turn turn ∷ steps) h reason tick first (inr w) = was_named steps (in_turn h turn) reason tick first w
 
 -- a control command of a run of moves shuts a board down only where it is the order to stop
@@ -91,10 +91,10 @@ controls_may d pins place entries turns reason tick first are none controls shut
     let begin = first_state d pins place entries in
     let end = stands_after begin turns in
     let steps = turns_are_steps (clock_of d) 0 (orders_in turns) begin end (turns_in_order (clock_of d) begin turns are) in
-    let n = was_named steps.0 (start d pins) reason tick first (was_shut steps.0 (start d pins) reason tick first (begins_running d pins) (ap (λ (h : Core). h.board.controller.state) (sym steps.1) ∙ shut)) in
+    let n = was_named steps.0 (new_world d pins) reason tick first (was_shut steps.0 (new_world d pins) reason tick first (begins_running d pins) (ap (λ (h : Core). h.board.controller.state) (sym steps.1) ∙ shut)) in
     let known = ordered_after d pins place entries (clock_of d) (orders_in turns) (ends_in turns) (ends_in_order (clock_of d) begin turns are) in
     let last = last_stands begin turns in
-    let h = (last_of begin (ends_in turns)).core in
+    let h = (last_link begin (ends_in turns)).core in
     let long = length h.link.taken in
     let queued : h.taken ++ drop long h.queued ≡ flat_map queued_in (orders_in turns) = ap (λ x. x ++ drop long h.queued) known.0.first ∙ take-append-drop long h.queued ∙ known.1 in
     let In : Core → Type 0 = λ x. IsIn n.0 x.taken in
@@ -104,7 +104,7 @@ controls_may d pins place entries turns reason tick first are none controls shut
     one_reason n.2.0 n.0.command reason first control n.2.1
 
 -- turns behind others
-behind_parts : (turns made : List BoardTurn) → (later : List BoardTurn) × (behind turns made ≡ later ++ turns)
+behind_parts : (turns made : List BoardTurn) → (later : List BoardTurn) × (turns_behind turns made ≡ later ++ turns)
 behind_parts turns [] = ([], refl)
 behind_parts turns (t ∷ made) = let rest = behind_parts (t ∷ turns) made in (rest.0 ++ t ∷ [], rest.1 ∙ sym (append_assoc rest.0 (t ∷ []) turns))
 
@@ -112,7 +112,7 @@ behind_parts turns (t ∷ made) = let rest = behind_parts (t ∷ turns) made in 
 abbrev EachMayTell : ℕ → List ReactorTurn → Type 0
 EachMayTell b rs = All (λ t. (x : State) → item b t.states ≡ x ∷ [] → MayTell x) rs
 
-pub each_may : (clock : BoardClock) (begin : LinkState) (turns made : List BoardTurn) (b : ℕ) (rs : List ReactorTurn) → AreBoardTurns clock begin (behind turns made) → MayBe (stands_after begin (behind turns made)).core.board.controller.state → TookStates b rs (states_of made)
+pub each_may : (clock : BoardClock) (begin : LinkState) (turns made : List BoardTurn) (b : ℕ) (rs : List ReactorTurn) → AreBoardTurns clock begin (turns_behind turns made) → MayBe (stands_after begin (turns_behind turns made)).core.board.controller.state → TookStates b rs (states_of made)
     → EachMayTell b rs
 each_may clock begin turns made b [] are may took = All-nil (λ (t : ReactorTurn). (x : State) → item b t.states ≡ x ∷ [] → MayTell x)
 each_may clock begin turns [] b (r ∷ rs) are may took = absurd took

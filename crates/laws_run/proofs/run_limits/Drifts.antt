@@ -23,7 +23,7 @@ use Rattle.session_work.specs.declared.table.MotionTurn.{MotionTurn}
 use Rattle.session_work.specs.declared.table.ReactorTurn.{ReactorTurn}
 use Rattle.session_run.specs.Boards.{came_from}
 use Rattle.laws_board.specs.orders.Renewed.{AreSampled}
-use Rattle.laws_run.specs.lanes.Boards.{IsInWhole, behind}
+use Rattle.laws_run.specs.lanes.Boards.{IsInWhole, turns_behind}
 use Rattle.laws_board.specs.plans.Lines.{drifts_of, held_lines}
 use Rattle.laws_board.specs.plans.Planned.{Plans}
 use Rattle.laws_run.specs.run_headline.Further.{AreNamed, TellFurther}
@@ -85,7 +85,7 @@ module _ (m : Machine) (v : IsValidMachine m) (s : Scene) (ts : List MotionTurn)
   board_drifts b told_held rest_held h are =
       let clock = clock_of (board_at m b) in
       let w = boards b h in
-      let turns = behind [] w.made in
+      let turns = turns_behind [] w.made in
       let valid = valid_at m.boards b h v.boards in
       let sampled : AreSampled clock turns (told_held ++ rest_held) = subst (λ (x : List Held). AreSampled clock turns x) are (lined m v s ts p t first rest end told b r w h).sampled in
       let long = as_long m s.switches b (came_from [] (first ∷ rest)) turns (run_of m v s ts p t first rest end told b w h).both in

@@ -23,7 +23,7 @@ use Rattle.motion_work.specs.Told.{Told}
 use Rattle.session_work.specs.declared.table.MotionTurn.{MotionTurn}
 use Rattle.session_work.specs.declared.table.ReactorTurn.{ReactorTurn}
 use Rattle.session_run.specs.Boards.{came_from, came_in}
-use Rattle.laws_run.specs.lanes.Boards.{IsInWhole, behind}
+use Rattle.laws_run.specs.lanes.Boards.{IsInWhole, turns_behind}
 use Rattle.laws_run.specs.run_ends.Boards.{lines_at}
 use Rattle.laws_board.specs.plans.Planned.{Plans}
 use Rattle.laws_run.specs.run_headline.Timely.{link_of}
@@ -58,9 +58,9 @@ board_low m v s ts p t first rest end told r b w h =
     let pins = pins_of (board_at m b) b s.switches in
     let valid = valid_at m.boards b h v.boards in
     let before = came_from [] r.past in
-    let Run : List Came → Type 0 = λ c. IsInRun m s.switches pins s.entries b c (behind [] w.made) in
+    let Run : List Came → Type 0 = λ c. IsInRun m s.switches pins s.entries b c (turns_behind [] w.made) in
     let run = run_of m v s ts p t first rest end told b w h in
-    let f = front_of m v s.switches pins s.entries b (came_in r.turn ∷ before) r.later (behind [] w.made) (subst Run r.came_is run) in
+    let f = front_of m v s.switches pins s.entries b (came_in r.turn ∷ before) r.later (turns_behind [] w.made) (subst Run r.came_is run) in
     let l = one_less m v s.switches pins s.entries b (came_in r.turn) before f.front f.run in
     let long : length before ≡ length l.1 = as_long m s.switches b before l.1 l.4.both in
     let early = r.early in

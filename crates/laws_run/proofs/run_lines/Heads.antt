@@ -20,7 +20,7 @@ use Rattle.motion_work.proofs.Turning.{planned_late}
 use Rattle.session_work.specs.declared.table.ReactorTurn.{ReactorTurn}
 use Rattle.session_work.specs.Rows.{gather}
 use Rattle.laws_board.specs.plans.Lines.{TellTurns, TellsTurn, head_in, heads_of, pulses_of, starts_at}
-use Rattle.laws_board.specs.plans.Planned.{Seen}
+use Rattle.laws_board.specs.plans.Planned.{PlannerInput}
 use Rattle.laws_board.proofs.plans.Beginning.{Spread, spread_of}
 use Rattle.laws_run.specs.run_ends.Boards.{boards_of, lines_at}
 use Rattle.laws_run.proofs.run_ends.Connecting.{boards_append}
@@ -187,7 +187,7 @@ due_heads m text clocks ready c lines h moves =
     }
 
 -- What a run shows of the lines of boards and sections.
-pub record ShowStarts (m : Machine) (seen : Seen) (clocks : List Clocks) (ready : ℕ) (first : ReactorTurn) (rest : List ReactorTurn) : Type 0 where
+pub record ShowStarts (m : Machine) (seen : PlannerInput) (clocks : List Clocks) (ready : ℕ) (first : ReactorTurn) (rest : List ReactorTurn) : Type 0 where
   pub late : 260 ≤ ready
   pub started : AreStarted m clocks ready seen.begun
   pub boards : seen.begun ≢ [] → TellBoards clocks ready (first ∷ rest)
@@ -200,7 +200,7 @@ heads_first m clocks ready begun turns late started lines =
     let Of : List ReportLine → Type 0 = λ z. AreFirst z (begun_lines 0 begun) in
     subst Of (sym (all_heads m begun turns (spread_of m clocks ready 260 begun started late) lines)) (by_first (length turns) 0 begun)
 
-pub first_heads : (m : Machine) (seen : Seen) (clocks : List Clocks) (ready : ℕ) (first : ReactorTurn) (rest : List ReactorTurn) → ShowStarts m seen clocks ready first rest → AreFirst (heads_of (gather (λ t. t.lines) (first ∷ rest))) (begun_lines 0 seen.begun)
+pub first_heads : (m : Machine) (seen : PlannerInput) (clocks : List Clocks) (ready : ℕ) (first : ReactorTurn) (rest : List ReactorTurn) → ShowStarts m seen clocks ready first rest → AreFirst (heads_of (gather (λ t. t.lines) (first ∷ rest))) (begun_lines 0 seen.begun)
 first_heads m seen clocks ready first rest h = heads_first m clocks ready seen.begun (first ∷ rest) h.late h.started h.lines
 
 -- all of them where each ended
@@ -211,7 +211,7 @@ heads_whole m clocks ready begun first rest late started lines over =
     let By : ℕ → Type 0 = λ n. All (λ s. s.start < n) begun in
     all_heads m begun (first ∷ rest) (spread_of m clocks ready 260 begun started late) lines ∙ by_all (length (first ∷ rest)) 0 begun (subst By number (starts_early (length rest) ready m clocks begun started over))
 
-pub whole_heads : (m : Machine) (seen : Seen) (clocks : List Clocks) (ready : ℕ) (first : ReactorTurn) (rest : List ReactorTurn) → ShowStarts m seen clocks ready first rest → All (λ s. s.end + 5 ≤ length rest) seen.begun
+pub whole_heads : (m : Machine) (seen : PlannerInput) (clocks : List Clocks) (ready : ℕ) (first : ReactorTurn) (rest : List ReactorTurn) → ShowStarts m seen clocks ready first rest → All (λ s. s.end + 5 ≤ length rest) seen.begun
     → heads_of (gather (λ t. t.lines) (first ∷ rest)) ≡ begun_lines 0 seen.begun
 whole_heads m seen clocks ready first rest h over = heads_whole m clocks ready seen.begun first rest h.late h.started h.lines over
 
@@ -311,7 +311,7 @@ none_more (x ∷ xs) ys (z ∷ zs) e f =
     let more : xs ++ ys ≡ zs = cc in
     none_more xs ys zs same more
 
-module _ (m : Machine) (seen : Seen) (clocks : List Clocks) (ready : ℕ) (first : ReactorTurn) (rest : List ReactorTurn) (h : ShowStarts m seen clocks ready first rest) (said more : List ReportLine)
+module _ (m : Machine) (seen : PlannerInput) (clocks : List Clocks) (ready : ℕ) (first : ReactorTurn) (rest : List ReactorTurn) (h : ShowStarts m seen clocks ready first rest) (said more : List ReportLine)
     (are : gather (λ t. t.lines) (first ∷ rest) ≡ said ++ more) (some : heads_of said ≢ []) where
   spread : Spread 260 seen.begun
   spread = spread_of m clocks ready 260 seen.begun h.started h.late

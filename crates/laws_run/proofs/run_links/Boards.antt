@@ -7,7 +7,7 @@ use Rattle.plan_types.specs.Machines.{board_at}
 use Rattle.msg_code.specs.declared.talk.State.{State}
 use Rattle.msg_code.specs.declared.unit.Batch.{Batch}
 use Rattle.msg_code.specs.declared.unit.Control.{Control}
-use Rattle.link_work.specs.Stands.{Seen, StandsFor, orders}
+use Rattle.link_work.specs.Stands.{SeenLink, StandsFor, orders}
 use Rattle.link_work.specs.Told.{IsTold}
 use Rattle.link_work.specs.Turn.{IsTurn, LinkState}
 use Rattle.laws_board.specs.turns.Turns.{AreBoardTurns, BoardTurn, stands_after}
@@ -18,7 +18,7 @@ use Rattle.session_work.specs.Rows.{gather}
 use Rattle.session_work.specs.Turns.{Goes}
 use Rattle.session_work.proofs.Goes.{gather_ones}
 use Rattle.session_run.specs.Links as links
-use Rattle.laws_run.specs.lanes.Boards.{behind}
+use Rattle.laws_run.specs.lanes.Boards.{turns_behind}
 use Rattle.session_lanes.specs.declared.near.LinkLog.{LinkLog}
 use Rattle.wire_scene.specs.declared.scene.Scene.{Scene}
 use Rattle.laws_run.specs.run_headline.Timely.{link_of}
@@ -37,7 +37,7 @@ states_in us = gather (λ u. u.state ∷ []) us
 -- the turns of a board behind some, and those behind them in which its link wants memory
 record Walked (clock : BoardClock) (begin : LinkState) (turns : List BoardTurn) (us : List LinkTurn) : Type 0 where
   pub made : List BoardTurn
-  pub are : AreBoardTurns clock begin (behind turns made)
+  pub are : AreBoardTurns clock begin (turns_behind turns made)
   pub out : ℕ
   pub states : states_in us ≡ map (λ t. t.state) made ++ each_turn out_state (length turns + length made) out
   pub later : List Batch
@@ -47,18 +47,18 @@ record Walked (clock : BoardClock) (begin : LinkState) (turns : List BoardTurn) 
   pub controls : controls_in us ≡ map (λ t. t.control) made ++ others
 
 -- a link that wants memory says only that
-all_out : (k : ℕ) (x : Seen) (us : List LinkTurn) (e : Seen × Bool) → Goes (LinkStep links.Turns) k (x, true) us e → states_in us ≡ each_turn out_state k (length us)
+all_out : (k : ℕ) (x : SeenLink) (us : List LinkTurn) (e : SeenLink × Bool) → Goes (LinkStep links.TurnsLink) k (x, true) us e → states_in us ≡ each_turn out_state k (length us)
 all_out k x [] e g = refl
 all_out k x (u ∷ us) e g = elim g.1.1 [
   | inl a ↦ absurd (let f : true ≡ false = a.0 in cc)
   | inr a ↦
       let next : g.0 ≡ (g.0.0, true) = (λ i. (g.0.0, a.0 i)) in
-      ap (λ (z : State). z ∷ states_in us) a.1 ∙ ap (λ (z : List State). out_state k ∷ z) (all_out (k + 1) g.0.0 us e (subst (λ (z : Seen × Bool). Goes (LinkStep links.Turns) (k + 1) z us e) next g.2))
+      ap (λ (z : State). z ∷ states_in us) a.1 ∙ ap (λ (z : List State). out_state k ∷ z) (all_out (k + 1) g.0.0 us e (subst (λ (z : SeenLink × Bool). Goes (LinkStep links.TurnsLink) (k + 1) z us e) next g.2))
 ]
 
 module _ (clock : BoardClock) (begin : LinkState) where
   -- one turn of the board
-  went : (turns : List BoardTurn) (k : ℕ) (x : Seen) (u : LinkTurn) (after : LinkState) → k ≡ length turns → AreBoardTurns clock begin turns → x.clock ≡ clock
+  went : (turns : List BoardTurn) (k : ℕ) (x : SeenLink) (u : LinkTurn) (after : LinkState) → k ≡ length turns → AreBoardTurns clock begin turns → x.clock ≡ clock
       → (t : IsTurn x.clock k (orders u.control u.batch) (stands_after begin turns) after) → IsTold x.clock k (orders u.control u.batch) (stands_after begin turns) t.resent after.core u.state
       → AreBoardTurns clock begin (record { control = u.control; batch = u.batch; state = u.state; after = after } ∷ turns)
   went turns k x u after number are same t told = (
@@ -67,7 +67,7 @@ module _ (clock : BoardClock) (begin : LinkState) where
     are,
   )
 
-  walk : (turns : List BoardTurn) (k : ℕ) (x : Seen) (us : List LinkTurn) (e : Seen × Bool) → k ≡ length turns → Goes (LinkStep links.Turns) k (x, false) us e → StandsFor x (stands_after begin turns)
+  walk : (turns : List BoardTurn) (k : ℕ) (x : SeenLink) (us : List LinkTurn) (e : SeenLink × Bool) → k ≡ length turns → Goes (LinkStep links.TurnsLink) k (x, false) us e → StandsFor x (stands_after begin turns)
       → x.clock ≡ clock → AreBoardTurns clock begin turns → Walked clock begin turns us
   walk turns k x [] e number g st same are = record { made = []; are = are; out = 0; states = refl; later = []; batches = refl; as_many = refl; others = []; controls = refl }
   walk turns k x (u ∷ us) e number g st same are = elim g.1.1 [
@@ -76,7 +76,7 @@ module _ (clock : BoardClock) (begin : LinkState) where
         let turned = step.turned (stands_after begin turns) st in
         let turn : BoardTurn = record { control = u.control; batch = u.batch; state = u.state; after = turned.0 } in
         let next : g.0 ≡ (g.0.0, false) = (λ i. (g.0.0, a.1 i)) in
-        let goes = subst (λ (z : Seen × Bool). Goes (LinkStep links.Turns) (k + 1) z us e) next g.2 in
+        let goes = subst (λ (z : SeenLink × Bool). Goes (LinkStep links.TurnsLink) (k + 1) z us e) next g.2 in
         let rest = walk (turn ∷ turns) (k + 1) g.0.0 us e (omega (arith, number)) goes turned.2 (step.clock ∙ same) (went turns k x u turned.0 number are same turned.1 turned.3) in
         let place : length (turn ∷ turns) + length rest.made ≡ length turns + length (turn ∷ rest.made) = omega arith in
         record {
@@ -92,7 +92,7 @@ module _ (clock : BoardClock) (begin : LinkState) where
         }
     | inr a ↦
         let next : g.0 ≡ (g.0.0, true) = (λ i. (g.0.0, a.0 i)) in
-        let tail = all_out (k + 1) g.0.0 us e (subst (λ (z : Seen × Bool). Goes (LinkStep links.Turns) (k + 1) z us e) next g.2) in
+        let tail = all_out (k + 1) g.0.0 us e (subst (λ (z : SeenLink × Bool). Goes (LinkStep links.TurnsLink) (k + 1) z us e) next g.2) in
         let place : k ≡ length turns + 0 = omega (arith, number) in
         record {
           made = [];
@@ -108,7 +108,7 @@ module _ (clock : BoardClock) (begin : LinkState) where
   ]
 
 -- so a board made its turns, by what its lanes carried
-pub makes_turns : (m : Machine) (s : Scene) (b : ℕ) (x : LinkLog) (l : Seen) (us : List LinkTurn) (e : Seen × Bool) (last : List Control) → Goes (LinkStep links.Turns) 0 (l, false) us e → StandsFor l (link_of m s b) → l.clock ≡ clock_of (board_at m b)
+pub makes_turns : (m : Machine) (s : Scene) (b : ℕ) (x : LinkLog) (l : SeenLink) (us : List LinkTurn) (e : SeenLink × Bool) (last : List Control) → Goes (LinkStep links.TurnsLink) 0 (l, false) us e → StandsFor l (link_of m s b) → l.clock ≡ clock_of (board_at m b)
     → x.controls.1 ≡ controls_in us ++ last → x.batches.1 ≡ batches_in us → x.states.0 ≡ states_in us → MakesTurns m s b x
 makes_turns m s b x l us e last goes stands clock controls batches states =
     let w = walk (clock_of (board_at m b)) (link_of m s b) [] 0 l us e refl goes stands clock tt in

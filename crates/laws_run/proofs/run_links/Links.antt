@@ -8,7 +8,7 @@ use Rattle.plan_types.specs.declared.machine.BoardDef.{BoardDef}
 use Rattle.plan_types.specs.declared.machine.Machine.{Machine}
 use Rattle.plan_types.specs.Machines.{no_board}
 use Rattle.wire_scene.specs.declared.scene.Scene.{Scene}
-use Rattle.link_work.specs.Stands.{Seen as LinkSeen}
+use Rattle.link_work.specs.Stands.{SeenLink as LinkSeen}
 use Rattle.host_reactor.specs.Reactor.{Run, first_run}
 use Rattle.host_reactor.specs.Runs.{state_at}
 use Rattle.session_lanes.specs.declared.near.LinkLog.{LinkLog}
@@ -21,7 +21,7 @@ use Rattle.session_work.specs.Leads.{last_controls}
 use Rattle.session_work.specs.Rows.{gather, item}
 use Rattle.session_work.proofs.Goes.{gather_on}
 use Rattle.session_run.specs.declared.tell.Kept.{Kept}
-use Rattle.session_run.specs.Desks.{desk_out, lines_of}
+use Rattle.session_run.specs.Desks.{desk_out, reported_lines}
 use Rattle.session_run.specs.Boards.{AreReactorTurns, came_from}
 use Rattle.session_run.specs.Machines.{link, planner, reactor}
 use Rattle.session_run.specs.Runs.{AreFirstLinks, IsFirstLink, RunsOver}
@@ -41,7 +41,7 @@ use Rattle.laws_run.proofs.run_links.Pulses.{lines_append, pulses_append, turn_p
 use Rattle.laws_run.proofs.run_links.Units.{batches_put, parts_are}
 
 -- the lines of some turns and of one behind them
-lines_on : (rs : List ReactorTurn) (end : ReactorTurn) → lines_of (rs ++ end ∷ []) ≡ lines_of rs ++ end.lines
+lines_on : (rs : List ReactorTurn) (end : ReactorTurn) → reported_lines (rs ++ end ∷ []) ≡ reported_lines rs ++ end.lines
 lines_on rs end = gather_on (λ (t : ReactorTurn). t.lines) rs end
 
 module _ {O : Type 0} (o : Out O) (ts : List MotionTurn) (rs : List ReactorTurn) (end : ReactorTurn) (n : ℕ) where
@@ -71,15 +71,15 @@ module _ {O : Type 0} (o : Out O) (ts : List MotionTurn) (rs : List ReactorTurn)
 
 -- the pulses of a board that its lines tell are those of its states
 module _ (m : Machine) (s : Scene) (b : ℕ) (rs : List ReactorTurn) (end : ReactorTurn) where
-  all_pulses : AreReactorTurns m s.switches [] rs → pulses_on b end.lines ≡ lines_for m b (item b end.states) → pulses_on b (lines_of (rs ++ end ∷ [])) ≡ lines_for m b (gather (λ t. item b t.states) (rs ++ end ∷ []))
+  all_pulses : AreReactorTurns m s.switches [] rs → pulses_on b end.lines ≡ lines_for m b (item b end.states) → pulses_on b (reported_lines (rs ++ end ∷ [])) ≡ lines_for m b (gather (λ t. item b t.states) (rs ++ end ∷ []))
   all_pulses turns last =
       let states = gather (λ (t : ReactorTurn). item b t.states) rs in
-      ap (pulses_on b) (lines_on rs end) ∙ pulses_append b (lines_of rs) end.lines ∙ ap (λ x. x ++ pulses_on b end.lines) (turns_pulses m s.switches b [] rs turns)
+      ap (pulses_on b) (lines_on rs end) ∙ pulses_append b (reported_lines rs) end.lines ∙ ap (λ x. x ++ pulses_on b end.lines) (turns_pulses m s.switches b [] rs turns)
       ∙ ap (λ x. lines_for m b states ++ x) last ∙ sym (lines_append m b states (item b end.states)) ∙ ap (lines_for m b) (sym (gather_on (λ (t : ReactorTurn). item b t.states) rs end))
 
-  front_pulses : AreReactorTurns m s.switches [] rs → end.lines ≡ [] → pulses_on b (lines_of (rs ++ end ∷ [])) ≡ lines_for m b (states_from b (came_from [] rs))
+  front_pulses : AreReactorTurns m s.switches [] rs → end.lines ≡ [] → pulses_on b (reported_lines (rs ++ end ∷ [])) ≡ lines_for m b (states_from b (came_from [] rs))
   front_pulses turns none =
-      ap (pulses_on b) (lines_on rs end ∙ ap (λ x. lines_of rs ++ x) none ∙ append-nil (lines_of rs)) ∙ turns_pulses m s.switches b [] rs turns ∙ ap (lines_for m b) (states_are b [] rs)
+      ap (pulses_on b) (lines_on rs end ∙ ap (λ x. reported_lines rs ++ x) none ∙ append-nil (reported_lines rs)) ∙ turns_pulses m s.switches b [] rs turns ∙ ap (lines_for m b) (states_are b [] rs)
 
 module _ {F S : Type 0} (f : Files F) (o : Sink S) (m : Machine) (s : Scene) (name : List ℕ) (files files' : F) (out out' : S) (kept kept' : Kept) (t : Told Run) (r : RunsOver f o m s name files out kept t files' out' kept') where
   many : length r.links ≡ length m.boards
@@ -108,7 +108,7 @@ module _ {F S : Type 0} (f : Files F) (o : Sink S) (m : Machine) (s : Scene) (na
       elim last_turn.step.1.1 [ inl w ↦ absurd (w.1.3 (met.3 ∙ ap Some out)) | inr w ↦ w.2 ]
 
   one_link : (made : IsMade m s r.runs.0 r.runs.1) (b : ℕ) (x : LinkLog) → item b t.links.items ≡ x ∷ []
-      → IsLinkIn m s made.plans.seen (length made.plans.made) (came_from [] r.runs.1) (state_at b r.runs.2.states) (lines_of (r.runs.1 ++ r.runs.2 ∷ [])) t.cause b x
+      → IsLinkIn m s made.plans.seen (length made.plans.made) (came_from [] r.runs.1) (state_at b r.runs.2.states) (reported_lines (r.runs.1 ++ r.runs.2 ∷ [])) t.cause b x
   one_link made b x at =
       let (ts, rs, end, n, from, to, met, logs, happened, has, has') = r.runs in
       let found = log_at (desk_out f o) ts rs end n s 0 b b m.boards r.links t.links.items x r.first logs (omega arith) at in

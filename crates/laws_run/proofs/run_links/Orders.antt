@@ -4,7 +4,7 @@ use Rattle.msg_code.specs.declared.talk.State.{State}
 use Rattle.msg_code.specs.declared.unit.Control.{Control}
 use Rattle.plan_types.specs.declared.machine.Machine.{Machine}
 use Rattle.wire_scene.specs.declared.scene.Switch.{Switch}
-use Rattle.host_reactor.specs.Runs.{Came, HaveStates, last_turn}
+use Rattle.host_reactor.specs.Runs.{Came, HaveStates, last_reacted}
 use Rattle.laws_board.specs.turns.Turns.{control_at}
 use Rattle.session_work.specs.declared.table.ReactorTurn.{ReactorTurn}
 use Rattle.session_work.specs.Heads.{IsRow}
@@ -20,7 +20,7 @@ controls_are m switches b before [] h = append-nil (ordered_for m switches b bef
 controls_are m switches b before (t ∷ rs) h =
     let past = ordered_for m switches b before in
     let rest = gather (λ (z : ReactorTurn). item b z.controls) rs in
-    let own : item b t.controls ≡ control_at b (last_turn m switches (came_in t) before).ordered.controls = sym (item_control b t.controls) ∙ ap (control_at b) h.0.controls_are in
+    let own : item b t.controls ≡ control_at b (last_reacted m switches (came_in t) before).ordered.controls = sym (item_control b t.controls) ∙ ap (control_at b) h.0.controls_are in
     sym (append_assoc past (item b t.controls) rest) ∙ ap (λ (z : List Control). (past ++ z) ++ rest) own ∙ controls_are m switches b (came_in t ∷ before) rs h.1
 
 -- and the states of it that came in them

@@ -17,11 +17,11 @@ use Rattle.host_reactor.specs.declared.ordered.Begun.{Begun}
 use Rattle.host_reactor.specs.declared.ordered.Known.{Known}
 use Rattle.host_reactor.specs.Notes.{noted, news_of}
 use Rattle.host_reactor.specs.Reactor.{reacts}
-use Rattle.host_reactor.specs.Report.{drift_lines, first_lines, machine_line, pulse_at, pulse_line, pulse_lines, place_of, section_line}
+use Rattle.host_reactor.specs.Report.{drift_lines, first_lines, machine_line, pulse_at, pulse_line, pulse_lines, stepper_place, section_line}
 use Rattle.host_reactor.specs.Runs.{Came, known_by, state_at}
 use Rattle.session_work.specs.declared.table.ReactorTurn.{ReactorTurn}
 use Rattle.session_work.specs.Rows.{gather, item}
-use Rattle.session_run.specs.Desks.{lines_of}
+use Rattle.session_run.specs.Desks.{reported_lines}
 use Rattle.session_run.specs.Boards.{AreReactorTurns, came_in}
 use Rattle.laws_run.proofs.lanes.Items.{item_state}
 use Rattle.laws_board.proofs.plans.Shaping.{ArePlain, IsPlain, shaped}
@@ -68,7 +68,7 @@ own_pulses : (m : Machine) (b : ℕ) (ps : List Pulse) → pulses_on b (flat_map
 own_pulses m b [] = refl
 own_pulses m b (p ∷ ps) =
     let rest = flat_map (pulse_line m b) ps in
-    pulses_append b (pulse_line m b p) rest ∙ ap (λ x. x ++ pulses_on b rest) (own_pulse m b p (place_of 0 b p.stepper m.steppers)) ∙ ap (λ x. pulse_line m b p ++ x) (own_pulses m b ps)
+    pulses_append b (pulse_line m b p) rest ∙ ap (λ x. x ++ pulses_on b rest) (own_pulse m b p (stepper_place 0 b p.stepper m.steppers)) ∙ ap (λ x. pulse_line m b p ++ x) (own_pulses m b ps)
 
 other_pulse : (m : Machine) (b i : ℕ) (p : Pulse) (o : Option ℕ) → (i ≡ b → ⊥) → pulses_on b (pulse_at m i p o) ≡ []
 other_pulse m b i p None not = refl
@@ -78,7 +78,7 @@ other_pulses : (m : Machine) (b i : ℕ) (ps : List Pulse) → (i ≡ b → ⊥)
 other_pulses m b i [] not = refl
 other_pulses m b i (p ∷ ps) not =
     let rest = flat_map (pulse_line m i) ps in
-    pulses_append b (pulse_line m i p) rest ∙ ap (λ x. x ++ pulses_on b rest) (other_pulse m b i p (place_of 0 i p.stepper m.steppers) not) ∙ other_pulses m b i ps not
+    pulses_append b (pulse_line m i p) rest ∙ ap (λ x. x ++ pulses_on b rest) (other_pulse m b i p (stepper_place 0 i p.stepper m.steppers) not) ∙ other_pulses m b i ps not
 
 none_after : (m : Machine) (b i : ℕ) (states : List State) → b < i → pulses_on b (pulse_lines m i states) ≡ []
 none_after m b i [] h = refl
@@ -119,10 +119,10 @@ pub lines_append : (m : Machine) (b : ℕ) (xs ys : List State) → lines_for m 
 lines_append m b xs ys = flat_map-append (λ (s : State). flat_map (pulse_line m b) s.pulses) xs ys
 
 -- and turns that go on
-pub turns_pulses : (m : Machine) (switches : List Switch) (b : ℕ) (before : List Came) (rs : List ReactorTurn) → AreReactorTurns m switches before rs → pulses_on b (lines_of rs) ≡ lines_for m b (gather (λ t. item b t.states) rs)
+pub turns_pulses : (m : Machine) (switches : List Switch) (b : ℕ) (before : List Came) (rs : List ReactorTurn) → AreReactorTurns m switches before rs → pulses_on b (reported_lines rs) ≡ lines_for m b (gather (λ t. item b t.states) rs)
 turns_pulses m switches b before [] h = refl
 turns_pulses m switches b before (t ∷ rs) h =
     let states = gather (λ (z : ReactorTurn). item b z.states) rs in
     let here = ap (pulses_on b) h.0.lines_are ∙ turn_pulses m switches b (known_by m switches before) (length before) t.states t.note in
-    pulses_append b t.lines (lines_of rs) ∙ ap (λ x. x ++ pulses_on b (lines_of rs)) here ∙ ap (λ x. lines_for m b (item b t.states) ++ x) (turns_pulses m switches b (came_in t ∷ before) rs h.1)
+    pulses_append b t.lines (reported_lines rs) ∙ ap (λ x. x ++ pulses_on b (reported_lines rs)) here ∙ ap (λ x. lines_for m b (item b t.states) ++ x) (turns_pulses m switches b (came_in t ∷ before) rs h.1)
     ∙ sym (lines_append m b (item b t.states) states)

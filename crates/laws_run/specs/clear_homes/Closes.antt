@@ -14,7 +14,7 @@ use Rattle.session_work.specs.declared.table.MotionTurn.{MotionTurn}
 use Rattle.session_work.specs.declared.table.ReactorTurn.{ReactorTurn}
 use Rattle.session_run.specs.Boards.{came_in}
 use Rattle.host_reactor.specs.Runs.{Came}
-use Rattle.laws_board.specs.plans.Planned.{Plans, Seen}
+use Rattle.laws_board.specs.plans.Planned.{Plans, PlannerInput}
 use Rattle.laws_homing.specs.missed_groups.Ticks.{IsSwitchTick}
 use Rattle.laws_run.specs.home_headline.Cuts.{TellsAnswer}
 
@@ -40,7 +40,7 @@ AllClose m s text planned =
     (tick : ℕ) × ClosesAt m s t.clocks x axis tick × (tick < tick_in m t.clocks axis (x.last + 1))
 
 -- The section with this number, of those that were begun, homes, and its switch closes at no tick before that.
-pub record MissesSwitch (m : Machine) (s : Scene) (seen : Seen) (section : ℕ) : Type 0 where
+pub record MissesSwitch (m : Machine) (s : Scene) (seen : PlannerInput) (section : ℕ) : Type 0 where
   pub told : Told
   pub told_is : seen.told ≡ Some told
   pub past : List Started
@@ -53,7 +53,7 @@ pub record MissesSwitch (m : Machine) (s : Scene) (seen : Seen) (section : ℕ) 
   pub late : (tick : ℕ) → ClosesAt m s told.clocks x axis tick → tick_in m told.clocks axis (x.last + 1) ≤ tick
 
 -- The section with this number homes, and its switch closes at this tick.
-pub record ClosesFirst (m : Machine) (s : Scene) (seen : Seen) (section tick : ℕ) : Type 0 where
+pub record ClosesFirst (m : Machine) (s : Scene) (seen : PlannerInput) (section tick : ℕ) : Type 0 where
   pub told : Told
   pub told_is : seen.told ≡ Some told
   pub past : List Started
@@ -67,7 +67,7 @@ pub record ClosesFirst (m : Machine) (s : Scene) (seen : Seen) (section tick : �
 
 -- Each of some turns of the reactor, behind what came to it before, that tells that the switch of a homing
 -- section closed, tells of the tick at which it closes.
-abbrev pub TellFirst : Machine → Scene → Seen → List Came → List ReactorTurn → Type 0
+abbrev pub TellFirst : Machine → Scene → PlannerInput → List Came → List ReactorTurn → Type 0
 TellFirst m s seen before [] = Unit {0}
 TellFirst m s seen before (t ∷ ts) =
     ((x : TellsAnswer m s.switches (came_in t) before t.lines) → ClosesFirst m s seen x.homing.section x.tick)

@@ -19,7 +19,7 @@ use Rattle.laws_homing.specs.home_runs.Told.{IsMember}
 use Rattle.laws_homing.specs.switch_runs.Reports.{WasReported}
 use Rattle.laws_homing.specs.fired_runs.Since.{IsFiredAt, WasFiredAt}
 use Rattle.laws_homing.specs.hindered.Hindered.{HeardByNow, HinderedIn, StoodAt}
-use Rattle.laws_run.specs.lanes.Boards.{IsInWhole, behind}
+use Rattle.laws_run.specs.lanes.Boards.{IsInWhole, turns_behind}
 use Rattle.laws_run.specs.run_headline.Timely.{link_of}
 
 -- The link of a board of a homing section was hindered in a whole run, in a turn from a number on and up to another
@@ -31,7 +31,7 @@ pub record HasHindered (m : Machine) (s : Scene) (planned : List MotionTurn) (fi
   pub there : board < length m.boards
   pub w : IsInWhole m s.switches board (clock_of (board_at m board)) (link_of m s board) planned first
       (rest ++ last ∷ [])
-  pub hindered : HinderedIn from to (behind [] w.made)
+  pub hindered : HinderedIn from to (turns_behind [] w.made)
 
 -- the board of each member of a homing section took the section's set-up in time
 abbrev pub AllTookSetUp : Machine → Scene → List MotionTurn → ReactorTurn → List ReactorTurn → ReactorTurn → Homing →
@@ -39,7 +39,7 @@ abbrev pub AllTookSetUp : Machine → Scene → List MotionTurn → ReactorTurn 
 AllTookSetUp m s planned first rest last h =
     (b : ℕ) → IsMember b (members_of h.group) →
     (w : IsInWhole m s.switches b (clock_of (board_at m b)) (link_of m s b) planned first (rest ++ last ∷ [])) →
-    TakesSetUp (link_of m s b) h.start (behind [] w.made)
+    TakesSetUp (link_of m s b) h.start (turns_behind [] w.made)
 
 -- A run ends as a board expired in a turn: the board told so in the homing section that is under way, of a tick since
 -- which its trigger stood expired (2) as some of its turns ended; and by the first of these, as by each, the link of a
@@ -57,16 +57,16 @@ pub record IsHinderedIn (m : Machine) (s : Scene) (planned : List MotionTurn) (f
   pub there : board < length m.boards
   pub w : IsInWhole m s.switches board (clock_of (board_at m board)) (link_of m s board) planned first
       (rest ++ last ∷ [])
-  pub expired : WasFiredAt (trigger_of m board) 2 tick (behind [] w.made)
+  pub expired : WasFiredAt (trigger_of m board) 2 tick (turns_behind [] w.made)
   pub hindered : (later : List BoardTurn) (t : BoardTurn) (past : List BoardTurn) →
-      behind [] w.made ≡ later ++ t ∷ past → IsFiredAt (trigger_of m board) 2 tick t.after.core.board →
+      turns_behind [] w.made ≡ later ++ t ∷ past → IsFiredAt (trigger_of m board) 2 tick t.after.core.board →
       HasHindered m s planned first rest last homing (homing.start - 252) (length past)
   pub lately : (later : List BoardTurn) (t : BoardTurn) (past : List BoardTurn) →
-      behind [] w.made ≡ later ++ t ∷ past → IsFiredAt (trigger_of m board) 2 tick t.after.core.board →
+      turns_behind [] w.made ≡ later ++ t ∷ past → IsFiredAt (trigger_of m board) 2 tick t.after.core.board →
       homing.start + 41 ≤ length past → length past ≤ homing.group.last + 4 →
       HeardByNow m s.switches board homing.start (came_in last ∷ came_from [] (first ∷ rest)) →
       AllTookSetUp m s planned first rest last homing →
-      StoodAt (λ r. HasFired (trigger_of m board) r → ⊥) (length past - 12) (behind [] w.made) →
+      StoodAt (λ r. HasFired (trigger_of m board) r → ⊥) (length past - 12) (turns_behind [] w.made) →
       HasHindered m s planned first rest last homing (length past - 37) (length past)
 
 -- so in a run, by the planner's turns, the reactor's turns before its last one, and this one

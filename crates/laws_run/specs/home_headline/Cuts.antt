@@ -12,7 +12,7 @@ use Rattle.axis_homing.specs.Rising.{members_of}
 use Rattle.host_reactor.specs.declared.ordered.Phase.TheVariants.{Running}
 use Rattle.host_reactor.specs.Notes.{noted}
 use Rattle.host_reactor.specs.Reactor.{cut_line}
-use Rattle.host_reactor.specs.Runs.{Came, known_by, last_turn}
+use Rattle.host_reactor.specs.Runs.{Came, known_by, last_reacted}
 use Rattle.report_text.specs.declared.line.ReportLine.{ReportLine}
 use Rattle.report_text.specs.declared.line.ReportLine.TheVariants as report
 use Rattle.motion_work.specs.Seen.{Started}
@@ -38,7 +38,7 @@ pub record TellsCut (m : Machine) (switches : List Switch) (c : Came) (before : 
   pub tick : ℕ
   pub answer : answer_in (length before) homing.start
       (hears_all (noted m c.note (known_by m switches before)).clocks c.states homing).group ≡ Some (Endstop tick)
-  pub lines : cuts_of (last_turn m switches c before).ordered.lines
+  pub lines : cuts_of (last_reacted m switches c before).ordered.lines
       ≡ cut_line m switches homing.section (axis_at m homing.axis) (Some tick)
 
 -- Lines of a turn of the reactor tell that a switch closed: the group of the homing section that is known

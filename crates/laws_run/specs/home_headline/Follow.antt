@@ -18,7 +18,7 @@ use Rattle.session_work.specs.Rows.{gather}
 use Rattle.laws_board.specs.sections.Boards.{AreEnded, IsWindow, NextStart}
 use Rattle.laws_board.specs.plans.Boards.{lines_between, times_of}
 use Rattle.laws_board.specs.plans.Lines.{TellTurns, heads_of, pulses_of}
-use Rattle.laws_board.specs.plans.Planned.{Seen}
+use Rattle.laws_board.specs.plans.Planned.{PlannerInput}
 use Rattle.laws_run.specs.run_ends.Boards.{counts_of}
 use Rattle.laws_run.specs.run_ends.Ends.{GoesThrough}
 use Rattle.laws_run.specs.run_headline.Further.{TellFurther}
@@ -27,7 +27,7 @@ use Rattle.laws_run.specs.run_lines.Due.{AreFirst, begun_lines}
 
 -- The lines of a run's turns, of which `first` is the first one, follow the plans of the sections that were
 -- begun, of moves or homing: a place k of `rest` is turn k + 1.
-pub record FollowHomes (m : Machine) (t : Told) (seen : Seen) (first : ReactorTurn) (rest : List ReactorTurn)
+pub record FollowHomes (m : Machine) (t : Told) (seen : PlannerInput) (first : ReactorTurn) (rest : List ReactorTurn)
     : Type 0 where
   -- these are the first sections of the text
   pub of_text : map (λ s. s.section) seen.begun ≡ take (length seen.begun) (program_sections m seen.text)
@@ -55,7 +55,8 @@ pub record FollowHomes (m : Machine) (t : Told) (seen : Seen) (first : ReactorTu
 
 -- What the reactor's turns in a whole run in which axes home show of the sections that its planner begun.
 -- Place k of `rest` is turn k + 1.
-pub record ShowHomes (m : Machine) (seen : Seen) (clocks : List Clocks) (ready : ℕ) (c : Cause) (first : ReactorTurn)
+pub record ShowHomes (m : Machine) (seen : PlannerInput) (clocks : List Clocks) (ready : ℕ) (c : Cause)
+    (first : ReactorTurn)
     (rest : List ReactorTurn) : Type 0 where
   -- the clock lines are those that the planner heard
   pub heard : AreHeard clocks seen
@@ -105,13 +106,14 @@ pub record ShowHomes (m : Machine) (seen : Seen) (clocks : List Clocks) (ready :
       (pulses_of place (lines_between from to rest)) (stepper_plan m short s.section.moves s.start place)
 
 -- so the turns of a whole run, which ended for a cause
-abbrev pub AllShowHomes : Machine → Seen → List Clocks → ℕ → Cause → List ReactorTurn → Type 0
+abbrev pub AllShowHomes : Machine → PlannerInput → List Clocks → ℕ → Cause → List ReactorTurn → Type 0
 AllShowHomes m seen clocks ready c [] = Unit {0}
 AllShowHomes m seen clocks ready c (first ∷ rest) = ShowHomes m seen clocks ready c first rest
 
 -- What the reactor's turns in a whole run show of the lines of boards and sections, whatever the links of its
 -- boards hold.
-pub record ShowBegun (m : Machine) (seen : Seen) (clocks : List Clocks) (ready : ℕ) (c : Cause) (first : ReactorTurn)
+pub record ShowBegun (m : Machine) (seen : PlannerInput) (clocks : List Clocks) (ready : ℕ) (c : Cause)
+    (first : ReactorTurn)
     (rest : List ReactorTurn) : Type 0 where
   -- the sections that were begun are the first ones of the text
   pub of_text : map (λ s. s.section) seen.begun ≡ take (length seen.begun) (program_sections m seen.text)
@@ -135,7 +137,7 @@ pub record ShowBegun (m : Machine) (seen : Seen) (clocks : List Clocks) (ready :
       TellFurther m clocks (length front + 271) (gather (λ t. t.lines) front)
 
 -- so the turns of a whole run, which ended for a cause
-abbrev pub AllShowBegun : Machine → Seen → List Clocks → ℕ → Cause → List ReactorTurn → Type 0
+abbrev pub AllShowBegun : Machine → PlannerInput → List Clocks → ℕ → Cause → List ReactorTurn → Type 0
 AllShowBegun m seen clocks ready c [] = Unit {0}
 AllShowBegun m seen clocks ready c (first ∷ rest) = ShowBegun m seen clocks ready c first rest
 

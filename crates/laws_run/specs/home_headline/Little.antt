@@ -16,7 +16,7 @@ use Rattle.laws_board.specs.sections.Links.{ends_of, turns_told}
 use Rattle.laws_board.specs.sections.Runs.{AreSpilled}
 use Rattle.laws_board.specs.plans.Homed.{runs_on}
 use Rattle.laws_board.specs.plans.Planned.{Plans}
-use Rattle.laws_run.specs.lanes.Boards.{IsInWhole, behind, orders_of, states_of}
+use Rattle.laws_run.specs.lanes.Boards.{IsInWhole, turns_behind, orders_of, states_of}
 use Rattle.laws_run.specs.run_headline.Timely.{link_of}
 use Rattle.laws_run.specs.home_headline.Near.{SetsUp}
 
@@ -32,9 +32,9 @@ pub record HomesLittle (m : Machine) (s : Scene) (b : ℕ) (planned : List Motio
   pub spilled : AreSpilled turns late (parts_on m t.clocks begun b)
   pub few : (s.entries ≡ [])
       ⊎ ((k : ℕ) → spoiled (take k (ends_of (clock_of (board_at m b)) 0 (orders_of w.made) (link_of m s b)
-      (stands_after (link_of m s b) (behind [] w.made))
+      (stands_after (link_of m s b) (turns_behind [] w.made))
       (turns_told (clock_of (board_at m b)) 0 (orders_of w.made) (states_of w.made) (link_of m s b)
-      (stands_after (link_of m s b) (behind [] w.made)) w.told))) ≤ 10_700 - late)
+      (stands_after (link_of m s b) (turns_behind [] w.made)) w.told))) ≤ 10_700 - late)
   pub sets_up : SetsUp m s b planned first rest begun w
 
 -- so each board of a whole run of a text in which a section was begun, by the turns of the planner and of the reactor

@@ -10,10 +10,10 @@ use Rattle.session_work.specs.declared.table.MotionTurn.{MotionTurn}
 use Rattle.session_work.specs.declared.table.ReactorTurn.{ReactorTurn}
 use Rattle.session_run.specs.Boards.{came_from, came_in}
 use Rattle.laws_board.specs.plans.Planned.{Plans}
-use Rattle.laws_run.specs.lanes.Boards.{IsInWhole, behind}
+use Rattle.laws_run.specs.lanes.Boards.{IsInWhole, turns_behind}
 use Rattle.laws_run.specs.lanes.Turns.{came_before}
 use Rattle.laws_run.specs.run_headline.Timely.{IsTimelyIn, link_of}
-use Rattle.laws_homing.specs.fired_runs.Since.{AllReadTrue, AreRead, ReadsAsTold}
+use Rattle.laws_homing.specs.fired_runs.Since.{AllReadTrue, AreSoInTurns, ReadsAsTold}
 use Rattle.laws_homing.specs.home_parts.Answers.{TakeSetUps}
 
 -- A board in a whole run takes all near: while it runs it takes no unit half a round of its 32-bit clock,
@@ -23,7 +23,7 @@ pub record TakesNear (m : Machine) (s : Scene) (b : ℕ) (planned : List MotionT
     (rest : List ReactorTurn)
     (w : IsInWhole m s.switches b (clock_of (board_at m b)) (link_of m s b) planned first rest) : Type 0 where
   pub timely : IsTimelyIn m s b planned first rest w
-  pub reads : AllReadTrue m s.switches b (came_before [] (first ∷ rest)) (behind [] w.made)
+  pub reads : AllReadTrue m s.switches b (came_before [] (first ∷ rest)) (turns_behind [] w.made)
 
 -- so each board of a whole run of a text in which a section was begun, by the turns of the planner and of the reactor
 abbrev pub AllTakeNear : Machine → Scene → List ℕ → List MotionTurn → List ReactorTurn → Type 0
@@ -46,7 +46,7 @@ AllReportsReadTrue m s planned [] = Unit {0}
 AllReportsReadTrue m s planned (first ∷ rest) =
     (b : ℕ) → b < length m.boards →
     (w : IsInWhole m s.switches b (clock_of (board_at m b)) (link_of m s b) planned first rest) →
-    AllReadTrue m s.switches b (came_before [] (first ∷ rest)) (behind [] w.made)
+    AllReadTrue m s.switches b (came_before [] (first ∷ rest)) (turns_behind [] w.made)
 
 -- Of each board of a whole run, by the planner's turns, the reactor's turns before its last one, and this
 -- one, each report that its trigger has triggered, which counts for a homing section, is read as what it told
@@ -56,15 +56,15 @@ AllReadAsTold m s planned [] last = Unit {0}
 AllReadAsTold m s planned (first ∷ rest) last =
     (b : ℕ) → b < length m.boards →
     (w : IsInWhole m s.switches b (clock_of (board_at m b)) (link_of m s b) planned first (rest ++ last ∷ [])) →
-    AreRead (ReadsAsTold m s.switches b) (came_in last ∷ came_from [] (first ∷ rest)) (behind [] w.made)
+    AreSoInTurns (ReadsAsTold m s.switches b) (came_in last ∷ came_from [] (first ∷ rest)) (turns_behind [] w.made)
 
 -- A board in a whole run takes the set-up of each homing section in time, or its reports are read true.
 abbrev pub SetsUp : (m : Machine) (s : Scene) (b : ℕ) (planned : List MotionTurn) (first : ReactorTurn)
     (rest : List ReactorTurn) (begun : List Started)
     (w : IsInWhole m s.switches b (clock_of (board_at m b)) (link_of m s b) planned first rest) → Type 0
 SetsUp m s b planned first rest begun w =
-    TakeSetUps m (pins_of (board_at m b) b s.switches) s.entries b begun (behind [] w.made)
-    ⊎ AllReadTrue m s.switches b (came_before [] (first ∷ rest)) (behind [] w.made)
+    TakeSetUps m (pins_of (board_at m b) b s.switches) s.entries b begun (turns_behind [] w.made)
+    ⊎ AllReadTrue m s.switches b (came_before [] (first ∷ rest)) (turns_behind [] w.made)
 
 -- A board in a whole run keeps up, which is less than to take all near: it is timely, and it takes the set-up of each
 -- homing section in time, or its reports are read true.

@@ -8,7 +8,7 @@ use Rattle.link_work.specs.Switches.{pins_of}
 use Rattle.host_reactor.specs.Runs.{Came}
 use Rattle.session_work.specs.Rows.{item}
 use Rattle.laws_homing.specs.switch_runs.Reading.{TellTrue}
-use Rattle.laws_homing.specs.switch_runs.Runs.{IsRead}
+use Rattle.laws_homing.specs.switch_runs.Runs.{IsReadInRun}
 
 -- In each of some turns of the reactor, whatever a state that comes tells of a board's trigger, that readings
 -- triggered it, it tells of a tick at which the board's readings of the endstop of an axis that homes are
@@ -17,5 +17,5 @@ abbrev pub TellOfReadings : Machine → List Switch → List Came → Type 0
 TellOfReadings m switches [] = Unit {0}
 TellOfReadings m switches (c ∷ before) =
     ((b : ℕ) (state : State) → b < length m.boards → item b c.states ≡ state ∷ [] →
-    TellTrue (IsRead m switches (pins_of (board_at m b) b switches) b before) state.news)
+    TellTrue (IsReadInRun m switches (pins_of (board_at m b) b switches) b before) state.news)
     × TellOfReadings m switches before

@@ -12,8 +12,8 @@ use Rattle.motion_work.specs.Seen.{Started}
 use Rattle.session_work.specs.declared.table.MotionTurn.{MotionTurn}
 use Rattle.session_work.specs.declared.table.ReactorTurn.{ReactorTurn}
 use Rattle.session_run.specs.Boards.{came_in}
-use Rattle.laws_board.specs.plans.Planned.{Plans, Seen}
-use Rattle.laws_run.specs.lanes.Boards.{IsInWhole, behind}
+use Rattle.laws_board.specs.plans.Planned.{Plans, PlannerInput}
+use Rattle.laws_run.specs.lanes.Boards.{IsInWhole, turns_behind}
 use Rattle.laws_run.specs.lanes.Turns.{came_before}
 use Rattle.laws_run.specs.run_headline.Timely.{link_of}
 use Rattle.laws_homing.specs.fired_runs.Since.{AllRead, ReadsSwitchTrue}
@@ -30,13 +30,13 @@ AllSwitchesReadTrue m s planned [] = Unit {0}
 AllSwitchesReadTrue m s planned (first ∷ rest) =
     (b : ℕ) → b < length m.boards →
     (w : IsInWhole m s.switches b (clock_of (board_at m b)) (link_of m s b) planned first rest) →
-    AllRead (ReadsSwitchTrue m s.switches b) (came_before [] (first ∷ rest)) (behind [] w.made)
+    AllRead (ReadsSwitchTrue m s.switches b) (came_before [] (first ∷ rest)) (turns_behind [] w.made)
 
 -- The tick is the trigger tick of the homing section with this number, of those that were begun, in a whole run: by
 -- what came to the reactor before a turn, and the turns of its axis's board by then. Where the board took the
 -- section's command before its start, it is the first tick, from the start on, at which four readings in a row show
 -- the switch pressed.
-pub record IsTriggerIn (m : Machine) (s : Scene) (seen : Seen) (planned : List MotionTurn) (first : ReactorTurn)
+pub record IsTriggerIn (m : Machine) (s : Scene) (seen : PlannerInput) (planned : List MotionTurn) (first : ReactorTurn)
     (rest : List ReactorTurn) (section : ℕ) (before : List Came) (tick : ℕ) : Type 0 where
   pub past : List Started
   pub x : Started
@@ -52,7 +52,7 @@ pub record IsTriggerIn (m : Machine) (s : Scene) (seen : Seen) (planned : List M
   -- the board's turns, behind that turn and before it
   pub others : List BoardTurn
   pub turns : List BoardTurn
-  pub are : behind [] w.made ≡ others ++ turns
+  pub are : turns_behind [] w.made ≡ others ++ turns
   pub long : length turns ≡ length before
   pub is : IsTriggerOf m s.switches (pins_of (board_at m board) board s.switches) s.entries board x.start axis before
       turns tick
@@ -60,7 +60,8 @@ pub record IsTriggerIn (m : Machine) (s : Scene) (seen : Seen) (planned : List M
 
 -- Each of some turns of the reactor, behind what came to it before, that tells that the switch of a homing section
 -- closed, tells of the section's trigger tick.
-abbrev pub TellTriggersBehind : Machine → Scene → Seen → List MotionTurn → ReactorTurn → List ReactorTurn → List Came
+abbrev pub TellTriggersBehind : Machine → Scene → PlannerInput → List MotionTurn → ReactorTurn →
+    List ReactorTurn → List Came
     → List ReactorTurn → Type 0
 TellTriggersBehind m s seen planned first rest before [] = Unit {0}
 TellTriggersBehind m s seen planned first rest before (t ∷ ts) =
@@ -69,7 +70,7 @@ TellTriggersBehind m s seen planned first rest before (t ∷ ts) =
     × TellTriggersBehind m s seen planned first rest (came_in t ∷ before) ts
 
 -- so in a whole run, by what was begun, the planner's turns, the reactor's turns before its last one, and this one
-abbrev pub TellTriggers : Machine → Scene → Seen → List MotionTurn → List ReactorTurn → ReactorTurn → Type 0
+abbrev pub TellTriggers : Machine → Scene → PlannerInput → List MotionTurn → List ReactorTurn → ReactorTurn → Type 0
 TellTriggers m s seen planned [] last = Unit {0}
 TellTriggers m s seen planned (first ∷ rest) last =
     TellTriggersBehind m s seen planned first (rest ++ last ∷ []) [] (first ∷ rest)
@@ -80,4 +81,4 @@ AllTakeInTime m s text planned [] = Unit {0}
 AllTakeInTime m s text planned (first ∷ rest) =
     (p : Plans m (length m.boards) planned) (b : ℕ) → p.seen.text ≡ text → p.seen.begun ≢ [] → b < length m.boards →
     (w : IsInWhole m s.switches b (clock_of (board_at m b)) (link_of m s b) planned first rest) →
-    TakeSetUps m (pins_of (board_at m b) b s.switches) s.entries b p.seen.begun (behind [] w.made)
+    TakeSetUps m (pins_of (board_at m b) b s.switches) s.entries b p.seen.begun (turns_behind [] w.made)

@@ -11,12 +11,12 @@ use Rattle.session_work.specs.declared.table.ReactorTurn.{ReactorTurn}
 use Rattle.laws_board.specs.sections.Boards.{IsWindow}
 use Rattle.laws_board.specs.plans.Boards.{lines_between, times_of}
 use Rattle.laws_board.specs.plans.Lines.{pulses_of}
-use Rattle.laws_board.specs.plans.Planned.{Seen}
+use Rattle.laws_board.specs.plans.Planned.{PlannerInput}
 use Rattle.laws_run.specs.run_ends.Ends.{GoesThrough}
 
 -- The pulses that the turns of a whole run in which axes home tell of sections of moves: all of their plans.
 -- Place k of `rest` is turn k + 1.
-pub record WholeHomes (m : Machine) (seen : Seen) (clocks : List Clocks) (c : Cause) (rest : List ReactorTurn)
+pub record WholeHomes (m : Machine) (seen : PlannerInput) (clocks : List Clocks) (c : Cause) (rest : List ReactorTurn)
     : Type 0 where
   -- in a run that went through they are as many as the steps of the plan
   pub whole : GoesThrough c → (past : List Started) (s : Started) (later : List Started) (from to place : ℕ) →
@@ -34,6 +34,6 @@ pub record WholeHomes (m : Machine) (seen : Seen) (clocks : List Clocks) (c : Ca
       ≡ length (stepper_plan m clocks s.section.moves s.start place)
 
 -- so the turns of a whole run
-abbrev pub AllWholeHomes : Machine → Seen → List Clocks → Cause → List ReactorTurn → Type 0
+abbrev pub AllWholeHomes : Machine → PlannerInput → List Clocks → Cause → List ReactorTurn → Type 0
 AllWholeHomes m seen clocks c [] = Unit {0}
 AllWholeHomes m seen clocks c (first ∷ rest) = WholeHomes m seen clocks c rest

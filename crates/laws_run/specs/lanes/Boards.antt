@@ -19,9 +19,9 @@ use Rattle.laws_run.specs.lanes.Turns.{came_before}
 use Rattle.laws_board.specs.plans.Boards.{TookStates}
 
 -- turns in their order behind others, of which the latest stands first
-abbrev pub behind : List BoardTurn → List BoardTurn → List BoardTurn
-behind turns [] = turns
-behind turns (t ∷ made) = behind (t ∷ turns) made
+abbrev pub turns_behind : List BoardTurn → List BoardTurn → List BoardTurn
+turns_behind turns [] = turns
+turns_behind turns (t ∷ made) = turns_behind (t ∷ turns) made
 
 -- what came to a board in each of some turns
 abbrev pub orders_of : List BoardTurn → List Orders
@@ -39,14 +39,14 @@ pub record IsInWhole (m : Machine) (switches : List Switch) (b : ℕ) (clock : B
     (planned : List MotionTurn) (first : ReactorTurn) (rest : List ReactorTurn) : Type 0 where
   -- the turns of the board, in order
   pub made : List BoardTurn
-  pub both : IsBoardOf m switches b (came_before [] (first ∷ rest)) (behind [] made)
-  pub turns_are : AreBoardTurns clock begin (behind [] made)
+  pub both : IsBoardOf m switches b (came_before [] (first ∷ rest)) (turns_behind [] made)
+  pub turns_are : AreBoardTurns clock begin (turns_behind [] made)
   pub goes_on : GoesOn m switches (came_before [] (first ∷ rest))
   pub have_states : HaveStates m (came_before [] (first ∷ rest))
-  pub in_range : board_tick clock (length (behind [] made)) < tick_limit
-  pub few : length (behind [] made) ≤ 2 ^ 59
-  pub in_order : orders_in (behind [] made) ≡ orders_of made
-  pub told : AreTold clock 0 (orders_of made) (states_of made) begin (stands_after begin (behind [] made))
+  pub in_range : board_tick clock (length (turns_behind [] made)) < tick_limit
+  pub few : length (turns_behind [] made) ≤ 2 ^ 59
+  pub in_order : orders_in (turns_behind [] made) ≡ orders_of made
+  pub told : AreTold clock 0 (orders_of made) (states_of made) begin (stands_after begin (turns_behind [] made))
   pub states : TookStates b rest (states_of made)
   pub batches : (left : List Batch)
       × (map (λ o. o.batch) (orders_of made) ++ left ≡ gather (λ t. item b t.batches) planned)

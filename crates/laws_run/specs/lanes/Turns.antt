@@ -6,10 +6,10 @@ use Rattle.msg_code.specs.declared.unit.Batch.{Batch}
 use Rattle.msg_code.specs.declared.unit.Control.{Control}
 use Rattle.msg_code.specs.declared.talk.State.{State}
 use Rattle.wire_scene.specs.declared.scene.Switch.{Switch}
-use Rattle.link_work.specs.Stands.{Seen, StandsFor, orders}
+use Rattle.link_work.specs.Stands.{SeenLink, StandsFor, orders}
 use Rattle.link_work.specs.Told.{IsTold}
 use Rattle.link_work.specs.Turn.{IsTurn, LinkState}
-use Rattle.host_reactor.specs.Runs.{Came, last_turn}
+use Rattle.host_reactor.specs.Runs.{Came, last_reacted}
 use Rattle.host_reactor.specs.Running.{any_out}
 use Rattle.session_work.specs.declared.table.ReactorTurn.{ReactorTurn}
 use Rattle.session_work.specs.Heads.{IsRow}
@@ -26,8 +26,8 @@ came_before before (t ∷ (u ∷ ts)) = came_before (came_in t ∷ before) (u �
 pub record GoesOnIn (m : Machine) (switches : List Switch) (before : List Came) (t : ReactorTurn) : Type 0 where
   pub row : IsRow (length m.boards) (length before) t.states t.note
   pub count : length t.controls ≡ length m.boards
-  pub controls_are : t.controls ≡ (last_turn m switches (came_in t) before).ordered.controls
-  pub goes_on : (last_turn m switches (came_in t) before).ordered.end ≡ None
+  pub controls_are : t.controls ≡ (last_reacted m switches (came_in t) before).ordered.controls
+  pub goes_on : (last_reacted m switches (came_in t) before).ordered.end ≡ None
 
 -- turns of the reactor, each behind those before
 abbrev pub AllGoOn : Machine → List Switch → List Came → List ReactorTurn → Type 0
@@ -47,7 +47,7 @@ AllHaveControls n (t ∷ ts) = (length t.controls ≡ n) × AllHaveControls n ts
 
 module _ {L : Type 0} (turns : L → ℕ → Control → Batch → State → L → Type 0) where
   -- a link's turns are those of a board with its link, of which a view shows how it stands
-  pub record ShowsLink (view : L → Seen) : Type 0 where
+  pub record ShowsLink (view : L → SeenLink) : Type 0 where
     pub turned : (x : L) (k : ℕ) (c : Control) (b : Batch) (s : State) (y : L) → turns x k c b s y → (l : LinkState) →
         StandsFor (view x) l →
         (m : LinkState) × (t : IsTurn (view x).clock k (orders c b) l m) × StandsFor (view y) m

@@ -13,11 +13,11 @@ use Rattle.session_work.specs.Rows.{item}
 use Rattle.session_work.specs.declared.table.MotionTurn.{MotionTurn}
 use Rattle.session_work.specs.declared.table.ReactorTurn.{ReactorTurn}
 use Rattle.session_run.specs.Boards.{came_from}
-use Rattle.laws_board.specs.plans.Planned.{Seen}
+use Rattle.laws_board.specs.plans.Planned.{PlannerInput}
 use Rattle.laws_homing.specs.missed_runs.Missed.{IsMissedOf}
 use Rattle.laws_homing.specs.switch_runs.Taken.{TookHome}
 use Rattle.laws_run.specs.clear_homes.Closes.{MissesSwitch, tick_in}
-use Rattle.laws_run.specs.lanes.Boards.{IsInWhole, behind}
+use Rattle.laws_run.specs.lanes.Boards.{IsInWhole, turns_behind}
 use Rattle.laws_run.specs.run_headline.Timely.{link_of}
 
 -- no state of a board that comes in a turn tells of a shutdown
@@ -29,7 +29,7 @@ NoneShut m turn =
 -- isn't before the tick of the turn behind its last planned step, by the clock lines that the planner was told
 -- (`IsMissedOf`). Where its axis's board took the section's command before its start, the switch closes at no tick,
 -- from the start on, before that of this turn (`MissesSwitch`).
-pub record IsMissedIn (m : Machine) (s : Scene) (seen : Seen) (planned : List MotionTurn) (first : ReactorTurn)
+pub record IsMissedIn (m : Machine) (s : Scene) (seen : PlannerInput) (planned : List MotionTurn) (first : ReactorTurn)
     (rest : List ReactorTurn) (last : ReactorTurn) (section : ℕ) : Type 0 where
   pub told : Told
   pub told_is : seen.told ≡ Some told
@@ -47,12 +47,12 @@ pub record IsMissedIn (m : Machine) (s : Scene) (seen : Seen) (planned : List Mo
       (rest ++ last ∷ [])
   pub until : ℕ
   pub is : IsMissedOf m s.switches (pins_of (board_at m board) board s.switches) s.entries board x.start axis
-      (came_from [] (first ∷ rest)) (behind [] w.made) until
+      (came_from [] (first ∷ rest)) (turns_behind [] w.made) until
   pub late : tick_in m told.clocks axis (x.last + 1) ≤ until
-  pub exact : (turn : ℕ) → TookHome (link_of m s board) x.start (behind [] w.made) turn → turn < x.start →
+  pub exact : (turn : ℕ) → TookHome (link_of m s board) x.start (turns_behind [] w.made) turn → turn < x.start →
       MissesSwitch m s seen section
 
 -- so in a whole run, by what was begun, the planner's turns, the reactor's turns before its last one, and this one
-abbrev pub Misses : Machine → Scene → Seen → List MotionTurn → List ReactorTurn → ReactorTurn → ℕ → Type 0
+abbrev pub Misses : Machine → Scene → PlannerInput → List MotionTurn → List ReactorTurn → ReactorTurn → ℕ → Type 0
 Misses m s seen planned [] last section = ⊥
 Misses m s seen planned (first ∷ rest) last section = IsMissedIn m s seen planned first rest last section

@@ -12,7 +12,7 @@ use Rattle.laws_board.specs.causes.Causes.{AllUnanswered, AreAskedAndHindered, A
 use Rattle.session_work.specs.declared.table.MotionTurn.{MotionTurn}
 use Rattle.session_work.specs.declared.table.ReactorTurn.{ReactorTurn}
 use Rattle.session_run.specs.Boards.{came_from, came_in}
-use Rattle.laws_run.specs.lanes.Boards.{IsInWhole, behind}
+use Rattle.laws_run.specs.lanes.Boards.{IsInWhole, turns_behind}
 use Rattle.laws_run.specs.run_headline.Timely.{link_of}
 
 -- In a whole run, by the planner's turns, the reactor's turns before its last one, and this one, a board gave
@@ -26,7 +26,7 @@ GaveNoAnswer m s board turn planned (first ∷ rest) last =
     × (w : IsInWhole m s.switches board (clock_of (board_at m board)) (link_of m s board) planned first
     (rest ++ last ∷ [])) × (count : ℕ) × (8 ≤ count)
     × AreUnanswered (configuration m board) (told_by board (came_in last ∷ came_from [] (first ∷ rest))) turn count
-    × AreHindered (link_of m s board) (behind [] w.made) turn count
+    × AreHindered (link_of m s board) (turns_behind [] w.made) turn count
 
 -- So of a board whose clock line is too old: it was asked for its clock 200 times in a row or more, from a
 -- turn on, which is 1000 or later, each asking four turns or more behind the one before it, with none
@@ -39,9 +39,9 @@ IsStaleSince m s board turn planned (first ∷ rest) last =
     (board < length m.boards)
     × (w : IsInWhole m s.switches board (clock_of (board_at m board)) (link_of m s board) planned first
     (rest ++ last ∷ []))
-    × (UnitsFit (behind [] w.made) →
-    (1_000 ≤ turn) × (asked : List ℕ) × (200 ≤ length asked) × AreInRow turn (length (behind [] w.made)) asked
-    × AsksNoneBetween (behind [] w.made) (length (behind [] w.made)) asked
+    × (UnitsFit (turns_behind [] w.made) →
+    (1_000 ≤ turn) × (asked : List ℕ) × (200 ≤ length asked) × AreInRow turn (length (turns_behind [] w.made)) asked
+    × AsksNoneBetween (turns_behind [] w.made) (length (turns_behind [] w.made)) asked
     × AllUnanswered m s.switches board (came_in last ∷ came_from [] (first ∷ rest)) asked
-    × AreAskedAndHindered (link_of m s board) (behind [] w.made) asked
-    × All (λ k. IsDisturbedAround (link_of m s board) (behind [] w.made) k) asked)
+    × AreAskedAndHindered (link_of m s board) (turns_behind [] w.made) asked
+    × All (λ k. IsDisturbedAround (link_of m s board) (turns_behind [] w.made) k) asked)

@@ -15,7 +15,7 @@ use Rattle.laws_board.specs.clocks.Near.{IsUndisturbed}
 use Rattle.laws_board.specs.causes.Causes.{before_turn}
 use Rattle.session_work.specs.declared.table.MotionTurn.{MotionTurn}
 use Rattle.session_work.specs.declared.table.ReactorTurn.{ReactorTurn}
-use Rattle.laws_run.specs.lanes.Boards.{IsInWhole, behind}
+use Rattle.laws_run.specs.lanes.Boards.{IsInWhole, turns_behind}
 use Rattle.laws_run.specs.run_headline.Near.{FollowsClock}
 use Rattle.laws_run.specs.run_headline.Timely.{link_of}
 use Rattle.laws_run.specs.run_turns.Starts.{EndsConnecting}
@@ -25,7 +25,7 @@ abbrev pub IsUndisturbedBefore : Machine → Scene → ℕ → ℕ → List Moti
 IsUndisturbedBefore m s b k planned [] = Unit {0}
 IsUndisturbedBefore m s b k planned (first ∷ rest) =
     (w : IsInWhole m s.switches b (clock_of (board_at m b)) (link_of m s b) planned first rest) →
-    IsUndisturbed (stands_after (link_of m s b) (before_turn k (behind [] w.made)))
+    IsUndisturbed (stands_after (link_of m s b) (before_turn k (turns_behind [] w.made)))
 
 -- a clock line of a board follows its clock, of a sample that was got in the turn in which it was sent
 abbrev pub IsTakenAtOnce : BoardClock → Line → Type 0

@@ -26,9 +26,9 @@ use Rattle.session_work.specs.declared.table.ReactorTurn.{ReactorTurn}
 use Rattle.laws_board.specs.orders.Renewed.{NoneBefore}
 use Rattle.laws_board.specs.sections.Links.{ends_of, steps_of, turns_told}
 use Rattle.laws_board.specs.sections.Timely.{AllTimely}
-use Rattle.board_world.specs.World.{start}
-use Rattle.laws_run.specs.lanes.Boards.{IsInWhole, behind, orders_of, states_of}
-use Rattle.laws_board.specs.plans.Planned.{Plans, Seen}
+use Rattle.board_world.specs.World.{new_world}
+use Rattle.laws_run.specs.lanes.Boards.{IsInWhole, turns_behind, orders_of, states_of}
+use Rattle.laws_board.specs.plans.Planned.{Plans, PlannerInput}
 use Rattle.session_work.specs.Rows.{gather}
 use Rattle.laws_run.specs.run_ends.Boards.{boards_of, lines_at}
 use Rattle.laws_run.specs.run_headline.Near.{FollowsClock}
@@ -45,8 +45,8 @@ pub record HoldsLittle (m : Machine) (s : Scene) (b : ℕ) (planned : List Motio
   pub few : (s.entries ≡ [])
       ⊎ ((k : ℕ) →
       spoiled (take k (ends_of (clock_of (board_at m b)) 0 (orders_of w.made) (link_of m s b)
-      (stands_after (link_of m s b) (behind [] w.made)) (turns_told (clock_of (board_at m b)) 0 (orders_of w.made)
-      (states_of w.made) (link_of m s b) (stands_after (link_of m s b) (behind [] w.made)) w.told))) ≤ 10_000)
+      (stands_after (link_of m s b) (turns_behind [] w.made)) (turns_told (clock_of (board_at m b)) 0 (orders_of w.made)
+      (states_of w.made) (link_of m s b) (stands_after (link_of m s b) (turns_behind [] w.made)) w.told))) ≤ 10_000)
 
 -- A board in a whole run is timely: while it runs it takes no unit half a round of its 32-bit clock, 2^31
 -- ticks, or more after the unit's first tick.
@@ -54,11 +54,11 @@ abbrev pub IsTimelyIn : (m : Machine) (s : Scene) (b : ℕ) (planned : List Moti
     (rest : List ReactorTurn)
     (w : IsInWhole m s.switches b (clock_of (board_at m b)) (link_of m s b) planned first rest) → Type 0
 IsTimelyIn m s b planned first rest w =
-    AllTimely (start (board_at m b) (pins_of (board_at m b) b s.switches))
+    AllTimely (new_world (board_at m b) (pins_of (board_at m b) b s.switches))
     (steps_of (clock_of (board_at m b)) 0 (orders_of w.made) (link_of m s b)
-    (stands_after (link_of m s b) (behind [] w.made))
+    (stands_after (link_of m s b) (turns_behind [] w.made))
     (turns_told (clock_of (board_at m b)) 0 (orders_of w.made) (states_of w.made) (link_of m s b)
-    (stands_after (link_of m s b) (behind [] w.made)) w.told))
+    (stands_after (link_of m s b) (turns_behind [] w.made)) w.told))
 
 -- so each board of a whole run of a text in which a section was begun, by the turns of the planner and of the reactor
 abbrev pub AllAreTimely : Machine → Scene → List ℕ → List MotionTurn → List ReactorTurn → Type 0
@@ -82,7 +82,7 @@ abbrev pub AreOfMoves : List Section → Type 0
 AreOfMoves sections = All (λ s. s.kind ≡ Moves) sections
 
 -- the boards' clock lines, as the planner heard them
-abbrev pub AreHeard : List Clocks → Seen → Type 0
+abbrev pub AreHeard : List Clocks → PlannerInput → Type 0
 AreHeard clocks seen = (t : Told) → seen.told ≡ Some t → t.clocks ≡ clocks
 
 -- each of some further lines may hold behind those of a board and the ones before it
@@ -117,7 +117,7 @@ pub record TellBoards (clocks : List Clocks) (ready : ℕ) (turns : List Reactor
 
 -- All sections of a text were begun, each ended five turns or more before a turn, and the cause is how the
 -- reading ended.
-pub record AreThrough (m : Machine) (seen : Seen) (c : Cause) (turn : ℕ) : Type 0 where
+pub record AreThrough (m : Machine) (seen : PlannerInput) (c : Cause) (turn : ℕ) : Type 0 where
   pub all : map (λ s. s.section) seen.begun ≡ program_sections m seen.text
   pub over : All (λ s. s.end + 5 ≤ turn) seen.begun
   pub cause_is : c ≡ text_end (program_end m seen.text).stop

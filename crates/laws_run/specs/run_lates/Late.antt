@@ -27,7 +27,7 @@ use Rattle.session_work.specs.declared.table.ReactorTurn.{ReactorTurn}
 use Rattle.laws_board.specs.sections.Ends.{MayEnd}
 use Rattle.laws_board.specs.sections.Late.{IsIn}
 use Rattle.laws_board.specs.sections.Links.{steps_of_turn}
-use Rattle.laws_run.specs.lanes.Boards.{IsInWhole, behind}
+use Rattle.laws_run.specs.lanes.Boards.{IsInWhole, turns_behind}
 use Rattle.laws_run.specs.run_headline.Timely.{link_of}
 
 -- the turns of the busy stretch that were spoiled, up to a turn of a board behind others, and this one where it was
@@ -51,7 +51,7 @@ pub record ComesLate (m : Machine) (s : Scene) (b first arrival spoiled spill : 
   -- its last turn, and those before, of which the latest stands first
   pub turn : BoardTurn
   pub past : List BoardTurn
-  pub are : behind [] w.made ≡ turn ∷ past
+  pub are : turns_behind [] w.made ≡ turn ∷ past
   pub is : IsTurn (clock_of (board_at m b)) (length past) (orders turn.control turn.batch)
       (stands_after (link_of m s b) past) turn.after
   pub ran : (stands_after (link_of m s b) past).core.board.controller.state ≡ Running
@@ -98,7 +98,7 @@ abbrev pub HasFewUnits : (m : Machine) (s : Scene) (b first arrival spoiled spil
     (turns : List ReactorTurn) (last : ReactorTurn) → ComesLateIn m s b first arrival spoiled spill planned turns last →
     Type 0
 HasFewUnits m s b first arrival spoiled spill planned [] last c = ⊥
-HasFewUnits m s b first arrival spoiled spill planned (begin ∷ rest) last c = UnitsFit (behind [] c.w.made)
+HasFewUnits m s b first arrival spoiled spill planned (begin ∷ rest) last c = UnitsFit (turns_behind [] c.w.made)
 
 -- a state tells of a shutdown only for steps that came too late or for the order to stop
 abbrev pub MayTell : State → Type 0

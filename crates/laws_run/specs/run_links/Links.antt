@@ -15,7 +15,7 @@ use Rattle.report_text.specs.declared.line.ReportLine.TheVariants as report
 use Rattle.wire_scene.specs.declared.scene.Scene.{Scene}
 use Rattle.wire_scene.specs.declared.scene.Switch.{Switch}
 use Rattle.host_reactor.specs.Report.{pulse_line}
-use Rattle.host_reactor.specs.Runs.{Came, HaveStates, last_turn, state_at}
+use Rattle.host_reactor.specs.Runs.{Came, HaveStates, last_reacted, state_at}
 use Rattle.laws_board.specs.turns.Turns.{AreBoardTurns, BoardTurn, control_at}
 use Rattle.motion_work.specs.Told.{Told}
 use Rattle.session_work.specs.declared.table.MotionTurn.{MotionTurn}
@@ -24,10 +24,10 @@ use Rattle.session_work.specs.Bares.{bare_state}
 use Rattle.session_work.specs.Leads.{each_turn, last_controls}
 use Rattle.session_work.specs.Rows.{item}
 use Rattle.session_lanes.specs.declared.near.LinkLog.{LinkLog}
-use Rattle.session_run.specs.Desks.{lines_of}
+use Rattle.session_run.specs.Desks.{reported_lines}
 use Rattle.session_run.specs.Boards.{came_from, came_in}
-use Rattle.laws_run.specs.lanes.Boards.{behind}
-use Rattle.laws_board.specs.plans.Planned.{Seen}
+use Rattle.laws_run.specs.lanes.Boards.{turns_behind}
+use Rattle.laws_board.specs.plans.Planned.{PlannerInput}
 use Rattle.laws_run.specs.run_headline.Made.{IsMade}
 use Rattle.laws_run.specs.run_headline.Timely.{link_of}
 use Rattle.laws_run.specs.run_links.Units.{AreBatchesOf, IsPartOn}
@@ -36,7 +36,7 @@ use Rattle.laws_run.specs.run_links.Units.{AreBatchesOf, IsPartOn}
 abbrev pub ordered_for : Machine → List Switch → ℕ → List Came → List Control
 ordered_for m switches b [] = []
 ordered_for m switches b (c ∷ before) =
-    ordered_for m switches b before ++ control_at b (last_turn m switches c before).ordered.controls
+    ordered_for m switches b before ++ control_at b (last_reacted m switches c before).ordered.controls
 
 -- the states of a board that came in these turns, in order
 abbrev pub states_from : ℕ → List Came → List State
@@ -52,7 +52,7 @@ out_state k = bare_state k true
 -- turn on in which its link wants memory, if it does, each state says only that.
 pub record MakesTurns (m : Machine) (s : Scene) (b : ℕ) (x : LinkLog) : Type 0 where
   pub made : List BoardTurn
-  pub are : AreBoardTurns (clock_of (board_at m b)) (link_of m s b) (behind [] made)
+  pub are : AreBoardTurns (clock_of (board_at m b)) (link_of m s b) (turns_behind [] made)
   pub out : ℕ
   pub states : x.states.0 ≡ map (λ t. t.state) made ++ each_turn out_state (length made) out
   pub later : List Batch
@@ -79,7 +79,7 @@ lines_for m b states = flat_map (λ s. flat_map (pulse_line m b) s.pulses) state
 -- What the lanes of a board carried in a run of a machine in a scene: by what its planner saw and in how many
 -- turns it sent units, by what came to the reactor in each of its turns that went on, by the states that came
 -- in its last one, by its lines and by its cause.
-pub record IsLinkIn (m : Machine) (s : Scene) (seen : Seen) (sent : ℕ) (came : List Came) (last : List State)
+pub record IsLinkIn (m : Machine) (s : Scene) (seen : PlannerInput) (sent : ℕ) (came : List Came) (last : List State)
     (lines : List ReportLine) (c : Cause) (b : ℕ) (x : LinkLog) : Type 0 where
   -- Batches put: batch k has the units that the sections which were begun release in turn k, and none once
   -- the planner stopped
@@ -117,4 +117,4 @@ pub record AreLinksIn (m : Machine) (s : Scene) (text : List ℕ) (c : Cause) (t
   pub count : length links ≡ length m.boards
   pub each : (b : ℕ) (x : LinkLog) → item b links ≡ x ∷ [] →
       IsLinkIn m s made.plans.seen (length made.plans.made) (came_from [] rs) (state_at b end.states)
-      (lines_of (rs ++ end ∷ [])) c b x
+      (reported_lines (rs ++ end ∷ [])) c b x

@@ -10,7 +10,7 @@ use Rattle.step_feed.specs.Pacing.{Release, batch_at}
 use Rattle.motion_work.specs.Feeds.{units_at}
 use Rattle.motion_work.specs.Homes.{no_end}
 use Rattle.motion_work.specs.Known.{lines_by}
-use Rattle.motion_work.specs.Seen.{Started, lines_of}
+use Rattle.motion_work.specs.Seen.{Started, planning_lines}
 
 -- Batch k of a board: it has the units that the sections which were begun release in turn k, one section
 -- behind the other, up to the turn from which on nothing is sent any more. From then on it has none; and
@@ -48,4 +48,4 @@ IsPlannedOn (Home axis) m clocks b s = IsHomedOn m clocks b s
 -- are released before it stand in the order of their first ticks, and no longer triple exists.
 pub record IsPartOn (m : Machine) (clocks : List Clocks) (sent b : ℕ) (s : Started) : Type 0 where
   pub planned : IsPlannedOn s.section.kind m clocks b s
-  pub longest : AreSentToOn m (lines_of s.section.kind s.end clocks) s.section.moves s.start b sent (units_on b s)
+  pub longest : AreSentToOn m (planning_lines s.section.kind s.end clocks) s.section.moves s.start b sent (units_on b s)

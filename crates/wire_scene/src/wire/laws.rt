@@ -3,14 +3,15 @@
 ghost use Rattle.std.specs.Prelude.{◌≡◌, ◌↔◌, ℕ, List, [], ◌++◌, map};
 ghost use Rattle.wire_scene.specs.declared.scene.Entry.{Entry};
 ghost use Rattle.wire_scene.specs.Wire.{IsQuiet, empty_line};
-ghost use Rattle.wire_scene.specs.WireRuns.{AreOver, IsInOrder, Step, arrivals, blocks_put, deeds, greatest_up_to, own_turns, run, times, to_come, turns_put, turns_used, visits};
+ghost use Rattle.wire_scene.specs.WireRuns.{AreOver, IsInOrder, Step, arrivals, blocks_put, deeds, greatest_up_to, own_turns, run_line, times, to_come, turns_put, turns_used, visits};
 
 /// The law of order: the blocks that arrive, and behind them those that are still to come, are the blocks
 /// that were put, in their order, a lost or garbled one no time, a repeated one twice, and each other one
 /// once.
 pub fn blocks_keep_order()
     ensures each { (connecting entries : List Entry) (steps : List Step) →
-        arrivals steps (empty_line connecting entries) ++ to_come (run steps (empty_line connecting entries)).copies
+        arrivals steps (empty_line connecting entries) ++ to_come
+        (run_line steps (empty_line connecting entries)).copies
         ≡ visits (blocks_put steps) (map times (deeds connecting entries 0 steps)) }
     ensures order { (connecting entries : List Entry) (steps : List Step) →
         IsInOrder (blocks_put steps) (arrivals steps (empty_line connecting entries)) }
@@ -22,9 +23,9 @@ pub fn blocks_keep_order()
 pub fn blocks_are_due()
     ensures blocks { (connecting entries : List Entry) (steps : List Step) →
         (gone : List (List ℕ))
-        × gone ++ map (λ c. c.bytes) (run steps (empty_line connecting entries)).copies ≡ blocks_put steps }
+        × gone ++ map (λ c. c.bytes) (run_line steps (empty_line connecting entries)).copies ≡ blocks_put steps }
     ensures turns { (connecting entries : List Entry) (steps : List Step) →
-        (gone : List ℕ) × gone ++ map (λ c. c.due) (run steps (empty_line connecting entries)).copies
+        (gone : List ℕ) × gone ++ map (λ c. c.due) (run_line steps (empty_line connecting entries)).copies
         ≡ greatest_up_to 0 (own_turns (turns_put steps) (deeds connecting entries 0 steps)) }
 {}
 
@@ -32,7 +33,7 @@ pub fn blocks_are_due()
 /// was used is more than four turns before it.
 pub fn lines_are_quiet()
     ensures { (connecting entries : List Entry) (steps : List Step) (turn : ℕ) →
-        IsQuiet (run steps (empty_line connecting entries)) turn
-        ↔ ((run steps (empty_line connecting entries)).copies ≡ [])
+        IsQuiet (run_line steps (empty_line connecting entries)) turn
+        ↔ ((run_line steps (empty_line connecting entries)).copies ≡ [])
         × AreOver turn (turns_used (turns_put steps) (deeds connecting entries 0 steps)) }
 {}

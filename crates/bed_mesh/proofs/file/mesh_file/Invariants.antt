@@ -1,6 +1,6 @@
 use Rattle.std.proofs.Common.{◌≡◌, ◌+◌, ◌-◌, ◌≤◌, length}
 use Rattle.text_core.specs.Lines.{lines_of}
-use Rattle.bed_mesh.specs.Files.{head_text, mesh_sheet, sheet, with_front}
+use Rattle.bed_mesh.specs.Files.{head_text, mesh_sheet, sheet, sheet_behind}
 use Rattle.bed_mesh.specs.Steps.{HasSpace, pen_of}
 use Rattle.bed_mesh.proofs.file.mesh_file.Given as goal
 
@@ -14,7 +14,7 @@ invariant-loop-rest l = record {
   lines_few : l.lines ≤ l.start;
   passed_few : l.passed ≤ l.lines;
   space : HasSpace l.writer;
-  so_far : with_front l.writer.code.items l.lines l.passed (sheet l.mesh (length l.fn.text) l.modes (pen_of l.writer) (l.lines + 1) l.start (lines_of l.rest)) ≡ with_front head_text 0 0 (mesh_sheet l.machine l.mesh l.fn.text);
+  so_far : sheet_behind l.writer.code.items l.lines l.passed (sheet l.mesh (length l.fn.text) l.modes (pen_of l.writer) (l.lines + 1) l.start (lines_of l.rest)) ≡ sheet_behind head_text 0 0 (mesh_sheet l.machine l.mesh l.fn.text);
 }
 
 abbrev pub decreases-loop-rest : goal.decreases-loop-rest

@@ -1,6 +1,6 @@
 use Rattle.std.proofs.Common.{Err, ap, ◌∙◌}
 use Rattle.msg_code.specs.Table.{row_of}
-use Rattle.link_core.specs.Host.{queued_by}
+use Rattle.link_core.specs.Host.{with_queued}
 use Rattle.board_world.proofs.Queueing.{known, written_is, one_queued, is_read}
 use Rattle.board_world.proofs.orders.queue_command.Goals as goal
 
@@ -11,7 +11,7 @@ unreachable-requires c =
 pub returns-clause-host : goal.returns-clause-host
 returns-clause-host c =
     let text = c.as_slice.ensures.value ∙ written_is c.args.formats.now.formats c.args.c.now c.in-Ok.text.items c.requires c.in-Ok.ensures.ok in
-    c.in_ok-queue-in-Ok.ensures.ok ∙ ap (λ t. queued_by c.args.host.now t c.closes.result) text ∙ one_queued c.args.host.now c.args.c.now c.closes.result c.closes.ensures
+    c.in_ok-queue-in-Ok.ensures.ok ∙ ap (λ t. with_queued c.args.host.now t c.closes.result) text ∙ one_queued c.args.host.now c.args.c.now c.closes.result c.closes.ensures
 
 pub returns-clause-read : goal.returns-clause-read
 returns-clause-read c = is_read c.args.formats.now.formats c.args.c.now c.in-Ok.text.items c.requires c.in-Ok.ensures.ok c.in-Ok.ensures.reads

@@ -1,6 +1,6 @@
 use Rattle.std.proofs.Common.{◌≡◌, ◌+◌, ◌-◌, ◌≤◌, length}
 use Rattle.text_core.specs.Lines.{lines_of}
-use Rattle.digital_out.specs.Words.{words_in}
+use Rattle.digital_out.specs.Words.{fan_words_in}
 use Rattle.digital_out.proofs.Reading.{AreWordsSofar}
 use Rattle.digital_out.proofs.word.read_words.Given as goal
 
@@ -12,7 +12,7 @@ invariant-loop-rest l = record {
   few : l.modes.lines ≤ l.start;
   number_few : l.number ≤ l.start + 1;
   moves_few : l.moves ≤ l.modes.count;
-  words : AreWordsSofar (length l.fn.text) l.modes l.number l.start l.moves (lines_of l.rest) l.words.items (words_in l.fn.machine l.fn.text);
+  words : AreWordsSofar (length l.fn.text) l.modes l.number l.start l.moves (lines_of l.rest) l.words.items (fan_words_in l.fn.machine l.fn.text);
 }
 
 abbrev pub decreases-loop-rest : goal.decreases-loop-rest

@@ -4,7 +4,7 @@ use Rattle.plan_types.specs.declared.levels.Level.{Level}
 use Rattle.board_sim.specs.Rig.{new_rig}
 use Rattle.board_sim.specs.Turn.{Simulated}
 use Rattle.frame_dump.specs.declared.trace.TraceTurn.{TraceTurn}
-use Rattle.frame_dump.specs.Played.{PlayedSofar, next_turn}
+use Rattle.frame_dump.specs.Played.{PlayedSofar, run_until}
 use Rattle.frame_dump.specs.Traces.{AreTurns}
 use Rattle.frame_dump.proofs.Replaying.{from_start, later, played_all, played_more, played_none, rise_next, stands_next}
 use Rattle.frame_dump.proofs.playing.replay.Goals as goal
@@ -14,7 +14,7 @@ play_turn-requires-clause-later c =
     let b = c.args.board.now in
     let from : ℕ → Type 0 = λ k. k ≤ c.tick_behind-first.result in
     let to : ℕ → Type 0 = λ k. b.start ≤ k in
-    subst from (sym c.in_ok-simulated.ensures.tick) (subst to (sym c.tick_behind-first.ensures.tick) (from_start b (next_turn 0 c.turns-rest.result.now)))
+    subst from (sym c.in_ok-simulated.ensures.tick) (subst to (sym c.tick_behind-first.ensures.tick) (from_start b (run_until 0 c.turns-rest.result.now)))
 
 pub loop-rest-init : goal.loop-rest-init
 loop-rest-init c =
@@ -26,7 +26,7 @@ loop-rest-init c =
     let Rise : List TraceTurn → Type 0 = λ l. AreTurns 0 l in
     let new = c.in_ok-simulated.ensures.is ∙ ap (λ (pins : List (List Level)). let s : Simulated = record { station = record { rig = new_rig b pins; expected = 0; told = false }; dropping = false; left = [] } in s) c.new.ensures.items in
     record {
-      sofar = subst At (sym same) (played_none b turns _ _ _ _ _ _ refl c.new-pulses.ensures.items new (at ∙ ap (λ (l : List TraceTurn). board_tick (clock_of b) (next_turn 0 l)) same) c.in_ok-state.ensures.turn);
+      sofar = subst At (sym same) (played_none b turns _ _ _ _ _ _ refl c.new-pulses.ensures.items new (at ∙ ap (λ (l : List TraceTurn). board_tick (clock_of b) (run_until 0 l)) same) c.in_ok-state.ensures.turn);
       stands = stands_next b _ 0 c.turns-rest.result.now (c.in_ok-state.ensures.tick ∙ at);
       rise = (0, subst Rise (sym same) c.turns-rest.ensures.rise);
       state = c.in_ok-state.ensures.state;

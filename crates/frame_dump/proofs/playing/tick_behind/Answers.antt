@@ -1,7 +1,7 @@
 use Rattle.std.proofs.Common.{◌<◌, ◌^◌, ℕ, ap, sym, ◌∙◌, arith, subst}
 use Rattle.plan_types.specs.Clock.{board_tick, clock_of, tick_limit}
 use Rattle.plan_types.specs.declared.clock.BoardClock.{BoardClock}
-use Rattle.frame_dump.specs.Played.{next_turn}
+use Rattle.frame_dump.specs.Played.{run_until}
 use Rattle.frame_dump.proofs.Replaying.{tick_small}
 use Rattle.frame_dump.proofs.playing.tick_behind.Goals as goal
 

@@ -1,5 +1,5 @@
 use Rattle.std.proofs.Common.{arith, refl, rules}
-use Rattle.gcode_program.specs.Held.{IsHeld}
+use Rattle.gcode_program.specs.Held.{AreSectionsHeld}
 use Rattle.text_core.specs.Lines.{lines_of}
 use Rattle.gcode_state.specs.Starts.{initial}
 use Rattle.gcode_program.specs.Programs.{outcome_of}
@@ -40,7 +40,7 @@ loop-rest-preserved c = record {
 pub returns-in-Err-clause-plannable : goal.returns-in-Err-clause-plannable
 returns-in-Err-clause-plannable c = finished_plannable c.finish.result c.loop-rest.cut c.loop-rest.modes.count c.finish.ensures.sections c.loop-rest.invariant.held
 
-held_behind : (c : goal.After-finish-then-is_stop) → IsHeld c.take.new.cut.sections c.take.new.cut.moves c.take.new.cut.dwell c.step_line.new.modes.count
+held_behind : (c : goal.After-finish-then-is_stop) → AreSectionsHeld c.take.new.cut.sections c.take.new.cut.moves c.take.new.cut.dwell c.step_line.new.modes.count
 held_behind c = step_held c.args.machine.now c.loop-rest.cut c.take.new.cut c.loop-rest.modes c.in-Ok.step.action c.loop-rest.modes.count c.step_line.new.modes.count c.requires (rw c.state.ensures.value at c.state.ensures.sound) (rw c.state.ensures.value at c.in_ok-take.ensures.taken)
     c.in-Ok.ensures.count c.in-Ok.ensures.few c.in-Ok.ensures.valid c.loop-rest.invariant.held
 

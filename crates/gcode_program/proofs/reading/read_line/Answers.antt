@@ -3,7 +3,7 @@ use Rattle.plan_types.specs.declared.plan.ReadEnd.{ReadEnd}
 use Rattle.plan_types.specs.declared.plan.ReadStop.TheVariants.{Refused}
 use Rattle.gcode_program.specs.declared.items.Item.{Item}
 use Rattle.gcode_program.specs.Items.{IsGood, ending, items_by, opening_by}
-use Rattle.gcode_program.specs.Reader.{IsKnown, IsOn, IsRead, stop_by}
+use Rattle.gcode_program.specs.Reader.{AreBytesKnown, IsOn, IsRead, stop_by}
 use Rattle.gcode_state.specs.States.{one_if}
 use Rattle.gcode_program.proofs.Lining.{line_accepted, line_refused, ok_map, reading_of}
 use Rattle.gcode_program.proofs.reading.read_line.Goals as goal

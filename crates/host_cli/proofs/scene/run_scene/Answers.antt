@@ -46,9 +46,9 @@ returns-in-Ok-clause-shows g c = λ printer text m s told seen is read.
     let same = one-machine printer c.in-Ok.machine m (c.in-Ok.ensures.machine printer told) is in
     shows-from g.F.Files g.S.Sink m s c.args.gcode.now c.args.files.now c.read_machine.new.files c.run_in.new.files c.args.out.now c.run_in.new.out c.run_in.result.cause c.run_in.result.report c.read_machine.ensures.same
     (subst (λ (x : Machine). ShowsRun g.F.Files g.S.Sink x s c.args.gcode.now c.read_machine.new.files c.run_in.new.files c.args.out.now c.run_in.new.out c.run_in.result.cause c.run_in.result.report) same
-    (c.run_in.ensures.shows text s (c.read_machine.ensures.same c.args.scene.now ∙ seen) (subst (λ (x : Machine). scenes.reading x text ≡ Ok s) (sym same) read) (subst (λ (x : Machine). HaveShortDictionaries x) (sym same) (short_dictionaries printer m is))))
+    (c.run_in.ensures.shows text s (c.read_machine.ensures.same c.args.scene.now ∙ seen) (subst (λ (x : Machine). scenes.scene_of_text x text ≡ Ok s) (sym same) read) (subst (λ (x : Machine). HaveShortDictionaries x) (sym same) (short_dictionaries printer m is))))
 
 pub returns-in-Ok-clause-scene : goal.returns-in-Ok-clause-scene
 returns-in-Ok-clause-scene g c = λ printer text m line kind told seen is read.
     let same = one-machine printer c.in-Ok.machine m (c.in-Ok.ensures.machine printer told) is in
-    c.run_in.ensures.scene text line kind (c.read_machine.ensures.same c.args.scene.now ∙ seen) (subst (λ (x : Machine). scenes.reading x text ≡ Err (fault.At line kind)) (sym same) read)
+    c.run_in.ensures.scene text line kind (c.read_machine.ensures.same c.args.scene.now ∙ seen) (subst (λ (x : Machine). scenes.scene_of_text x text ≡ Err (fault.At line kind)) (sym same) read)

@@ -1,6 +1,6 @@
 use Rattle.std.proofs.Common.{◌∙◌, ap, refl, arith}
 use Rattle.wire_scene.specs.declared.scene.Way.TheVariants.{Up}
-use Rattle.wire_scene.specs.Wire.{Line, is_due}
+use Rattle.wire_scene.specs.Wire.{Line, is_oldest_due}
 use Rattle.link_work.proofs.Coming.{none_has_come, one_more_comes, all_have_come, line_after, not_due, when_due, when_not}
 use Rattle.link_work.proofs.Hearing.{all_heard, none_heard_yet, one_more_heard}
 use Rattle.link_work.proofs.due.hear_due.Goals as goal
@@ -30,31 +30,31 @@ loop-came-preserved c =
 pub returns-clause-stands : goal.returns-clause-stands
 returns-clause-stands c =
     let l = c.loop-came.wire in
-    all_have_come Up c.args.turn c.args.world.now c.loop-came.world c.args.wire.now l c.loop-came.invariant.come (not_due (is_due c.args.turn l.copies) c.in_default.ensures.some.1)
+    all_have_come Up c.args.turn c.args.world.now c.loop-came.world c.args.wire.now l c.loop-came.invariant.come (not_due (is_oldest_due c.args.turn l.copies) c.in_default.ensures.some.1)
 
 pub returns-clause-line : goal.returns-clause-line
 returns-clause-line c =
     let l = c.loop-came.wire in
-    let none = not_due (is_due c.args.turn l.copies) c.in_default.ensures.some.1 in
+    let none = not_due (is_oldest_due c.args.turn l.copies) c.in_default.ensures.some.1 in
     c.in_default.ensures.after ∙ when_not l c.args.turn none ∙ line_after Up c.args.turn c.args.world.now c.loop-came.world c.args.wire.now l c.loop-came.invariant.come none
 
 pub returns-clause-news : goal.returns-clause-news
 returns-clause-news c =
     let l = c.loop-came.wire in
-    all_heard c.args.turn c.args.world.now c.loop-came.world c.args.news.now c.loop-came.news c.args.wire.now.copies l.copies c.loop-came.invariant.heard (not_due (is_due c.args.turn l.copies) c.in_default.ensures.some.1)
+    all_heard c.args.turn c.args.world.now c.loop-came.world c.args.news.now c.loop-came.news c.args.wire.now.copies l.copies c.loop-came.invariant.heard (not_due (is_oldest_due c.args.turn l.copies) c.in_default.ensures.some.1)
 
 pub returns-then-quiet-clause-stands : goal.returns-then-quiet-clause-stands
 returns-then-quiet-clause-stands c =
     let world = c.args.world.now in
     let wire = c.args.wire.now in
-    let none = ap (is_due c.args.turn) (c.quiet.ensures.0 c.if-quiet.true).nothing in
+    let none = ap (is_oldest_due c.args.turn) (c.quiet.ensures.0 c.if-quiet.true).nothing in
     all_have_come Up c.args.turn world world wire wire (none_has_come Up c.args.turn world wire c.requires) none
 
 pub returns-then-quiet-clause-line : goal.returns-then-quiet-clause-line
 returns-then-quiet-clause-line c =
     let world = c.args.world.now in
     let wire = c.args.wire.now in
-    let none = ap (is_due c.args.turn) (c.quiet.ensures.0 c.if-quiet.true).nothing in
+    let none = ap (is_oldest_due c.args.turn) (c.quiet.ensures.0 c.if-quiet.true).nothing in
     line_after Up c.args.turn world world wire wire (none_has_come Up c.args.turn world wire c.requires) none
 
 pub returns-then-quiet-clause-news : goal.returns-then-quiet-clause-news
@@ -62,5 +62,5 @@ returns-then-quiet-clause-news c =
     let world = c.args.world.now in
     let copies = c.args.wire.now.copies in
     let news = c.args.news.now in
-    let none = ap (is_due c.args.turn) (c.quiet.ensures.0 c.if-quiet.true).nothing in
+    let none = ap (is_oldest_due c.args.turn) (c.quiet.ensures.0 c.if-quiet.true).nothing in
     all_heard c.args.turn world world news news copies copies (none_heard_yet c.args.turn world news copies) none

@@ -1,8 +1,8 @@
 use Rattle.std.proofs.Common.{◌∙◌, ◌∷◌, ◌++◌, ap, drop, length, subst, sym}
 use Rattle.wire_scene.specs.declared.scene.Way.TheVariants.{Down}
 use Rattle.board_world.specs.declared.event.Event.TheVariants.{Put, Control}
-use Rattle.board_world.specs.Stands.{StandsFor as WorldStandsFor, under_way, blocks_of}
-use Rattle.board_world.specs.World.{Core, Do, Turn, run}
+use Rattle.board_world.specs.Stands.{WorldStandsFor, under_way, blocks_of}
+use Rattle.board_world.specs.World.{Core, Do, Turn, run_world}
 use Rattle.link_work.specs.Turn.{host_steps, put_all, resends, sends}
 use Rattle.link_work.specs.Stands.{orders}
 use Rattle.link_work.proofs.Asked.{asked_after}
@@ -16,8 +16,8 @@ returns c h st =
     let steps = Turn turn ∷ Do (Control c.args.c) ∷ Do (Put c.args.b) ∷ resends resent in
     let first = c.in_ok-begin.ensures.stands h st in
     let At : Core → Type 0 = λ g. WorldStandsFor c.send_new.new.world g in
-    let stands : WorldStandsFor c.send_new.new.world (run (host_steps turn (orders c.args.c c.args.b) resent) h) =
-    subst At (sym (run_append steps (sends 12) h)) (c.in_ok-send_new.ensures.stands (run steps h) first) in (
+    let stands : WorldStandsFor c.send_new.new.world (run_world (host_steps turn (orders c.args.c c.args.b) resent) h) =
+    subst At (sym (run_append steps (sends 12) h)) (c.in_ok-send_new.ensures.stands (run_world steps h) first) in (
       record {
         resent = resent;
         due = c.in_ok-begin.ensures.due h st;
@@ -25,5 +25,5 @@ returns c h st =
         put = c.in_ok-put_new.ensures ∙ ap (λ n. put_all c.args.down.now turn (drop n (under_way Down c.send_new.new.world))) (c.copies-before.ensures.stands h st)
             ∙ ap (λ bs. put_all c.args.down.now turn (drop (length (blocks_of Down h)) bs)) stands.down;
       },
-      c.in_ok-send_new.ensures.asked (run steps h) first ∙ ap (λ ns. c.args.asked.now ++ ns) (sym (asked_after turn (orders c.args.c c.args.b) resent h (sends 12))),
+      c.in_ok-send_new.ensures.asked (run_world steps h) first ∙ ap (λ ns. c.args.asked.now ++ ns) (sym (asked_after turn (orders c.args.c c.args.b) resent h (sends 12))),
     )

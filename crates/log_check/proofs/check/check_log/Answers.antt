@@ -3,7 +3,7 @@ use Rattle.plan_types.specs.declared.cause.Cause.TheVariants as cause
 use Rattle.text_core.specs.Lines.{lines_of}
 use Rattle.text_core.specs.Words.{words_of, worded_lines}
 use Rattle.log_check.specs.Points.{Point, point}
-use Rattle.log_check.specs.Steps.{IsSound, point_of}
+use Rattle.log_check.specs.Steps.{IsSoundPoint, point_of}
 use Rattle.log_check.specs.Verdicts.{log_verdict, worded}
 use Rattle.log_check.specs.Behind.{further_said}
 use Rattle.log_check.proofs.Checking.{IsTold, told-cause, told-lines, took-all, took-misfit, took-more}
@@ -15,7 +15,7 @@ unfolding log_verdict
 loop-line-init c =
     let m = c.args.machine.now in
     let at = c.in_ok-stand.ensures in
-    let Sound : Point → Type 0 = λ p. IsSound m p in
+    let Sound : Point → Type 0 = λ p. IsSoundPoint m p in
     let Begun : Point → Type 0 = λ p. p.begun ≤ length c.args.sections.now in
     let Few : Point → Type 0 = λ p. length p.plans ≤ 16 in
     record {

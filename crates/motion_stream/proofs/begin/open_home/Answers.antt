@@ -1,7 +1,7 @@
 use Rattle.std.proofs.Common.{◌≡◌, ◌∙◌, ◌<◌, ◌^◌, [], ◌∷◌, arith, false, refl, sym, true}
 use Rattle.gcode_program.specs.declared.items.Item.TheVariants as items
 use Rattle.plan_types.specs.Valid.{IsValidMove}
-use Rattle.gcode_program.specs.Held.{IsNear}
+use Rattle.gcode_program.specs.Held.{IsShortOrNear}
 use Rattle.motion_work.proofs.Homing.{near_short}
 use Rattle.motion_stream.proofs.Bounding.{section_known}
 use Rattle.motion_stream.proofs.Limits.{none_pushed}
@@ -57,7 +57,7 @@ returns c =
             let small = c.requires.small in
             let soon : c.args.start < 2 ^ 43 = omega (arith, small) in
             let good = home_good one (items.End ∷ c.take_home.new.items.items) c.args.items.now.items c.in-Some.ensures c.requires.good in
-            let known = section_known m lines (one ∷ []) c.args.start valid (λ b lt. may_start m lines c.args.start b c.requires.boards c.requires.early soon lt) (near_short (one ∷ []) (one_all IsValidMove one good.0) (one_all IsNear one good.1)) (omega arith) in
+            let known = section_known m lines (one ∷ []) c.args.start valid (λ b lt. may_start m lines c.args.start b c.requires.boards c.requires.early soon lt) (near_short (one ∷ []) (one_all IsValidMove one good.0) (one_all IsShortOrNear one good.1)) (omega arith) in
             let is = c.in_ok-last.ensures in
             omega (arith, known, is, small)),
         c.moving_in-moving.ensures,

@@ -1,7 +1,7 @@
 use Rattle.std.proofs.Common.{◌≡◌, ◌∙◌, ◌+◌, ◌++◌, ℕ, ap, arith, refl, subst, sym}
 use Rattle.msg_code.specs.declared.talk.Note.{Note}
 use Rattle.std.specs.Prelude.{◌⊎◌, None, false}
-use Rattle.motion_work.specs.Begins.{listed}
+use Rattle.motion_work.specs.Begins.{news_items}
 use Rattle.motion_stream.specs.Courses.{IsCourseBy}
 use Rattle.motion_stream.specs.News.{HasPutAll, begins_in, read_news}
 use Rattle.motion_stream.specs.Steps.{Advances}
@@ -49,4 +49,4 @@ returns-clause-made c =
     turned m old first c.advance.new.course c.begin_next.new.course (record c.begin_next.new.course { read = c.read_after-course.result }) c.args.k c.in_ok-further.further made.batches.items made.done c.in_ok-start.start note c.read_after-course.result c.telling-end.result (subst (λ (n : ℕ). (c.telling-end.result ≡ None) ⊎ ((c.telling-end.result ≡ c.begin_next.new.course.source.end) × HasPutAll n c.begin_next.new.course)) c.len.ensures c.telling-end.ensures.put) (λ all. c.telling-end.ensures.told (subst (λ (n : ℕ). HasPutAll n c.begin_next.new.course) (sym c.len.ensures) all)) c.read_after-course.ensures c.requires.next
     c.in_ok-batches.ensures.plain c.in_ok-start.ensures.plain c.in_ok-further.ensures.taken
     (subst (λ n. Advances m first n made.batches.items made.done c.advance.new.course) (c.take_up.ensures.next ∙ c.requires.next) c.in_ok-batches.ensures.passed) c.in_ok-start.ensures.begun refl refl
-    (c.in_ok-news.ensures ∙ ap (λ r. listed made.done ++ (listed c.in_ok-start.start ++ (listed r ++ c.as_slice.result.now))) c.read_news-read.ensures ∙ ap (λ f. listed made.done ++ (listed c.in_ok-start.start ++ (listed (read_news c.begin_next.new.course.read c.telling-end.result (c.begin_next.new.course.place + begins_in c.begin_next.new.course.source.items.items)) ++ f))) c.as_slice.ensures)
+    (c.in_ok-news.ensures ∙ ap (λ r. news_items made.done ++ (news_items c.in_ok-start.start ++ (news_items r ++ c.as_slice.result.now))) c.read_news-read.ensures ∙ ap (λ f. news_items made.done ++ (news_items c.in_ok-start.start ++ (news_items (read_news c.begin_next.new.course.read c.telling-end.result (c.begin_next.new.course.place + begins_in c.begin_next.new.course.source.items.items)) ++ f))) c.as_slice.ensures)

@@ -2,8 +2,8 @@ use Rattle.std.proofs.Common.{◌≡◌, ℕ, ◌<◌, ◌≤◌, Option, Some, 
 use Rattle.std.proofs.lemmas.List.{take_all}
 use Rattle.std.proofs.lemmas.Bool.{cases_lt}
 use Rattle.section_feed.specs.declared.board.BoardStream.{BoardStream}
-use Rattle.section_feed.specs.AllBoards.{last_of}
-use Rattle.section_feed.specs.Feeding.{lines_of}
+use Rattle.section_feed.specs.AllBoards.{latest_packed}
+use Rattle.section_feed.specs.Feeding.{lines_of_board}
 use Rattle.section_feed.specs.Left.{AreLeft, AreLeftOn}
 use Rattle.section_feed.specs.Released.{IsPast, last_in, steppers_in}
 use Rattle.section_feed.proofs.Changing.{any-default}
@@ -37,7 +37,7 @@ pub returns-clause-past : goal.returns-clause-past
 returns-clause-past c = record { each = λ k d l. c.loop-board.invariant.past k d (omega (arith, c.loop-board-test.false)) l }
 
 pub returns-clause-value : goal.returns-clause-value
-returns-clause-value c = c.loop-board.invariant.last ∙ ap (λ bs. max c.args.first (last_of bs)) (take_all c.loop-board.board-index c.args.boards.now (omega (arith, c.loop-board-test.false)))
+returns-clause-value c = c.loop-board.invariant.last ∙ ap (λ bs. max c.args.first (latest_packed bs)) (take_all c.loop-board.board-index c.args.boards.now (omega (arith, c.loop-board-test.false)))
 
 if-none : (P : Type 0) (r : Option ℕ) → P → IfNone r P
 if-none P None h = h
@@ -51,5 +51,5 @@ returns-in_err-turn-clause-left c =
     if-none (AreLeftOn boards) c.from_residual.result (record {
       board = i;
       inside = inside;
-      left = λ d. subst (λ (b : BoardStream). AreLeft (lines_of b) (steppers_in b)) (c.board-item.is ∙ any-default {A = BoardStream} (λ n x y. Unit {0}) boards i c.board-item.result d inside) c.in_err-turn.ensures.left;
+      left = λ d. subst (λ (b : BoardStream). AreLeft (lines_of_board b) (steppers_in b)) (c.board-item.is ∙ any-default {A = BoardStream} (λ n x y. Unit {0}) boards i c.board-item.result d inside) c.in_err-turn.ensures.left;
     })

@@ -1,7 +1,7 @@
 use Rattle.std.proofs.Common.{◌≡◌, ◌+◌, ◌*◌, ◌<◌, ◌≤◌, ◌++◌, ◌^◌, map, length}
 use Rattle.std.specs.List.{All}
 use Rattle.plan_types.specs.Valid.{IsValidMove}
-use Rattle.bed_mesh.specs.Cuts.{IsOnTheWay, cut_parts, parts_of, place_behind}
+use Rattle.bed_mesh.specs.Cuts.{IsOnTheWay, cut_parts, part_count, place_behind}
 use Rattle.bed_mesh.specs.Lines.{AreCuts, cut_numbers}
 use Rattle.bed_mesh.proofs.mesh.Mesh.cut.Given as goal
 

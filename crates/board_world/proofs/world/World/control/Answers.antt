@@ -3,7 +3,7 @@ use Rattle.msg_code.specs.declared.cmd.Cmd.{Cmd}
 use Rattle.link_core.specs.Host.{Host}
 use Rattle.board_world.specs.declared.event.Event.TheVariants.{Control}
 use Rattle.board_world.specs.Orders.{plain}
-use Rattle.board_world.specs.Stands.{Seen, AreRead, with_waiting}
+use Rattle.board_world.specs.Stands.{SeenWorld, AreRead, with_waiting}
 use Rattle.board_world.proofs.Standing.{queued_stands}
 use Rattle.board_world.proofs.world.World.control.Goals as goal
 
@@ -15,4 +15,4 @@ returns c h st =
     queued_stands c.args.self.now _ h (Control c.args.control.now) st refl refl refl refl (subst Read c.as_slice.ensures c.in_ok-queue_commands.ensures.read)
     (ap (λ (x : Host). record { host = x; station = i.taker; down = i.down; up = i.up; pulses = i.pulses.items })
     (c.in_ok-queue_commands.ensures.host ∙ ap (λ (cs : List Cmd). with_waiting i.host (map plain cs)) c.as_slice.ensures)
-    ∙ ap (λ (x : Seen). record x { host = with_waiting x.host (map plain commands) }) c.self.view_is)
+    ∙ ap (λ (x : SeenWorld). record x { host = with_waiting x.host (map plain commands) }) c.self.view_is)

@@ -3,7 +3,7 @@ use Rattle.arrayvec.specs.ArrayVec.{ArrayVec}
 use Rattle.block_frame.specs.declared.Found.TheVariants.{Bad}
 use Rattle.link_core.specs.Core.{Command}
 use Rattle.board_sim.specs.Given.{HearsOne}
-use Rattle.board_world.specs.Stands.{Seen, StandsFor, text_at, texts}
+use Rattle.board_world.specs.Stands.{SeenWorld, WorldStandsFor, text_at, texts}
 use Rattle.board_world.proofs.Hearing.{garbled_stands, none_garbled_stands}
 use Rattle.board_world.proofs.world.World.garble.Goals as goal
 
@@ -18,9 +18,9 @@ none_there (x ∷ xs) e = absurd (omega (arith, e))
 pub returns : goal.returns
 returns c h st =
     let i = c.self.inside in
-    let before : Seen = record { host = i.host; station = i.taker; down = i.down; up = i.up; pulses = i.pulses.items } in
-    let At : Seen → Type 0 = λ s. StandsFor s h in
-    let st0 : StandsFor before h = subst At (sym c.self.view_is) st in
+    let before : SeenWorld = record { host = i.host; station = i.taker; down = i.down; up = i.up; pulses = i.pulses.items } in
+    let At : SeenWorld → Type 0 = λ s. WorldStandsFor s h in
+    let st0 : WorldStandsFor before h = subst At (sym c.self.view_is) st in
     let some = some_down h.link.blocks h.link.down i.down st0.down (λ e. c.if-len-eq0.false (c.len.ensures ∙ e)) in
     let blocks = c.take.new.blocks.items in
     let From : List (ArrayVec ℕ) → Type 0 = λ xs. HearsOne Bad i.taker c.take.new.self xs blocks in
@@ -32,4 +32,4 @@ returns c h st =
 pub returns-then-len-eq0 : goal.returns-then-len-eq0
 returns-then-len-eq0 c h st =
     let none = none_there c.self.inside.down (sym c.len.ensures ∙ c.if-len-eq0.true) in
-    none_garbled_stands c.args.self.now c.args.self.now h st (sym (ap (λ (x : Seen). x.down) c.self.view_is) ∙ none) refl
+    none_garbled_stands c.args.self.now c.args.self.now h st (sym (ap (λ (x : SeenWorld). x.down) c.self.view_is) ∙ none) refl

@@ -1,6 +1,6 @@
 use Rattle.std.proofs.Common.{◌∙◌, ap, refl, List, ℕ}
 use Rattle.board_sim.specs.Turn.{Station}
-use Rattle.board_world.specs.World.{start}
+use Rattle.board_world.specs.World.{new_world}
 use Rattle.board_world.proofs.Standing.{start_stands}
 use Rattle.board_world.proofs.world.World.new.Goals as goal
 

@@ -6,7 +6,7 @@ use Rattle.plan_types.specs.Speeds.{speed_change, places}
 use Rattle.plan_types.proofs.Places.{places-next}
 use Rattle.plan_types.specs.Valid.{IsValidMove}
 use Rattle.lookahead.specs.Lows.{no_low}
-use Rattle.lookahead.specs.Stream.{IsStreamOf, AreLows, height, place_of, speed_by}
+use Rattle.lookahead.specs.Stream.{IsStreamOf, AreLows, height, junction_place, speed_by}
 use Rattle.lookahead.specs.declared.lows.Low.{Low}
 use Rattle.lookahead.proofs.Streams.{place-mono}
 use Rattle.std.proofs.lemmas.Bool.{cases_lt}
@@ -24,7 +24,7 @@ returns-then-low-self-clause-speeds c = λ moves scv caps is. (
     let speed = front-speed ch caps (c.args.self.now.taken + 1) c.args.self.now.lows.items is.lows low.0 count in
     let high : c.in_ok-low.low.height ≡ (get_or c.args.self.now.lows.items 0 no_low).height = ap (λ l. l.height) low.1 in
     let reach = is.reach_is in
-    let end : place_of ch c.args.self.now.pushed ≡ place_of ch (length moves) = ap (place_of ch) is.pushed_is in
+    let end : junction_place ch c.args.self.now.pushed ≡ junction_place ch (length moves) = ap (junction_place ch) is.pushed_is in
     (inr (omega arith), refl, is))
 
 -- the next move, in the list of all
@@ -64,9 +64,9 @@ returns-clause-speeds c = λ moves scv caps is. (
     let within : t < length moves = (let k = is.caps_count in omega arith) in
     let one : c.in_ok-one.one ≡ get_or moves t c.in_ok-one.one = next_is moves c.args.self.now.moves.items t c.in_ok-one.one is.waiting c.in_ok-one.ensures.lookup in
     let change : c.change.result ≡ get_or ch t 0 = c.change.ensures.value ∙ ap speed_change one ∙ sym (get_or-map speed_change moves t c.in_ok-one.one 0 within) in
-    let next : place_of ch (t + 1) ≡ place_of ch t + get_or ch t 0 = places-next 0 ch t (omega arith) in
+    let next : junction_place ch (t + 1) ≡ junction_place ch t + get_or ch t 0 = places-next 0 ch t (omega arith) in
     let up = place-mono ch caps (t + 1) (length moves) (omega arith) (omega arith) in
-    let end : place_of ch c.args.self.now.pushed ≡ place_of ch (length moves) = ap (place_of ch) is.pushed_is in
+    let end : junction_place ch c.args.self.now.pushed ≡ junction_place ch (length moves) = ap (junction_place ch) is.pushed_is in
     let reach = is.reach_is in
     let passed_is = is.passed_is in
     let small = is.reach_small in
@@ -75,10 +75,10 @@ returns-clause-speeds c = λ moves scv caps is. (
     let add = c.saturating_add-self.ensures in
     let sub = c.saturating_sub-self.ensures in
     let add2 = c.saturating_add-self-2.ensures in
-    let passed : c.saturating_add-self.result ≡ place_of ch (t + 1) = omega arith in
+    let passed : c.saturating_add-self.result ≡ junction_place ch (t + 1) = omega arith in
     let taken : c.saturating_add-self-2.result ≡ t + 1 = omega arith in
     let start : c.saturating_sub-self.result ≡ speed_by ch caps (t + 1) = omega arith in
-    let final : speed_by ch caps (t + 1) + place_of ch (t + 1) ≤ place_of ch (length moves) = omega arith in (
+    let final : speed_by ch caps (t + 1) + junction_place ch (t + 1) ≤ junction_place ch (length moves) = omega arith in (
       one,
       is.start_is,
       start,
@@ -92,7 +92,7 @@ returns-clause-speeds c = λ moves scv caps is. (
         caps_count = is.caps_count;
         taken_inside = omega arith;
         taken_within = omega arith;
-        passed_is = passed ∙ ap (place_of ch) (sym taken);
+        passed_is = passed ∙ ap (junction_place ch) (sym taken);
         reach_is = is.reach_is;
         start_is = start ∙ ap (speed_by ch caps) (sym taken);
         reach_small = is.reach_small;

@@ -14,7 +14,7 @@ use Rattle.section_feed.proofs.Ahead.{ahead-packed}
 use Rattle.step_feed.specs.Pacing.{lead, turn_limit}
 use Rattle.step_feed.specs.Units.{StepUnit}
 use Rattle.section_stream.specs.declared.stepper.StepperStream.{StepperStream}
-use Rattle.step_feed.specs.Streams.{first_turn, next_turn, slots_of}
+use Rattle.step_feed.specs.Streams.{stream_start, next_turn, slots_of}
 use Rattle.section_feed.proofs.Resting.{rested-all}
 use Rattle.section_feed.proofs.Setting.{set-same}
 use Rattle.section_feed.proofs.board.BoardStream.batch.Goals as goal
@@ -148,7 +148,7 @@ returns-clause-on c = λ kinds base parts released was. (
 pub returns-clause-set : goal.returns-clause-set
 returns-clause-set c =
     let s = c.args.self.now in
-    set-same s.lines (first_turn s.feed) (first_turn c.take.new.self) (slots_of s.feed) (slots_of c.take.new.self) (length s.steppers.items) (length c.take_units.new.steppers.items) (c.take.ensures.first ∙ c.feed_units.ensures.first) (c.take.ensures.slots ∙ c.feed_units.ensures.slots)
+    set-same s.lines (stream_start s.feed) (stream_start c.take.new.self) (slots_of s.feed) (slots_of c.take.new.self) (length s.steppers.items) (length c.take_units.new.steppers.items) (c.take.ensures.first ∙ c.feed_units.ensures.first) (c.take.ensures.slots ∙ c.feed_units.ensures.slots)
     (gone-count s.lines s.goes s.time s.turn [] c.in_ok-units.units.items s.steppers.items c.replace-steppers.result.items c.take_units.new.steppers.items (ap (λ v. v.items) c.replace-steppers.ensures.value) c.in_ok-units.ensures.on)
 
 pub returns-clause-rested : goal.returns-clause-rested

@@ -1,7 +1,7 @@
 use Rattle.std.proofs.Common.{◌≡◌, ◌+◌, [], Bool, true, false, length, subst, sym, ap, refl}
 use Rattle.section_feed.specs.Boards.{AreUpTo}
 use Rattle.section_feed.proofs.Onboard.{board-kept, gone-count, gone-up}
-use Rattle.step_feed.specs.Streams.{first_turn, next_turn, slots_of}
+use Rattle.step_feed.specs.Streams.{stream_start, next_turn, slots_of}
 use Rattle.section_feed.proofs.Merging.{gone-due}
 use Rattle.section_feed.proofs.Setting.{set-same}
 use Rattle.section_feed.proofs.board.BoardStream.finish.Goals as goal
@@ -37,5 +37,5 @@ returns-then-self-clause-on c = λ kinds base parts released was. (
 pub returns-then-self-clause-set : goal.returns-then-self-clause-set
 returns-then-self-clause-set c =
     let s = c.args.self.now in
-    set-same s.lines (first_turn s.feed) (first_turn s.feed) (slots_of s.feed) (slots_of s.feed) (length s.steppers.items) (length c.finish_all.new.steppers.items) refl refl
+    set-same s.lines (stream_start s.feed) (stream_start s.feed) (slots_of s.feed) (slots_of s.feed) (length s.steppers.items) (length c.finish_all.new.steppers.items) refl refl
     (gone-count s.lines false s.time s.turn [] [] s.steppers.items c.replace-steppers.result.items c.finish_all.new.steppers.items (ap (λ v. v.items) c.replace-steppers.ensures.value) c.finish_all.ensures)

@@ -1,7 +1,7 @@
 use Rattle.std.proofs.Common.{◌≡◌, ◌+◌, Bool, true, false, [], length, arith, subst, sym, ap, refl, ◌∙◌}
 use Rattle.section_feed.specs.Boards.{AreUpTo}
 use Rattle.section_feed.proofs.Onboard.{board-kept, gone-count, gone-up, up-none}
-use Rattle.step_feed.specs.Streams.{first_turn, next_turn, slots_of}
+use Rattle.step_feed.specs.Streams.{stream_start, next_turn, slots_of}
 use Rattle.section_feed.proofs.Merging.{due-none, gone-due}
 use Rattle.section_feed.proofs.Setting.{set-same}
 use Rattle.section_feed.proofs.board.BoardStream.plan.Goals.{else-self-via-then-self+else-self-from, else-self-via-else-self}
@@ -38,7 +38,7 @@ returns-clause-on c = λ kinds base parts released was. (
 pub returns-clause-set : goal.returns-clause-set
 returns-clause-set c =
     let s = c.args.self.now in
-    set-same s.lines (first_turn s.feed) (first_turn s.feed) (slots_of s.feed) (slots_of s.feed) (length s.steppers.items) (length c.plan_all.new.steppers.items) refl refl
+    set-same s.lines (stream_start s.feed) (stream_start s.feed) (slots_of s.feed) (slots_of s.feed) (length s.steppers.items) (length c.plan_all.new.steppers.items) refl refl
     (gone-count s.lines s.goes s.time c.args.turn [] [] s.steppers.items c.replace-steppers.result.items c.plan_all.new.steppers.items (ap (λ v. v.items) c.replace-steppers.ensures.value) c.in_ok-plan_all.ensures)
 
 pub invariant_of-self : goal.invariant_of-self

@@ -2,7 +2,7 @@ use Rattle.std.proofs.Common.{ℕ, ◌+◌, [], Bool, true, length, arith, subst
 use Rattle.plan_types.specs.Sections.{duration, timed}
 use Rattle.section_feed.specs.Boards.{AreUpTo}
 use Rattle.section_feed.proofs.Onboard.{board-pushed, gone-count, gone-up, up-none}
-use Rattle.step_feed.specs.Streams.{first_turn, next_turn, slots_of}
+use Rattle.step_feed.specs.Streams.{stream_start, next_turn, slots_of}
 use Rattle.section_feed.proofs.Merging.{due-none, gone-due}
 use Rattle.section_feed.proofs.Setting.{set-same}
 use Rattle.section_feed.proofs.board.BoardStream.push.Goals as goal
@@ -36,7 +36,7 @@ returns-clause-on c = λ kinds base parts released was. (
 pub returns-clause-set : goal.returns-clause-set
 returns-clause-set c =
     let s = c.args.self.now in
-    set-same s.lines (first_turn s.feed) (first_turn s.feed) (slots_of s.feed) (slots_of s.feed) (length s.steppers.items) (length c.push_all.new.steppers.items) refl refl
+    set-same s.lines (stream_start s.feed) (stream_start s.feed) (slots_of s.feed) (slots_of s.feed) (length s.steppers.items) (length c.push_all.new.steppers.items) refl refl
     (gone-count s.lines true (s.time + duration c.args.ready.now.parts) s.turn (timed c.args.ready.now.one 0 s.time c.args.ready.now.parts) [] s.steppers.items c.replace-steppers.result.items c.push_all.new.steppers.items (ap (λ v. v.items) c.replace-steppers.ensures.value) c.in_ok-push_all.ensures)
 
 pub invariant_of-self : goal.invariant_of-self

@@ -2,7 +2,7 @@ use Rattle.std.proofs.Common.{◌≡◌, ◌<◌, List, length, map, get_or, ari
 use Rattle.std.proofs.lemmas.List.{length-set}
 use Rattle.section_feed.specs.declared.board.BoardStream.{BoardStream}
 use Rattle.section_feed.specs.Boards.{MayTake}
-use Rattle.section_feed.specs.Feeding.{lines_of}
+use Rattle.section_feed.specs.Feeding.{lines_of_board}
 use Rattle.section_feed.specs.Lined.{with_line}
 use Rattle.section_feed.specs.Queues.{drawn_to}
 use Rattle.section_feed.specs.Rests.{AreAllRested}
@@ -19,7 +19,7 @@ add_line-requires-clause-may c =
     let old = c.index_mut.result.now in
     let items = ap (λ v. v.items) c.replace-boards.ensures.value in
     let own : old ≡ get_or s.boards.items board old = c.index_mut.ensures.value ∙ ap (λ (bs : List BoardStream). get_or bs board old) items in
-    subst (λ (b : BoardStream). MayTake (lines_of b) c.args.turn c.args.line) (sym own)
+    subst (λ (b : BoardStream). MayTake (lines_of_board b) c.args.turn c.args.line) (sym own)
     (subst (λ (x : BoardSet). MayTake x.clocks c.args.turn c.args.line) (at-mapped s.boards.items board (set_of old) old c.requires.there) (c.requires.may (set_of old)))
 
 pub returns : goal.returns

@@ -4,7 +4,7 @@ use Rattle.std.proofs.Props.{props}
 use Rattle.plan_types.specs.Clock.{tick, turn_ns}
 use Rattle.plan_types.specs.Lines.{Clocks}
 use Rattle.section_stream.specs.Packs.{held_of, last_packed}
-use Rattle.section_stream.specs.Plans.{lines_of}
+use Rattle.section_stream.specs.Plans.{stream_lines}
 use Rattle.section_stream.specs.Stepping.{IsLeftFrom}
 use Rattle.section_stream.proofs.Lining.{IsSound, MayAdd, asked-by, caught-added, later-added, stepping-added, still-sound, took-either}
 use Rattle.section_stream.proofs.Stepped.{ended-left}
@@ -31,24 +31,24 @@ invariant_of-self c =
 pub returns-clause-added : goal.returns-clause-added
 returns-clause-added c = λ base parts out pieces given h. (
     let s = c.args.self.now in
-    let may : MayAdd (lines_of s.steps) c.args.from c.args.line = record { kept = s.kept; after = c.requires.after; fit = c.requires.fit } in
+    let may : MayAdd (stream_lines s.steps) c.args.from c.args.line = record { kept = s.kept; after = c.requires.after; fit = c.requires.fit } in
     stepping-added s.steps c.add_line.new.self s.drive s.pack s.turn c.args.from c.args.line base parts out pieces given may c.requires.order s.line c.in_ok-add_line.ensures.lines c.in_ok-add_line.ensures.added h)
 
 pub returns-clause-caught_up : goal.returns-clause-caught_up
 returns-clause-caught_up c = λ turn order h. (
     let s = c.args.self.now in
-    let clocks = lines_of s.steps in
+    let clocks = stream_lines s.steps in
     let left : (t : ℕ) → IsLeftFrom t s.steps → IsLeftFrom t c.add_line.new.self = λ t l. ∥∥₁_elim s.in_step (hlevel props) (λ q.
     ended-left s.steps c.add_line.new.self s.drive s.pack s.turn t q (λ base segments asked out by. c.in_ok-add_line.ensures.added base segments asked out (asked-by s.drive.line clocks.first s.turn c.args.from asked s.line c.requires.order by)) (ap (λ (k : Clocks). k.first) c.in_ok-add_line.ensures.lines) c.add_line.ensures.gear (let e = c.add_line.ensures.end in omega arith) l) in
-    caught-added s.steps c.add_line.new.self clocks (lines_of c.add_line.new.self) turn c.args.from c.args.line (held_of s.pack) order c.in_ok-add_line.ensures.lines (left (tick clocks.first (turn * turn_ns))) h)
+    caught-added s.steps c.add_line.new.self clocks (stream_lines c.add_line.new.self) turn c.args.from c.args.line (held_of s.pack) order c.in_ok-add_line.ensures.lines (left (tick clocks.first (turn * turn_ns))) h)
 
 pub returns-clause-due : goal.returns-clause-due
 returns-clause-due c = λ low order here h. (
     let s = c.args.self.now in
-    let clocks = lines_of s.steps in
+    let clocks = stream_lines s.steps in
     let left : (t : ℕ) → IsLeftFrom t s.steps → IsLeftFrom t c.add_line.new.self = λ t l. ∥∥₁_elim s.in_step (hlevel props) (λ q.
     ended-left s.steps c.add_line.new.self s.drive s.pack s.turn t q (λ base segments asked out by. c.in_ok-add_line.ensures.added base segments asked out (asked-by s.drive.line clocks.first s.turn c.args.from asked s.line c.requires.order by)) (ap (λ (k : Clocks). k.first) c.in_ok-add_line.ensures.lines) c.add_line.ensures.gear (let e = c.add_line.ensures.end in omega arith) l) in
     record {
       waits = h.waits;
-      later = later-added s.steps c.add_line.new.self clocks (lines_of c.add_line.new.self) low s.turn c.args.from c.args.line (held_of s.pack) (last_packed s.pack) order here c.in_ok-add_line.ensures.lines left h.later;
+      later = later-added s.steps c.add_line.new.self clocks (stream_lines c.add_line.new.self) low s.turn c.args.from c.args.line (held_of s.pack) (last_packed s.pack) order here c.in_ok-add_line.ensures.lines left h.later;
     })

@@ -1,6 +1,6 @@
 use Rattle.std.proofs.Common.{map}
 use Rattle.wire_scene.specs.Wire.{empty_line}
-use Rattle.wire_scene.specs.WireRuns.{arrivals, blocks_put, deeds, run, times, to_come}
+use Rattle.wire_scene.specs.WireRuns.{arrivals, blocks_put, deeds, run_line, times, to_come}
 use Rattle.wire_scene.proofs.WireLaws.{all_come, in_order, starts}
 use Rattle.wire_scene.proofs.wire.laws.blocks_keep_order.Goals as goal
 
@@ -10,5 +10,5 @@ returns c = record {
   order = λ connecting entries steps.
       let first = empty_line connecting entries in
       let ds = deeds connecting entries 0 steps in
-      in_order (blocks_put steps) (arrivals steps first) (to_come (run steps first).copies) (map times ds) (all_come steps ds first (starts connecting entries steps));
+      in_order (blocks_put steps) (arrivals steps first) (to_come (run_line steps first).copies) (map times ds) (all_come steps ds first (starts connecting entries steps));
 }

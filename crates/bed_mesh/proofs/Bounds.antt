@@ -1,5 +1,5 @@
 -- How great weighted heights and parts of changes are.
-use Rattle.std.proofs.Common.{◌≡◌, ◌*◌, ◌<◌, ◌≤◌, ℕ, suc, refl, arith}
+use Rattle.std.proofs.Common.{◌≡◌, ◌*◌, ◌<◌, ◌≤◌, ℕ, refl, arith}
 use Rattle.std.specs.Prelude.{ℤ, pos, negsuc, ◌+ℤ◌, ◌-ℤ◌, ◌*ℤ◌, unsigned_abs}
 use Rattle.std.specs.Int.{int_div_euclid}
 use Rattle.std.proofs.lemmas.Int.{ints, unsigned_abs-mul}
@@ -8,8 +8,9 @@ use Rattle.std.proofs.Math.Nat.{div-le_of_le-mul, div-lt_iff_lt-mul, mul-le-mul}
 pub no_more_than : (most : ℕ) (h r : ℤ) (area whole : ℕ) → r ≡ h *ℤ pos area → unsigned_abs h ≤ most → area ≤ whole → unsigned_abs r ≤ most * whole
 no_more_than most h r area whole is low part = rw (is, unsigned_abs-mul) (mul-le-mul low part)
 
-pub no_more : (h r : ℤ) (area whole : ℕ) → r ≡ h *ℤ pos area → unsigned_abs h ≤ 5_000_000 → area ≤ whole → unsigned_abs r ≤ 5_000_000 * whole
-no_more = no_more_than 5_000_000
+-- a weighted height
+pub no_higher : (r h whole : ℕ) → r ≤ h * whole → h ≤ 5_000_000 → r ≤ 5_000_000 * whole
+no_higher r h whole is low = let same : whole ≤ whole = omega arith in let most : h * whole ≤ 5_000_000 * whole = mul-le-mul low same in omega arith
 
 -- a quotient is no greater than what times the divisor the number is no greater than
 pub quotient_low : (z : ℤ) (d most : ℕ) → 0 < d → unsigned_abs z ≤ most * d → unsigned_abs (int_div_euclid z (pos d)) ≤ most

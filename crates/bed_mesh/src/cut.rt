@@ -10,6 +10,7 @@ ghost use Rattle.bed_mesh.specs.Grids.{IsValidGrid, IsValidMesh, extent};
 ghost use Rattle.bed_mesh.specs.Lines.{AreAhead, AreCuts, IsFirstNumber, cut_numbers, first_number, least, numbers, passed};
 
 use crate::mesh::{Grid, Mesh};
+use crate::part::{part_of, weighted};
 use plan_types::Move;
 use std::alloc::{AllocError, Global};
 
@@ -163,30 +164,6 @@ fn next_cut(cuts: &mut Cuts) -> Option<u64>
     Some(number)
 }
 
-/// So many parts of a change.
-fn weighted(change: i64, number: u64, whole: u64) -> i128
-    requires part { number ≤ whole }
-    requires small { unsigned_abs change ≤ 2 ^ 31 }
-    requires few { whole ≤ 2 ^ 62 }
-    ensures value { result ≡ change *ℤ pos number }
-    ensures bound { unsigned_abs result ≤ unsigned_abs change * whole }
-{
-    let product = i128::from(change) * i128::from(number);
-    product
-}
-
-/// So many parts of a change by the whole, rounded down.
-fn part_of(sum: i128, whole: u64, most: u64) -> i64
-    requires bound { unsigned_abs sum ≤ most * whole }
-    requires some { 0 < whole }
-    requires small { most ≤ 2 ^ 31 }
-    ensures value { result ≡ int_div_euclid sum (pos whole) }
-    ensures low { unsigned_abs result ≤ most }
-{
-    let quotient = sum.div_euclid(i128::from(whole));
-    quotient as i64
-}
-
 /// Where a coordinate is behind so many parts of its way.
 fn part_way(start: i64, end: i64, number: u64, whole: u64) -> i64
     requires start { unsigned_abs start ≤ 2 ^ 60 }
@@ -208,7 +185,6 @@ fn part_way(start: i64, end: i64, number: u64, whole: u64) -> i64
 }
 
 /// A coordinate behind so many parts of a move.
-#[tactic(auto, using(crate::proofs::Ways::change_near, crate::proofs::Ways::start_near, crate::proofs::Ways::end_near))]
 fn coordinate_behind(m: &Move, axis: usize, number: u64, whole: u64) -> i64
     requires valid { IsValidMove m.now }
     requires axis { axis < 4 }
@@ -243,7 +219,7 @@ fn place_behind(m: &Move, number: u64, whole: u64) -> [i64; 4]
 }
 
 /// How far a move goes along an axis; 1 where it goes nowhere.
-#[tactic(auto, using(crate::proofs::Ways::change_near, crate::proofs::Ways::start_near, crate::proofs::Ways::end_near))]
+#[tactic(auto, using(crate::proofs::Ways::change_near))]
 fn breadth(m: &Move, axis: usize) -> u64
     requires valid { IsValidMove m.now }
     requires axis { axis < 2 }
@@ -257,7 +233,6 @@ fn breadth(m: &Move, axis: usize) -> u64
 }
 
 /// The lines of a grid that are ahead of a move along an axis.
-#[tactic(auto, using(crate::proofs::Ways::change_near, crate::proofs::Ways::start_near, crate::proofs::Ways::end_near))]
 fn ahead_of(grid: &Grid, m: &Move, axis: usize, parts: u64) -> Ahead
     requires grid { IsValidGrid grid.now }
     requires valid { IsValidMove m.now }

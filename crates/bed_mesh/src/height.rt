@@ -1,12 +1,12 @@
 //! The height of a bed at a place.
 
 ghost use Rattle.std.specs.Prelude.{◌≡◌, ◌+◌, ◌-◌, ◌*◌, ◌<◌, ◌≤◌, ◌^◌, pos, ◌*ℤ◌, ◌+ℤ◌, ◌-ℤ◌, unsigned_abs, length};
-ghost use Rattle.std.specs.Int.{int_div_euclid};
 ghost use Rattle.bed_mesh.specs.Grids as specs;
 ghost use Rattle.bed_mesh.specs.Grids.{IsValidGrid, IsValidMesh, blend, cell, corner, extent, height, offset};
 ghost use Rattle.bed_mesh.specs.Corners.{AreLow};
 
 use crate::mesh::{Grid, Mesh};
+use crate::part::{part_of, weighted};
 
 /// A place in a grid: the number of its cell, and how far it is behind the cell's first line.
 #[derive(Clone, Copy)]
@@ -46,18 +46,6 @@ fn spot_of(grid: &Grid, place: i64) -> Spot
     }
 }
 
-/// A corner's height times the area opposite to it, which is no greater than the cell's.
-fn weighted(height: i64, area: u64, whole: u64) -> i128
-    requires low { unsigned_abs height ≤ 5_000_000 }
-    requires part { area ≤ whole }
-    requires small { whole ≤ 2 ^ 58 }
-    ensures value { result ≡ height *ℤ pos area }
-    ensures bound { unsigned_abs result ≤ 5_000_000 * whole }
-{
-    let product = i128::from(height) * i128::from(area);
-    product
-}
-
 /// The sum of two weighted heights.
 fn sum(one: i128, two: i128, whole: u64) -> i128
     requires one { unsigned_abs one ≤ 10_000_000 * whole }
@@ -67,16 +55,6 @@ fn sum(one: i128, two: i128, whole: u64) -> i128
     ensures bound { unsigned_abs result ≤ unsigned_abs one + unsigned_abs two }
 {
     one + two
-}
-
-/// A sum of weighted heights by the area of the cell, rounded down.
-fn mean(sum: i128, whole: u64) -> i64
-    requires bound { unsigned_abs sum ≤ 20_000_000 * whole }
-    requires some { 0 < whole }
-    ensures value { result ≡ int_div_euclid sum (pos whole) }
-    ensures low { unsigned_abs result ≤ 20_000_000 }
-{
-    sum.div_euclid(i128::from(whole)) as i64
 }
 
 /// The area of a part of a cell, and of the whole.
@@ -90,6 +68,25 @@ fn area(length: u64, width: u64, whole_length: u64, whole_width: u64) -> u64
     ensures small { result ≤ 2 ^ 58 }
 {
     length * width
+}
+
+/// The heights of two corners along x, each weighted with the area opposite to it, which has this width.
+fn row(dx: u64, dy: u64, left: i64, right: i64, u: u64, width: u64) -> i128
+    requires length { dx ≤ 500_000_000 }
+    requires width { dy ≤ 500_000_000 }
+    requires right { u ≤ dx }
+    requires part { width ≤ dy }
+    requires left_low { unsigned_abs left ≤ 5_000_000 }
+    requires right_low { unsigned_abs right ≤ 5_000_000 }
+    ensures value { result ≡ (left *ℤ pos ((dx - u) * width)) +ℤ (right *ℤ pos (u * width)) }
+    ensures bound { unsigned_abs result ≤ 10_000_000 * (dx * dy) }
+{
+    let whole = area(dx, dy, dx, dy);
+    sum(
+        weighted(left, area(dx - u, width, dx, dy), whole),
+        weighted(right, area(u, width, dx, dy), whole),
+        whole,
+    )
 }
 
 /// The heights of a cell's corners: at its first lines, at the second of x, at the second of y, and at both.
@@ -114,18 +111,10 @@ fn blend(dx: u64, dy: u64, corners: &Corners, u: u64, w: u64) -> i64
     ensures value { result ≡ blend dx dy corners.now.first corners.now.right corners.now.above corners.now.across u w }
     ensures low { unsigned_abs result ≤ 20_000_000 }
 {
+    let near = row(dx, dy, corners.first, corners.right, u, dy - w);
+    let far = row(dx, dy, corners.above, corners.across, u, w);
     let whole = area(dx, dy, dx, dy);
-    let near = sum(
-        weighted(corners.first, area(dx - u, dy - w, dx, dy), whole),
-        weighted(corners.right, area(u, dy - w, dx, dy), whole),
-        whole,
-    );
-    let far = sum(
-        weighted(corners.above, area(dx - u, w, dx, dy), whole),
-        weighted(corners.across, area(u, w, dx, dy), whole),
-        whole,
-    );
-    mean(sum(near, far, whole), whole)
+    part_of(sum(near, far, whole), whole, 20_000_000)
 }
 
 /// The measured height where two lines meet.

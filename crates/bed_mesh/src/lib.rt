@@ -10,6 +10,7 @@ mod height;
 mod line;
 mod mesh;
 mod number;
+mod part;
 mod table;
 
 pub use fault::MeshFault;

@@ -1,4 +1,4 @@
-use Rattle.std.proofs.Common.{◌≡◌, ◌≤◌, ◌∙◌, ap, arith, rules, sym, subst}
+use Rattle.std.proofs.Common.{◌≡◌, ◌≤◌, ◌∙◌, ap, arith}
 use Rattle.std.specs.Prelude.{ℤ, pos, ◌+ℤ◌, ◌-ℤ◌, ◌*ℤ◌, unsigned_abs}
 use Rattle.std.specs.Int.{int_div_euclid}
 use Rattle.std.proofs.lemmas.Int.{ints, to_z-of_z}
@@ -32,3 +32,12 @@ returns-clause-value c =
 
 pub returns-clause-near : goal.returns-clause-near
 returns-clause-near c = near_start _ c.args.start c.part_of-part.result _ (result c) (low c)
+
+pub weighted-requires-clause-small : goal.weighted-requires-clause-small
+weighted-requires-clause-small c = let d = c.requires.change in omega (arith, ints)
+
+pub part_of-part-requires-clause-small : goal.part_of-part-requires-clause-small
+part_of-part-requires-clause-small c = let d = c.requires.change in omega (arith, ints)
+
+pub overflow_add-result : goal.overflow_add-result
+overflow_add-result c = let l = low c in let s = c.requires.start in let d = c.requires.change in omega (arith, ints)

@@ -1,11 +1,11 @@
-use Rattle.std.proofs.Common.{◌≡◌, ◌≤◌, ◌<◌, ◌^◌, ◌∙◌, ap, arith, rules, sym, subst}
+use Rattle.std.proofs.Common.{◌≡◌, ◌≤◌, ◌∙◌, ap, arith, sym, subst}
 use Rattle.std.specs.Prelude.{ℤ, pos, unsigned_abs}
 use Rattle.std.specs.Int.{int_div_euclid}
 use Rattle.std.proofs.lemmas.Int.{fits_signed_from_abs, to_z-of_z}
 use mir.Val.{to_z, of_z}
 use mir.Syntax.{w64, w128}
 use Rattle.bed_mesh.proofs.Bounds.{quotient_low, quotient_same}
-use Rattle.bed_mesh.proofs.cut.part_of.Goals as goal
+use Rattle.bed_mesh.proofs.part.part_of.Goals as goal
 
 is : (c : goal.After-div_euclid-quotient) → c.div_euclid-quotient.result ≡ int_div_euclid c.args.sum (pos c.args.whole)
 is c = quotient_same _ _ _ _ _ c.div_euclid-quotient.ensures (to_z-of_z w128 c.args.sum c.ranges.sum) (to_z-of_z w128 c.from.result (record { sfits = c.from.type_inv }) ∙ c.from.ensures)

@@ -99,7 +99,6 @@ struct Corners {
 }
 
 /// The height in a cell of these lengths, at distances from its lower corner.
-#[tactic(auto, unfolding(crate::specs::Grids::blend))]
 fn blend(dx: u64, dy: u64, corners: &Corners, u: u64, w: u64) -> i64
     requires length { dx ≤ 500_000_000 }
     requires width { dy ≤ 500_000_000 }
@@ -132,7 +131,6 @@ impl Mesh {
     /// The height of the bed at a place, in nm. Beyond the grid it is that at the nearest place within.
     /// Inside a cell it is the mean of its corners, weighted with the areas opposite to them and rounded
     /// down.
-    #[tactic(auto, unfolding(crate::specs::Grids::height))]
     pub fn height(&self, x: i64, y: i64) -> i64
         requires valid { IsValidMesh self.now }
         requires x { unsigned_abs x ≤ 2 ^ 40 }

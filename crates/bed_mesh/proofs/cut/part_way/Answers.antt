@@ -41,3 +41,9 @@ part_of-part-requires-clause-small c = let d = c.requires.change in omega (arith
 
 pub overflow_add-result : goal.overflow_add-result
 overflow_add-result c = let l = low c in let s = c.requires.start in let d = c.requires.change in omega (arith, ints)
+
+pub above-change-requires-clause-place : goal.above-change-requires-clause-place
+above-change-requires-clause-place c = omega (arith, ints)
+
+pub above-change-requires-clause-other : goal.above-change-requires-clause-other
+above-change-requires-clause-other c = omega (arith, ints)

@@ -1,6 +1,6 @@
-use Rattle.std.proofs.Common.{◌≡◌, ◌+◌, ◌-◌, ◌*◌, ◌∙◌, ℕ, refl}
+use Rattle.std.proofs.Common.{◌≡◌, ◌+◌, ◌-◌, ◌*◌, ◌∙◌, ℕ, refl, arith}
 use Rattle.std.specs.Prelude.{ℤ}
-use Rattle.std.proofs.lemmas.Int.{to_z-of_z}
+use Rattle.std.proofs.lemmas.Int.{ints, to_z-of_z}
 use mir.Syntax.{w64}
 use Rattle.bed_mesh.specs.declared.mesh.Mesh.{Mesh}
 use Rattle.bed_mesh.specs.Grids.{blend, cell, corner, height, offset}
@@ -13,6 +13,12 @@ blended : (m : Mesh) (x y x' y' a b c d a' b' c' d' r : ℤ) (i j u w : ℕ) →
 unfolding height
 blended m x y x' y' a b c d a' b' c' d' r i j u w ex ey ei ej eu ew ea eb ec ed fa fb fc fd is = rw (is, fa, fb, fc, fd, ea, eb, ec, ed, eu, ew, ei, ej, ex, ey) refl
 
+pub spot_of-across-requires-clause-near : goal.spot_of-across-requires-clause-near
+spot_of-across-requires-clause-near c = omega (arith, ints)
+
+pub spot_of-along-requires-clause-near : goal.spot_of-along-requires-clause-near
+spot_of-along-requires-clause-near c = omega (arith, ints)
+
 pub returns-clause-value : goal.returns-clause-value
 returns-clause-value c =
     to_z-of_z w64 c.blend.result (record { sfits = c.blend.type_inv })
@@ -20,3 +26,9 @@ returns-clause-value c =
     c.spot_of-across.ensures.within c.spot_of-along.ensures.within c.corner.ensures.value c.corner-2.ensures.value c.corner-3.ensures.value c.corner-4.ensures.value
     (to_z-of_z w64 c.corner.result (record { sfits = c.corner.type_inv })) (to_z-of_z w64 c.corner-2.result (record { sfits = c.corner-2.type_inv }))
     (to_z-of_z w64 c.corner-3.result (record { sfits = c.corner-3.type_inv })) (to_z-of_z w64 c.corner-4.result (record { sfits = c.corner-4.type_inv })) c.blend.ensures.value
+
+pub blend-requires-clause-low : goal.blend-requires-clause-low
+blend-requires-clause-low c = record { first = omega (arith, ints); right = omega (arith, ints); above = omega (arith, ints); across = omega (arith, ints) }
+
+pub returns-clause-low : goal.returns-clause-low
+returns-clause-low c = omega (arith, ints)

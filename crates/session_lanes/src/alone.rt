@@ -15,11 +15,10 @@ use crate::settle::add_link;
 use io_core::{Gate, Who};
 use plan_types::Cause;
 use session_work::{
-    Control, Found, Hand, Head, Lanes, Late, LinkMachine, MotionDone, MotionMachine, Outside,
-    ReactorDone, ReactorMachine, Row, State, WordMsg, flush, hands_turn, hear, keep, order_here,
-    put_piece,
+    Control, Found, Hand, HandsTurn, Head, Lanes, Late, LinkMachine, MotionDone, MotionMachine,
+    Outside, ReactorDone, ReactorMachine, Row, Runtime, State, WordMsg, flush, hands_turn, hear,
+    keep, order_here, put_piece,
 };
-use std::alloc::Global;
 use std::snapshot::Snapshot;
 use std::sync::Wait;
 use std::{mem, thread};
@@ -42,9 +41,8 @@ pub struct Both<M, A, O> {
 }
 
 // Reads behind word k the pieces of the file that the batches of the planner's next turn need.
-fn feed_here<R: Wait, M: MotionMachine, A: ReactorMachine, O: Outside>(
-    rt: &R,
-    alloc: Global,
+fn feed_here<R: Wait, G, M: MotionMachine, A: ReactorMachine, O: Outside>(
+    rt: &Runtime<'_, R, G>,
     k: u64,
     place: &Place<'_, M, A, O>,
     both: &mut Both<M, A, O>,
@@ -58,7 +56,7 @@ fn feed_here<R: Wait, M: MotionMachine, A: ReactorMachine, O: Outside>(
     ensures reactor { OwesServing A.ReactorMachine O.Outside place.now.lanes k place.now.first.now.value
         both.new.owed.items both.new.hand }
 {
-    for _ in rt.forever() {
+    for _ in rt.threads.forever() {
         if !both.motion.seat.hungers(both.next) {
             return;
         }
@@ -67,24 +65,25 @@ fn feed_here<R: Wait, M: MotionMachine, A: ReactorMachine, O: Outside>(
             thread::yield_now();
             continue;
         }
-        let piece = both.hand.head.piece(alloc, k, both.hand.served);
+        let piece = both.hand.head.piece(rt.alloc, k, both.hand.served);
         put_piece(
-            rt,
+            rt.threads,
             place.lanes.pieces,
             &mut both.hand.piece_pass,
             &mut both.hand.served,
             piece,
         );
-        let piece = place.lanes.pieces.take(rt, &mut both.motion.piece_pass);
+        let piece = place
+            .lanes
+            .pieces
+            .take(rt.threads, &mut both.motion.piece_pass);
         both.motion.seat.piece(piece);
     }
 }
 
 // Makes the planner's next turn behind word k; its batches and its note wait.
 fn plan_turn<R: Wait, G: Gate, M: MotionMachine, A: ReactorMachine, O: Outside>(
-    rt: &R,
-    gate: &G,
-    alloc: Global,
+    rt: &Runtime<'_, R, G>,
     k: u64,
     place: &Place<'_, M, A, O>,
     both: &mut Both<M, A, O>,
@@ -107,10 +106,10 @@ fn plan_turn<R: Wait, G: Gate, M: MotionMachine, A: ReactorMachine, O: Outside>(
         both.new.owed.items both.new.hand }
 {
     let n = both.next;
-    gate.pass(Who::Motion, n);
-    hear(rt, n, place.start, &place.lanes, &mut both.motion);
-    feed_here(rt, alloc, k, place, both);
-    keep(rt, alloc, n, place.start, &place.lanes, &mut both.motion);
+    rt.gate.pass(Who::Motion, n);
+    hear(rt.threads, n, place.start, &place.lanes, &mut both.motion);
+    feed_here(rt, k, place, both);
+    keep(rt, n, place.start, &place.lanes, &mut both.motion);
     both.next = n + 1;
 }
 
@@ -154,9 +153,7 @@ fn say_here<R: Wait, M: MotionMachine, A: ReactorMachine, O: Outside>(
 
 // Says word k, and makes the planner's next turn, where the word is handed to it for that one.
 fn begin_here<R: Wait, G: Gate, M: MotionMachine, A: ReactorMachine, O: Outside>(
-    rt: &R,
-    gate: &G,
-    alloc: Global,
+    rt: &Runtime<'_, R, G>,
     k: u64,
     place: &Place<'_, M, A, O>,
     word: WordMsg,
@@ -179,18 +176,16 @@ fn begin_here<R: Wait, G: Gate, M: MotionMachine, A: ReactorMachine, O: Outside>
         both.new.owed.items both.new.hand }
 {
     let may = both.next < u64::MAX && both.motion.late.len() < LATE;
-    let said = say_here(rt, k, may, place, word, both);
+    let said = say_here(rt.threads, k, may, place, word, both);
     if !said {
         return;
     }
-    plan_turn(rt, gate, alloc, k, place, both);
+    plan_turn(rt, k, place, both);
 }
 
 // Says word k, and makes the planner's turns, the next one and those behind it, that need no word behind it.
 fn plan_here<R: Wait, G: Gate, M: MotionMachine, A: ReactorMachine, O: Outside>(
-    rt: &R,
-    gate: &G,
-    alloc: Global,
+    rt: &Runtime<'_, R, G>,
     k: u64,
     place: &Place<'_, M, A, O>,
     word: WordMsg,
@@ -212,12 +207,12 @@ fn plan_here<R: Wait, G: Gate, M: MotionMachine, A: ReactorMachine, O: Outside>(
     ensures reactor { OwesTurn A.ReactorMachine O.Outside place.now.lanes k place.now.first.now.value
         both.new.owed.items both.new.hand }
 {
-    begin_here(rt, gate, alloc, k, place, word, both);
+    begin_here(rt, k, place, word, both);
     for n in both.next..u64::MAX {
         if both.motion.late.len() >= LATE || !both.motion.seat.is_free(n, k) {
             return;
         }
-        plan_turn(rt, gate, alloc, k, place, both);
+        plan_turn(rt, k, place, both);
     }
 }
 
@@ -282,7 +277,7 @@ fn end_here<M: MotionMachine, L: LinkMachine, A: ReactorMachine, O: Outside>(
 
 // Gives the lists of a turn back to those that made them.
 fn give_back<M: MotionMachine, A: ReactorMachine, O: Outside>(
-    alloc: Global,
+    made: Vec<Control>,
     row: Row,
     both: &mut Both<M, A, O>,
 )
@@ -290,7 +285,6 @@ fn give_back<M: MotionMachine, A: ReactorMachine, O: Outside>(
     ensures hand { both.new.hand ≡ both.old.hand }
     ensures next { both.new.next ≡ both.old.next }
 {
-    let made = mem::replace(&mut both.owed, Vec::new(alloc));
     both.hand.head.give_back(made);
     both.motion.seat.give_back(row);
 }
@@ -299,9 +293,7 @@ fn give_back<M: MotionMachine, A: ReactorMachine, O: Outside>(
 /// the planner makes those that its words allow, and so is past the turn that the links make then. What it
 /// made waits beside the lanes: through these goes only what is not taken at once.
 pub fn alone<R: Wait, G: Gate, M: MotionMachine, L: LinkMachine, A: ReactorMachine, O: Outside>(
-    rt: &R,
-    gate: &G,
-    alloc: Global,
+    rt: &Runtime<'_, R, G>,
     lanes: &Lanes<'_>,
     hands: Vec<Hand<L>>,
     room: Vec<State>,
@@ -333,7 +325,7 @@ pub fn alone<R: Wait, G: Gate, M: MotionMachine, L: LinkMachine, A: ReactorMachi
         motion,
         hand,
         next: 0,
-        owed: Vec::new(alloc),
+        owed: Vec::new(rt.alloc),
     };
     let mut hands = hands;
     let mut found = Found {
@@ -343,41 +335,53 @@ pub fn alone<R: Wait, G: Gate, M: MotionMachine, L: LinkMachine, A: ReactorMachi
     // Nothing is asked for: pieces are read where they are needed.
     both.motion.closed = true;
     for k in 0..u64::MAX {
-        gate.pass(Who::Reactor, k);
-        let ordered = order_here(rt, alloc, k, &found, &first, lanes, &mut both.hand);
+        rt.gate.pass(Who::Reactor, k);
+        let ordered = order_here(rt, k, &found, &first, lanes, &mut both.hand);
         let (made, word) = match ordered {
             Ok(ordered) => ordered,
             Err(cause) => {
-                flush(rt, alloc, k, both.next, &start, lanes, &mut both.motion);
+                flush(rt, k, both.next, &start, lanes, &mut both.motion);
                 return end_here(k, &place, hands, both, cause, logs);
             }
         };
         both.owed = made;
-        plan_here(rt, gate, alloc, k, &place, word, &mut both);
+        plan_here(rt, k, &place, word, &mut both);
         // The planner waits for what no one says.
         let Some(late) = both.motion.late.pop_front() else {
             break;
         };
-        let Late { mut row, note } = late;
+        let Late { row, note } = late;
+        let Found { states, .. } = found;
+        let controls = mem::replace(&mut both.owed, Vec::new(rt.alloc));
+        let mut turn = HandsTurn {
+            number: k,
+            controls,
+            batches: row,
+            states,
+        };
         hands_turn(
             rt,
-            gate,
-            alloc,
-            k,
             lanes,
-            &mut both.owed,
-            &mut row,
+            &mut turn,
             &mut both.hand.control_passes,
             &mut both.motion.batch_passes,
             &mut both.hand.state_passes,
             &mut hands,
-            &mut found.states,
         );
+        let HandsTurn {
+            controls,
+            batches,
+            states,
+            ..
+        } = turn;
         lanes.notes.hand(&mut both.motion.note_pass, &mut both.hand.note_pass, &note);
-        found.note = Some(note);
-        give_back(alloc, row, &mut both);
+        found = Found {
+            states,
+            note: Some(note),
+        };
+        give_back(controls, batches, &mut both);
     }
-    for _ in rt.forever() {
+    for _ in rt.threads.forever() {
         thread::yield_now();
     }
     unreachable!()

@@ -18,9 +18,9 @@ use io_core::Gate;
 use lane_queue::SendPass;
 use session_work::{
     Bare, Control, Head, Lanes, LinkDone, LinkMachine, MotionDone, MotionMachine, Outside,
-    ReactorDone, ReactorMachine, WordMsg, link_worker, motion_worker, put_bare, reactor_worker,
+    ReactorDone, ReactorMachine, Runtime, WordMsg, link_worker, motion_worker, put_bare,
+    reactor_worker,
 };
-use std::alloc::Global;
 use std::collections::VecDeque;
 use std::snapshot::Snapshot;
 use std::sync::Wait;
@@ -35,9 +35,8 @@ struct Stopped<A, O> {
 }
 
 // Puts the end on the lanes of the words and of all boards' controls.
-fn stop<R: Wait, A: ReactorMachine, O: Outside>(
-    rt: &R,
-    alloc: Global,
+fn stop<R: Wait, G, A: ReactorMachine, O: Outside>(
+    rt: &Runtime<'_, R, G>,
     lanes: &Lanes<'_>,
     hand: ReactorDone<A, O>,
 ) -> Stopped<A, O>
@@ -56,10 +55,8 @@ fn stop<R: Wait, A: ReactorMachine, O: Outside>(
         mut control_passes,
         ..
     } = hand;
-    lanes
-        .words
-        .put(rt, &mut word_pass, WordMsg::bare(alloc, 0, true));
-    put_bare(rt, alloc, 0, true, lanes.controls, &mut control_passes);
+    lanes.words.put(rt.threads, &mut word_pass, WordMsg::bare(rt.alloc, 0, true));
+    put_bare(rt, 0, true, lanes.controls, &mut control_passes);
     Stopped {
         head,
         word_pass,
@@ -110,10 +107,8 @@ fn core<
     A: ReactorMachine,
     O: Outside,
 >(
-    rt: &'s R,
-    gate: &'s G,
+    rt: &'s Runtime<'s, R, G>,
     scope: &Scope<'s, E>,
-    alloc: Global,
     lanes: &'s Lanes<'s>,
     far: Far<M, L, A, O>,
 ) -> Reached<M, L, A, O>
@@ -141,16 +136,16 @@ fn core<
         move || -> MotionDone<M>
             requires { IsMotionAt M.MotionMachine lanes.now 0 begun.value motion × (motion.late.items ≡ []) }
             ensures { IsMotionDone M.MotionMachine lanes.entry.now begun.value result }
-        { motion_worker(rt, gate, alloc, begun, lanes, motion) },
+        { motion_worker(rt, begun, lanes, motion) },
     );
     match started {
         Ok(handle) => {
-            let (hand, cause) = reactor_worker(rt, gate, alloc, &first, lanes, hand);
-            let motion = handle.join(rt);
+            let (hand, cause) = reactor_worker(rt, &first, lanes, hand);
+            let motion = handle.join(rt.threads);
             Reached::Ran(close::<M, L, A, O>(&start, &first, lanes, motion, hand, cause, logs))
         }
         Err(refused) => {
-            let stopped = stop(rt, alloc, lanes, hand);
+            let stopped = stop(rt, lanes, hand);
             let motion = (refused.value)();
             Reached::Home(planner_home(lanes, motion, home, stopped))
         }
@@ -168,10 +163,8 @@ pub fn level<
     A: ReactorMachine,
     O: Outside,
 >(
-    rt: &'s R,
-    gate: &'s G,
+    rt: &'s Runtime<'s, R, G>,
     scope: &Scope<'s, E>,
-    alloc: Global,
     lanes: &'s Lanes<'s>,
     rest: Rest<L>,
     far: Far<M, L, A, O>,
@@ -186,7 +179,7 @@ pub fn level<
 {
     let Rest { at, mut links } = rest;
     let Some(link) = links.pop_front() else {
-        return core(rt, gate, scope, alloc, lanes, far);
+        return core(rt, scope, lanes, far);
     };
     let motion = Snapshot::of(&far.motion.seat.machine);
     let head = Snapshot::of(&far.hand.head);
@@ -202,17 +195,17 @@ pub fn level<
         move || -> LinkDone<L>
             requires { IsBoard lanes.now at × IsLinkAt L.turns 0 lanes.now at begun.value link }
             ensures { IsLinkDone L.turns lanes.entry.now at begun.value result }
-        { link_worker(rt, gate, alloc, at, begun, lanes, link) },
+        { link_worker(rt, at, begun, lanes, link) },
     );
     match started {
         Ok(handle) => {
             let rest = Rest { at: at + 1, links };
-            let reached = level(rt, gate, scope, alloc, lanes, rest, far);
-            let done = handle.join(rt);
+            let reached = level(rt, scope, lanes, rest, far);
+            let done = handle.join(rt.threads);
             join_link(&motion, &start, &head, lanes, at, reached, done)
         }
         Err(refused) => {
-            let home = turn_home::<R, M, L, A, O>(rt, alloc, lanes, at, links, far);
+            let home = turn_home::<R, G, M, L, A, O>(rt, lanes, at, links, far);
             let done = (refused.value)();
             Reached::Home(bring_home(&motion, &start, &head, lanes, at, home, done))
         }
@@ -220,9 +213,8 @@ pub fn level<
 }
 
 // Puts the end on the control lanes of all boards, and hands the machines back that were not started.
-fn turn_home<R: Wait, M: MotionMachine, L: LinkMachine, A: ReactorMachine, O: Outside>(
-    rt: &R,
-    alloc: Global,
+fn turn_home<R: Wait, G, M: MotionMachine, L: LinkMachine, A: ReactorMachine, O: Outside>(
+    rt: &Runtime<'_, R, G>,
     lanes: &Lanes<'_>,
     at: usize,
     links: VecDeque<LinkDone<L>>,
@@ -246,7 +238,7 @@ fn turn_home<R: Wait, M: MotionMachine, L: LinkMachine, A: ReactorMachine, O: Ou
         mut control_passes,
         ..
     } = hand;
-    put_bare(rt, alloc, 0, true, lanes.controls, &mut control_passes);
+    put_bare(rt, 0, true, lanes.controls, &mut control_passes);
     control_passes.truncate(at + 1);
     Home {
         motion: motion.seat.machine,

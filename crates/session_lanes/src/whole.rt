@@ -12,7 +12,7 @@ use crate::near::{Far, Machines, Ran, Reached, Rest, Told};
 use io_core::Gate;
 use session_work::{
     Hand, Head, Lanes, LinkDone, LinkMachine, MotionMachine, Outside, ReactorDone, ReactorMachine,
-    State,
+    Runtime, State,
 };
 use std::alloc::{AllocError, Global};
 use std::collections::VecDeque;
@@ -30,9 +30,7 @@ fn in_scope<
     A: ReactorMachine,
     O: Outside,
 >(
-    rt: &R,
-    gate: &G,
-    alloc: Global,
+    rt: &Runtime<'_, R, G>,
     lanes: &Lanes<'_>,
     links: VecDeque<LinkDone<L>>,
     far: Far<M, L, A, O>,
@@ -47,7 +45,7 @@ fn in_scope<
 {
     thread::scope(
         thread::scope_env(),
-        rt,
+        rt.threads,
         move |scope| -> Reached<M, L, A, O>
             requires { (length lanes.now.controls.now ≡ length lanes.now.batches.now)
                 × (length lanes.now.states.now ≡ length lanes.now.batches.now)
@@ -58,7 +56,7 @@ fn in_scope<
                 (map (λ d. d.machine) links.items) far.hand.head result }
         {
             let rest = Rest { at: 0, links };
-            level(rt, gate, scope, alloc, lanes, rest, far)
+            level(rt, scope, lanes, rest, far)
         },
     )
 }
@@ -95,9 +93,7 @@ fn head_of<M: MotionMachine, L: LinkMachine, A: ReactorMachine, O: Outside>(
 
 /// Runs all machines by turns on the calling thread. Where memory is wanted before turn 0, the head comes back.
 pub fn run_alone<R: Wait, G: Gate, M: MotionMachine, L: LinkMachine, A: ReactorMachine, O: Outside>(
-    rt: &R,
-    gate: &G,
-    alloc: Global,
+    rt: &Runtime<'_, R, G>,
     motion: M,
     links: Vec<L>,
     head: Head<A, O>,
@@ -108,14 +104,14 @@ pub fn run_alone<R: Wait, G: Gate, M: MotionMachine, L: LinkMachine, A: ReactorM
         (λ r. IsRun M.MotionMachine L.LinkMachine A.ReactorMachine O.Outside motion links.items head r) }
     ensures back { IfErr result (λ h. h ≡ head) }
 {
-    let Ok(places) = make_places::<L>(alloc, links.len()) else {
+    let Ok(places) = make_places::<L>(rt.alloc, links.len()) else {
         return Err(head);
     };
     let Begun { lanes, links, far } = begin(places, motion, links, head);
-    let Ok((hands, room)) = hands_of(alloc, links) else {
+    let Ok((hands, room)) = hands_of(rt.alloc, links) else {
         return Err(head_of(far));
     };
-    let near = alone(rt, gate, alloc, &lanes_of(&lanes), hands, room, far);
+    let near = alone(rt, &lanes_of(&lanes), hands, room, far);
     Ok(near.ran)
 }
 
@@ -130,9 +126,7 @@ pub fn run<
     A: ReactorMachine,
     O: Outside,
 >(
-    rt: &R,
-    gate: &G,
-    alloc: Global,
+    rt: &Runtime<'_, R, G>,
     motion: M,
     links: Vec<L>,
     head: Head<A, O>,
@@ -143,14 +137,14 @@ pub fn run<
         (λ r. IsRun M.MotionMachine L.LinkMachine A.ReactorMachine O.Outside motion links.items head r) }
     ensures back { IfErr result (λ h. h ≡ head) }
 {
-    let Ok(places) = make_places::<L>(alloc, links.len()) else {
+    let Ok(places) = make_places::<L>(rt.alloc, links.len()) else {
         return Err(head);
     };
     let Begun { lanes, links, far } = begin(places, motion, links, head);
-    let reached = in_scope(rt, gate, alloc, &lanes_of(&lanes), links, far);
+    let reached = in_scope(rt, &lanes_of(&lanes), links, far);
     match reached {
         Reached::Ran(near) => Ok(near.ran),
-        Reached::Home(home) => run_alone(rt, gate, alloc, home.motion, home.links, home.head),
+        Reached::Home(home) => run_alone(rt, home.motion, home.links, home.head),
     }
 }
 
@@ -179,6 +173,11 @@ pub fn run_back<
         machines.links.items (head_at machines.reactor outside) (ran_at t result)) }
     ensures back { IfNone told.new (result ≡ outside) }
 {
+    let rt = Runtime {
+        threads: rt,
+        alloc,
+        gate,
+    };
     let Machines {
         motion,
         links,
@@ -189,7 +188,7 @@ pub fn run_back<
         outside,
         stopped: false,
     };
-    match run(rt, gate, alloc, motion, links, head) {
+    match run(&rt, motion, links, head) {
         Ok(ran) => tell(ran, told),
         Err(head) => {
             *told = None;

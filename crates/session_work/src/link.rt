@@ -6,9 +6,9 @@ ghost use Rattle.session_work.specs.Links.{IsBoard, LinkStep, link_turn_of, IsLi
 use crate::ends::Lanes;
 use crate::machines::LinkMachine;
 use crate::messages::{Bare, Batch, Control, State};
+use crate::runtime::Runtime;
 use io_core::{Gate, Who};
 use lane_queue::{SendPass, TakePass};
-use std::alloc::Global;
 use std::snapshot::Snapshot;
 use std::sync::Wait;
 use std::thread;
@@ -24,9 +24,8 @@ pub struct LinkDone<L> {
 }
 
 // The state of turn k. A machine that wanted memory is asked no more.
-pub fn state_of<R: Wait, L: LinkMachine>(
-    rt: &R,
-    alloc: Global,
+pub fn state_of<R: Wait, G, L: LinkMachine>(
+    rt: &Runtime<'_, R, G>,
     k: u64,
     control: Control,
     batch: Batch,
@@ -40,10 +39,10 @@ pub fn state_of<R: Wait, L: LinkMachine>(
     ensures number { result.turn ≡ k }
 {
     if *out {
-        return State::bare(alloc, k, true);
+        return State::bare(rt.alloc, k, true);
     }
     // A machine at a limit stays there.
-    for _ in rt.forever() {
+    for _ in rt.threads.forever() {
         if machine.can_turn(k) {
             break;
         }
@@ -53,16 +52,15 @@ pub fn state_of<R: Wait, L: LinkMachine>(
         Ok(state) => state,
         Err(_) => {
             *out = true;
-            State::bare(alloc, k, true)
+            State::bare(rt.alloc, k, true)
         }
     }
 }
 
 /// Turn k of the link of board `at`: takes its control and its batch, and puts its state. False where the control ends
 /// the run.
-pub fn link_turn<R: Wait, L: LinkMachine>(
-    rt: &R,
-    alloc: Global,
+pub fn link_turn<R: Wait, G, L: LinkMachine>(
+    rt: &Runtime<'_, R, G>,
     at: usize,
     k: u64,
     start: &Snapshot<L>,
@@ -75,29 +73,19 @@ pub fn link_turn<R: Wait, L: LinkMachine>(
     ensures at { result ≡ true → IsLinkAt L.turns (k + 1) lanes.now at start.now.value link.new }
     ensures end { result ≡ false → IsLinkEnded L.turns lanes.now at start.now.value link.new }
 {
-    let control = lanes.controls[at].take(rt, &mut link.control_pass);
+    let control = lanes.controls[at].take(rt.threads, &mut link.control_pass);
     if control.end {
         return false;
     }
-    let batch = lanes.batches[at].take(rt, &mut link.batch_pass);
-    let state = state_of(
-        rt,
-        alloc,
-        k,
-        control,
-        batch,
-        &mut link.machine,
-        &mut link.out,
-    );
-    lanes.states[at].put(rt, &mut link.state_pass, state);
+    let batch = lanes.batches[at].take(rt.threads, &mut link.batch_pass);
+    let state = state_of(rt, k, control, batch, &mut link.machine, &mut link.out);
+    lanes.states[at].put(rt.threads, &mut link.state_pass, state);
     true
 }
 
 /// Takes controls and batches and puts the states that the machine answers, up to a control that ends the run.
 pub fn link_worker<R: Wait, G: Gate, L: LinkMachine>(
-    rt: &R,
-    gate: &G,
-    alloc: Global,
+    rt: &Runtime<'_, R, G>,
     at: usize,
     start: Snapshot<L>,
     lanes: &Lanes<'_>,
@@ -111,13 +99,13 @@ pub fn link_worker<R: Wait, G: Gate, L: LinkMachine>(
     let mut link = link;
     let board = u8::try_from(at).unwrap_or(u8::MAX);
     for k in 0..u64::MAX {
-        gate.pass(Who::Link(board), k);
-        let goes_on = link_turn(rt, alloc, at, k, &start, lanes, &mut link);
+        rt.gate.pass(Who::Link(board), k);
+        let goes_on = link_turn(rt, at, k, &start, lanes, &mut link);
         if !goes_on {
             return link;
         }
     }
-    for _ in rt.forever() {
+    for _ in rt.threads.forever() {
         thread::yield_now();
     }
     unreachable!()

@@ -11,10 +11,10 @@ use crate::late::{Late, Row, late_of};
 use crate::machines::MotionMachine;
 use crate::messages::{Ask, Bare, Batch, Made, Note, Piece, WordMsg};
 use crate::rows::{put_bare, put_each};
+use crate::runtime::Runtime;
 use crate::seat::Seat;
 use io_core::{Gate, Who};
 use lane_queue::{Lane, SendPass, TakePass};
-use std::alloc::Global;
 use std::collections::VecDeque;
 use std::snapshot::Snapshot;
 use std::sync::Wait;
@@ -151,9 +151,8 @@ fn feed<R: Wait, M: MotionMachine>(
 }
 
 // Puts the batches of turn k and its note.
-fn make<R: Wait, M: MotionMachine>(
-    rt: &R,
-    alloc: Global,
+fn make<R: Wait, G, M: MotionMachine>(
+    rt: &Runtime<'_, R, G>,
     k: u64,
     start: &Snapshot<M>,
     lanes: &Lanes<'_>,
@@ -164,31 +163,29 @@ fn make<R: Wait, M: MotionMachine>(
     ensures at { IsMotionAt M.MotionMachine lanes.now (k + 1) start.now.value motion.new }
     ensures late { motion.new.late.items ≡ [] }
 {
-    if let Some(made) = motion.seat.turn(rt, k) {
+    if let Some(made) = motion.seat.turn(rt.threads, k) {
         let Made {
             batches: made,
             note,
         } = made;
-        put_each(rt, k, lanes.batches, &mut motion.batch_passes, made);
-        lanes.notes.put(rt, &mut motion.note_pass, note);
+        put_each(rt.threads, k, lanes.batches, &mut motion.batch_passes, made);
+        lanes.notes.put(rt.threads, &mut motion.note_pass, note);
         return;
     }
     put_bare(
         rt,
-        alloc,
         k,
         motion.seat.halted,
         lanes.batches,
         &mut motion.batch_passes,
     );
-    let note = Note::bare(alloc, k, motion.seat.out);
-    lanes.notes.put(rt, &mut motion.note_pass, note);
+    let note = Note::bare(rt.alloc, k, motion.seat.out);
+    lanes.notes.put(rt.threads, &mut motion.note_pass, note);
 }
 
 /// Makes turn k, whose batches and note wait.
-pub fn keep<R: Wait, M: MotionMachine>(
-    rt: &R,
-    alloc: Global,
+pub fn keep<R: Wait, G, M: MotionMachine>(
+    rt: &Runtime<'_, R, G>,
     k: u64,
     start: &Snapshot<M>,
     lanes: &Lanes<'_>,
@@ -202,8 +199,8 @@ pub fn keep<R: Wait, M: MotionMachine>(
     ensures count { deque_len motion.new.late ≡ deque_len motion.old.late + 1 }
     ensures room { deque_capacity motion.old.late ≤ deque_capacity motion.new.late }
 {
-    let made = motion.seat.turn(rt, k);
-    let late = late_of(alloc, k, made, motion.seat.halted, motion.seat.out);
+    let made = motion.seat.turn(rt.threads, k);
+    let late = late_of(rt.alloc, k, made, motion.seat.halted, motion.seat.out);
     match motion.late.push_back(late) {
         Ok(()) => {}
         Err(_) => unreachable!(),
@@ -211,9 +208,8 @@ pub fn keep<R: Wait, M: MotionMachine>(
 }
 
 // Puts the batches of turn k.
-fn put_row<R: Wait>(
-    rt: &R,
-    alloc: Global,
+fn put_row<R: Wait, G>(
+    rt: &Runtime<'_, R, G>,
     k: u64,
     batches: &[Lane<Batch>],
     passes: &mut Vec<SendPass<Batch>>,
@@ -226,15 +222,14 @@ fn put_row<R: Wait>(
     ensures { RowPut batches.now passes.old.items passes.new.items (batches_of (length batches.now) k row) }
 {
     match row {
-        Row::Made(made) => put_each(rt, k, batches, passes, made),
-        Row::Bare { end } => put_bare(rt, alloc, k, end, batches, passes),
+        Row::Made(made) => put_each(rt.threads, k, batches, passes, made),
+        Row::Bare { end } => put_bare(rt, k, end, batches, passes),
     }
 }
 
 /// Puts what waits, from turn k on.
-pub fn flush<R: Wait, M: MotionMachine>(
-    rt: &R,
-    alloc: Global,
+pub fn flush<R: Wait, G, M: MotionMachine>(
+    rt: &Runtime<'_, R, G>,
     k: u64,
     n: u64,
     start: &Snapshot<M>,
@@ -251,17 +246,15 @@ pub fn flush<R: Wait, M: MotionMachine>(
             return;
         };
         let Late { row, note } = late;
-        put_row(rt, alloc, i, lanes.batches, &mut motion.batch_passes, row);
-        lanes.notes.put(rt, &mut motion.note_pass, note);
+        put_row(rt, i, lanes.batches, &mut motion.batch_passes, row);
+        lanes.notes.put(rt.threads, &mut motion.note_pass, note);
     }
 }
 
 /// Turn k of the motion worker: takes the words that its batches need, and the pieces of the file, and puts a batch for
 /// each board and a note. False where a word ended the run.
 pub fn motion_turn<R: Wait, G: Gate, M: MotionMachine>(
-    rt: &R,
-    gate: &G,
-    alloc: Global,
+    rt: &Runtime<'_, R, G>,
     k: u64,
     start: &Snapshot<M>,
     lanes: &Lanes<'_>,
@@ -274,19 +267,17 @@ pub fn motion_turn<R: Wait, G: Gate, M: MotionMachine>(
     ensures late { motion.new.late.items ≡ [] }
     ensures end { result ≡ false → motion.new.seat.halted ≡ true }
 {
-    gate.pass(Who::Motion, k);
-    hear(rt, k, start, lanes, motion);
-    feed(rt, k, start, lanes, motion);
-    make(rt, alloc, k, start, lanes, motion);
+    rt.gate.pass(Who::Motion, k);
+    hear(rt.threads, k, start, lanes, motion);
+    feed(rt.threads, k, start, lanes, motion);
+    make(rt, k, start, lanes, motion);
     !motion.seat.halted
 }
 
 /// Takes words and pieces of the file, and puts the batches and notes that the machine answers, up to those behind a
 /// word that ends the run, also where the machine is asked no more.
 pub fn motion_worker<R: Wait, G: Gate, M: MotionMachine>(
-    rt: &R,
-    gate: &G,
-    alloc: Global,
+    rt: &Runtime<'_, R, G>,
     start: Snapshot<M>,
     lanes: &Lanes<'_>,
     motion: MotionDone<M>,
@@ -298,12 +289,12 @@ pub fn motion_worker<R: Wait, G: Gate, M: MotionMachine>(
 {
     let mut motion = motion;
     for k in 0..u64::MAX {
-        let goes_on = motion_turn(rt, gate, alloc, k, &start, lanes, &mut motion);
+        let goes_on = motion_turn(rt, k, &start, lanes, &mut motion);
         if !goes_on {
             return motion;
         }
     }
-    for _ in rt.forever() {
+    for _ in rt.threads.forever() {
         thread::yield_now();
     }
     unreachable!()

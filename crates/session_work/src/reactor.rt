@@ -13,10 +13,10 @@ use crate::head::{Found, Head};
 use crate::machines::{Ordered, Outside, ReactorMachine};
 use crate::messages::{Ask, Bare, Control, Note, Piece, State, WordMsg, stop_piece};
 use crate::rows::{put_ahead, put_bare, put_each, put_each_ahead, take_each};
+use crate::runtime::Runtime;
 use io_core::{Gate, Who};
 use lane_queue::{Lane, SendPass, TakePass};
 use plan_types::Cause;
-use std::alloc::Global;
 use std::snapshot::Snapshot;
 use std::sync::Wait;
 use std::thread;
@@ -42,9 +42,8 @@ pub struct ReactorDone<A, O> {
 }
 
 // The states and the note of the turn before; nothing in turn 0. None where memory was wanted.
-fn find<R: Wait>(
-    rt: &R,
-    alloc: Global,
+fn find<R: Wait, G>(
+    rt: &Runtime<'_, R, G>,
     k: u64,
     notes: &Lane<Note>,
     note_pass: &mut TakePass<Note>,
@@ -65,13 +64,13 @@ fn find<R: Wait>(
 {
     if k == 0 {
         return Some(Found {
-            states: Vec::new(alloc),
+            states: Vec::new(rt.alloc),
             note: None,
         });
     }
-    let room = Vec::with_capacity(alloc, states.len()).ok()?;
-    let found = take_each(rt, k - 1, states, state_passes, room);
-    let note = notes.take(rt, note_pass);
+    let room = Vec::with_capacity(rt.alloc, states.len()).ok()?;
+    let found = take_each(rt.threads, k - 1, states, state_passes, room);
+    let note = notes.take(rt.threads, note_pass);
     Some(Found {
         states: found,
         note: Some(note),
@@ -80,9 +79,8 @@ fn find<R: Wait>(
 
 // Puts the end behind what was put ahead, on the lanes of the words and of all boards' controls, and in turn k a
 // piece that says that nothing comes.
-fn put_end<R: Wait, A, O>(
-    rt: &R,
-    alloc: Global,
+fn put_end<R: Wait, G, A, O>(
+    rt: &Runtime<'_, R, G>,
     k: u64,
     lanes: &Lanes<'_>,
     hand: &mut ReactorDone<A, O>,
@@ -96,17 +94,16 @@ fn put_end<R: Wait, A, O>(
 {
     put_bare(
         rt,
-        alloc,
         hand.next,
         true,
         lanes.controls,
         &mut hand.control_passes,
     );
-    let word = WordMsg::bare(alloc, hand.next, true);
-    lanes.words.put(rt, &mut hand.word_pass, word);
-    let piece = stop_piece(alloc, k, hand.served);
+    let word = WordMsg::bare(rt.alloc, hand.next, true);
+    lanes.words.put(rt.threads, &mut hand.word_pass, word);
+    let piece = stop_piece(rt.alloc, k, hand.served);
     put_piece(
-        rt,
+        rt.threads,
         lanes.pieces,
         &mut hand.piece_pass,
         &mut hand.served,
@@ -143,9 +140,8 @@ fn say<R: Wait>(
 }
 
 // Puts bare controls and words for the turns up to `to`, where they aren't put.
-fn lead<R: Wait>(
-    rt: &R,
-    alloc: Global,
+fn lead<R: Wait, G>(
+    rt: &Runtime<'_, R, G>,
     to: u64,
     lanes: &Lanes<'_>,
     word_pass: &mut SendPass<WordMsg>,
@@ -163,8 +159,8 @@ fn lead<R: Wait>(
     if from >= to {
         return;
     }
-    put_each_ahead(rt, alloc, from, to, lanes.controls, control_passes);
-    put_ahead(rt, alloc, from, to, lanes.words, word_pass);
+    put_each_ahead(rt, from, to, lanes.controls, control_passes);
+    put_ahead(rt, from, to, lanes.words, word_pass);
     *next = to;
 }
 
@@ -175,23 +171,21 @@ const LEAD: u64 = 31;
 const LEFT: u64 = 0;
 
 // How many turns it may go ahead behind turn k, where it does.
-fn ahead(k: u64, next: u64, most: u64) -> u64
+fn ahead(k: u64, next: u64) -> u64
     requires limit { k + 1 < 2 ^ 64 }
     ensures { k + 1 + result < 2 ^ 64 }
 {
     if next > k + 1 && next - (k + 1) > LEFT {
         return 0;
     }
-    most.min(u64::MAX - (k + 1))
+    LEAD.min(u64::MAX - (k + 1))
 }
 
-// Takes what there is from the turn before, and puts what the machine orders in turn k, and what it will
-// order in so many turns more. The end, where there is one.
-fn order<R: Wait, A: ReactorMachine, O: Outside>(
-    rt: &R,
-    alloc: Global,
+// Takes what there is from the turn before, and puts what the machine orders in turn k, and in turns behind it
+// where that is nothing. The end, where there is one.
+fn order<R: Wait, G, A: ReactorMachine, O: Outside>(
+    rt: &Runtime<'_, R, G>,
     k: u64,
-    most: u64,
     start: &Snapshot<Head<A, O>>,
     lanes: &Lanes<'_>,
     hand: &mut ReactorDone<A, O>,
@@ -203,7 +197,6 @@ fn order<R: Wait, A: ReactorMachine, O: Outside>(
 {
     let found = find(
         rt,
-        alloc,
         k,
         lanes.notes,
         &mut hand.note_pass,
@@ -211,11 +204,11 @@ fn order<R: Wait, A: ReactorMachine, O: Outside>(
         &mut hand.state_passes,
     );
     let Some(found) = found else {
-        put_end(rt, alloc, k, lanes, hand);
+        put_end(rt, k, lanes, hand);
         return Some(Cause::Memory);
     };
-    let Some(ordered) = hand.head.turn(rt, k, &found) else {
-        put_end(rt, alloc, k, lanes, hand);
+    let Some(ordered) = hand.head.turn(rt.threads, k, &found) else {
+        put_end(rt, k, lanes, hand);
         return Some(Cause::Memory);
     };
     let Ordered {
@@ -225,12 +218,12 @@ fn order<R: Wait, A: ReactorMachine, O: Outside>(
         end,
     } = ordered;
     if let Some(cause) = end {
-        put_end(rt, alloc, k, lanes, hand);
+        put_end(rt, k, lanes, hand);
         hand.head.write(lines);
         return Some(cause);
     }
     say(
-        rt,
+        rt.threads,
         k,
         lanes,
         &mut hand.word_pass,
@@ -238,10 +231,9 @@ fn order<R: Wait, A: ReactorMachine, O: Outside>(
         &mut hand.next,
         (made, word),
     );
-    let free = hand.head.machine.free(k + 1, ahead(k, hand.next, most));
+    let free = hand.head.machine.free(k + 1, ahead(k, hand.next));
     lead(
         rt,
-        alloc,
         k + 1 + free,
         lanes,
         &mut hand.word_pass,
@@ -254,9 +246,8 @@ fn order<R: Wait, A: ReactorMachine, O: Outside>(
 
 /// On one thread: what the machine orders in turn k over what was found. The controls and the word come back,
 /// and nothing is put ahead. The end, where there is one.
-pub fn order_here<R: Wait, A: ReactorMachine, O: Outside>(
-    rt: &R,
-    alloc: Global,
+pub fn order_here<R: Wait, G, A: ReactorMachine, O: Outside>(
+    rt: &Runtime<'_, R, G>,
     k: u64,
     found: &Found,
     start: &Snapshot<Head<A, O>>,
@@ -269,8 +260,8 @@ pub fn order_here<R: Wait, A: ReactorMachine, O: Outside>(
         (λ r. OwesWord A.ReactorMachine O.Outside lanes.now k start.now.value r.0.items r.1 hand.new) }
     ensures end { IfErr result (λ c. IsReactorDone A.ReactorMachine O.Outside lanes.now c start.now.value hand.new) }
 {
-    let Some(ordered) = hand.head.turn(rt, k, found) else {
-        put_end(rt, alloc, k, lanes, hand);
+    let Some(ordered) = hand.head.turn(rt.threads, k, found) else {
+        put_end(rt, k, lanes, hand);
         return Err(Cause::Memory);
     };
     let Ordered {
@@ -280,7 +271,7 @@ pub fn order_here<R: Wait, A: ReactorMachine, O: Outside>(
         end,
     } = ordered;
     if let Some(cause) = end {
-        put_end(rt, alloc, k, lanes, hand);
+        put_end(rt, k, lanes, hand);
         hand.head.write(lines);
         return Err(cause);
     }
@@ -290,9 +281,8 @@ pub fn order_here<R: Wait, A: ReactorMachine, O: Outside>(
 }
 
 // Reads the pieces of the file that the motion worker asks for behind word k.
-fn serve<R: Wait, A: ReactorMachine, O: Outside>(
-    rt: &R,
-    alloc: Global,
+fn serve<R: Wait, G, A: ReactorMachine, O: Outside>(
+    rt: &Runtime<'_, R, G>,
     k: u64,
     start: &Snapshot<Head<A, O>>,
     lanes: &Lanes<'_>,
@@ -301,19 +291,19 @@ fn serve<R: Wait, A: ReactorMachine, O: Outside>(
     requires { IsServing A.ReactorMachine O.Outside lanes.now k start.now.value hand.old }
     ensures { IsReactorAt A.ReactorMachine O.Outside lanes.now (k + 1) start.now.value hand.new }
 {
-    for _ in rt.forever() {
+    for _ in rt.threads.forever() {
         if hand.head.stopped || hand.closed || k < hand.sated {
             return;
         }
-        let ask = lanes.asks.take(rt, &mut hand.ask_pass);
+        let ask = lanes.asks.take(rt.threads, &mut hand.ask_pass);
         if !ask.more {
             hand.sated = ask.until;
             return;
         }
-        let piece = hand.head.piece(alloc, k, hand.served);
+        let piece = hand.head.piece(rt.alloc, k, hand.served);
         hand.closed = piece.end;
         put_piece(
-            rt,
+            rt.threads,
             lanes.pieces,
             &mut hand.piece_pass,
             &mut hand.served,
@@ -350,9 +340,7 @@ pub fn put_piece<R: Wait>(
 /// Turn k of the reactor: takes the states and the note of the turn before, puts a control for each board and a word,
 /// writes its lines, and reads what the motion worker asks for. The end, where there is one.
 pub fn reactor_turn<R: Wait, G: Gate, A: ReactorMachine, O: Outside>(
-    rt: &R,
-    gate: &G,
-    alloc: Global,
+    rt: &Runtime<'_, R, G>,
     k: u64,
     start: &Snapshot<Head<A, O>>,
     lanes: &Lanes<'_>,
@@ -363,20 +351,18 @@ pub fn reactor_turn<R: Wait, G: Gate, A: ReactorMachine, O: Outside>(
     ensures on { IfNone result (IsReactorAt A.ReactorMachine O.Outside lanes.now (k + 1) start.now.value hand.new) }
     ensures end { IfSome result (λ c. IsReactorDone A.ReactorMachine O.Outside lanes.now c start.now.value hand.new) }
 {
-    gate.pass(Who::Reactor, k);
-    let end = order(rt, alloc, k, LEAD, start, lanes, hand);
+    rt.gate.pass(Who::Reactor, k);
+    let end = order(rt, k, start, lanes, hand);
     if let Some(cause) = end {
         return Some(cause);
     }
-    serve(rt, alloc, k, start, lanes, hand);
+    serve(rt, k, start, lanes, hand);
     None
 }
 
 /// Runs the reactor to the end, and tells its cause.
 pub fn reactor_worker<R: Wait, G: Gate, A: ReactorMachine, O: Outside>(
-    rt: &R,
-    gate: &G,
-    alloc: Global,
+    rt: &Runtime<'_, R, G>,
     start: &Snapshot<Head<A, O>>,
     lanes: &Lanes<'_>,
     hand: ReactorDone<A, O>,
@@ -386,12 +372,12 @@ pub fn reactor_worker<R: Wait, G: Gate, A: ReactorMachine, O: Outside>(
 {
     let mut hand = hand;
     for k in 0..u64::MAX {
-        let end = reactor_turn(rt, gate, alloc, k, start, lanes, &mut hand);
+        let end = reactor_turn(rt, k, start, lanes, &mut hand);
         if let Some(cause) = end {
             return (hand, cause);
         }
     }
-    for _ in rt.forever() {
+    for _ in rt.threads.forever() {
         thread::yield_now();
     }
     unreachable!()

@@ -5,9 +5,9 @@ ghost use Rattle.session_work.specs.Leads.{each_turn, RowsPut};
 ghost use Rattle.session_work.specs.Rows.{AreOf, CanPut, CanTake, PutMore, RowPut, RowTaken, copies};
 
 use crate::messages::Bare;
+use crate::runtime::Runtime;
 use lane_queue::{Lane, SendPass, TakePass};
 use plan_types::Numbered;
-use std::alloc::{AllocError, Global};
 use std::sync::Wait;
 
 /// Puts a message of turn k on each lane.
@@ -31,9 +31,8 @@ pub fn put_each<R: Wait, T: Numbered>(
 }
 
 /// Puts a bare message of turn k on each lane.
-pub fn put_bare<R: Wait, T: Bare>(
-    rt: &R,
-    alloc: Global,
+pub fn put_bare<R: Wait, G, T: Bare>(
+    rt: &Runtime<'_, R, G>,
     k: u64,
     flag: bool,
     lanes: &[Lane<T>],
@@ -44,14 +43,13 @@ pub fn put_bare<R: Wait, T: Bare>(
     ensures { RowPut lanes.now passes.old.items passes.new.items (copies (length lanes.now) (T.bare k flag)) }
 {
     for i in 0..lanes.len() {
-        lanes[i].put(rt, &mut passes[i], T::bare(alloc, k, flag));
+        lanes[i].put(rt.threads, &mut passes[i], T::bare(rt.alloc, k, flag));
     }
 }
 
 /// Puts bare messages of these turns.
-pub fn put_ahead<R: Wait, T: Bare>(
-    rt: &R,
-    alloc: Global,
+pub fn put_ahead<R: Wait, G, T: Bare>(
+    rt: &Runtime<'_, R, G>,
     from: u64,
     to: u64,
     lane: &Lane<T>,
@@ -62,14 +60,13 @@ pub fn put_ahead<R: Wait, T: Bare>(
     ensures { PutMore (each_turn (λ i. T.bare i false) from (to - from)) lane.now pass.old pass.new }
 {
     for i in from..to {
-        lane.put(rt, pass, T::bare(alloc, i, false));
+        lane.put(rt.threads, pass, T::bare(rt.alloc, i, false));
     }
 }
 
 /// Puts bare messages of these turns on each lane, one lane behind the other.
-pub fn put_each_ahead<R: Wait, T: Bare>(
-    rt: &R,
-    alloc: Global,
+pub fn put_each_ahead<R: Wait, G, T: Bare>(
+    rt: &Runtime<'_, R, G>,
     from: u64,
     to: u64,
     lanes: &[Lane<T>],
@@ -81,7 +78,7 @@ pub fn put_each_ahead<R: Wait, T: Bare>(
     ensures { RowsPut lanes.now passes.old.items passes.new.items (each_turn (λ i. T.bare i false) from (to - from)) }
 {
     for j in 0..lanes.len() {
-        put_ahead(rt, alloc, from, to, &lanes[j], &mut passes[j]);
+        put_ahead(rt, from, to, &lanes[j], &mut passes[j]);
     }
 }
 

@@ -42,12 +42,12 @@ spawn_with-done-requires g t c κs within =
     let d = c.in-Some.link in
     let all : AreLinks g.L.LinkMachine c.args.rest.at c.args.lanes.now (d ∷ c.pop_front.new.self.items) = subst (AreLinks g.L.LinkMachine c.args.rest.at c.args.lanes.now) c.in-Some.ensures.items c.requires.links in
     let ready = ready_at g.L.LinkMachine c.args.lanes.now c.args.rest.at d c.pop_front.new.self.items c.of-begun.result.value all c.of-begun.ensures in
-    (within.0, (within.1.0, (within.1.1, subst (λ f. IsBoard f.5.now f.3 × IsLinkAt g.L.LinkMachine.turns 0 f.5.now f.3 f.4.value f.6) (sym c.in-Err.ensures.err) ((let count : deque_len c.args.rest.links ≡ deque_len c.pop_front.new.self + 1 = search rules in let boards = c.requires.boards.2 in let same = c.requires.boards.0 in let same2 = c.requires.boards.1 in (omega arith, omega arith, omega arith)), ready))))
+    (within.0, (within.1.0, (within.1.1, subst (λ f. IsBoard f.3.now f.1 × IsLinkAt g.L.LinkMachine.turns 0 f.3.now f.1 f.2.value f.4) (sym c.in-Err.ensures.err) ((let count : deque_len c.args.rest.links ≡ deque_len c.pop_front.new.self + 1 = search rules in let boards = c.requires.boards.2 in let same = c.requires.boards.0 in let same2 = c.requires.boards.1 in (omega arith, omega arith, omega arith)), ready))))
 
 pub bring_home-requires-clause-done : goal.bring_home-requires-clause-done
 bring_home-requires-clause-done g t c =
     let r = c.spawn_with-done.result in
-    let there : IsLinkDone g.L.LinkMachine.turns c.args.lanes.now c.args.rest.at c.of-begun.result.value r = subst (λ f. IsLinkDone g.L.LinkMachine.turns f.5.now f.3 f.4.value r) c.in-Err.ensures.err c.spawn_with-done.ensures in
+    let there : IsLinkDone g.L.LinkMachine.turns c.args.lanes.now c.args.rest.at c.of-begun.result.value r = subst (λ f. IsLinkDone g.L.LinkMachine.turns f.3.now f.1 f.2.value r) c.in-Err.ensures.err c.spawn_with-done.ensures in
     subst (λ s. IsLinkDone g.L.LinkMachine.turns c.args.lanes.now c.args.rest.at s r) (c.of-begun.ensures ∙ sym c.of-start.ensures) there
 
 pub bring_home-requires-clause-home : goal.bring_home-requires-clause-home

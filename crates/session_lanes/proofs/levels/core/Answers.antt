@@ -33,13 +33,13 @@ stop-stopped-requires-clause-controls g c =
 pub planner_home-requires-clause-take : goal.planner_home-requires-clause-take
 planner_home-requires-clause-take g c =
     let r = c.spawn_with-motion.result in
-    let there : IsMotionDone g.M.MotionMachine c.args.lanes.now c.of-begun.result.value r = subst (λ f. IsMotionDone g.M.MotionMachine f.4.now f.3.value r) c.in-Err.ensures.err c.spawn_with-motion.ensures in
+    let there : IsMotionDone g.M.MotionMachine c.args.lanes.now c.of-begun.result.value r = subst (λ f. IsMotionDone g.M.MotionMachine f.2.now f.1.value r) c.in-Err.ensures.err c.spawn_with-motion.ensures in
     there.1.3.0.0
 
 pub spawn_with-motion-requires : goal.spawn_with-motion-requires
 spawn_with-motion-requires g c κs within =
     let at : IsMotionAt g.M.MotionMachine c.args.lanes.now 0 c.of-begun.result.value c.args.far.motion = subst (λ s. IsMotionAt g.M.MotionMachine c.args.lanes.now 0 s c.args.far.motion) (sym c.of-begun.ensures) c.requires.far.0 in
-    (within.0, (within.1.0, (within.1.1, subst (λ f. IsMotionAt g.M.MotionMachine f.4.now 0 f.3.value f.5 × (f.5.late.items ≡ [])) (sym c.in-Err.ensures.err) (at, c.requires.far.10))))
+    (within.0, (within.1.0, (within.1.1, subst (λ f. IsMotionAt g.M.MotionMachine f.2.now 0 f.1.value f.3 × (f.3.late.items ≡ [])) (sym c.in-Err.ensures.err) (at, c.requires.far.10))))
 
 pub returns-in-Ok : goal.returns-in-Ok
 returns-in-Ok g c =
@@ -50,7 +50,7 @@ returns-in-Ok g c =
 pub returns-in-Err : goal.returns-in-Err
 returns-in-Err g c =
     let r = c.spawn_with-motion.result in let s = c.args.far.motion.seat.machine in let n = length c.args.lanes.now.controls.now in let d = c.args.far.hand in
-    let there : IsMotionDone g.M.MotionMachine c.args.lanes.now c.of-begun.result.value r = subst (λ f. IsMotionDone g.M.MotionMachine f.4.now f.3.value r) c.in-Err.ensures.err c.spawn_with-motion.ensures in
+    let there : IsMotionDone g.M.MotionMachine c.args.lanes.now c.of-begun.result.value r = subst (λ f. IsMotionDone g.M.MotionMachine f.2.now f.1.value r) c.in-Err.ensures.err c.spawn_with-motion.ensures in
     let done : IsMotionDone g.M.MotionMachine c.args.lanes.now s r = subst (λ m. IsMotionDone g.M.MotionMachine c.args.lanes.now m r) c.of-begun.ensures there in
     let ts = done.1.0 in let mw = done.1.3 in let rw = at_first g.A.ReactorMachine g.O.Outside c.args.lanes.now c.args.far.hand.head c.args.far.hand c.requires.far.1 c.requires.far.9 in
     let words_put : put c.stop-stopped.result.word_pass ≡ bare_word 0 true ∷ [] = c.stop-stopped.ensures.word ∙ (λ i. rw.1.2 i ++ bare_word 0 true ∷ []) in

@@ -1,15 +1,13 @@
-use Rattle.std.proofs.Common.{rules, arith, ◌≡◌, ◌+◌, ◌-◌, ◌<◌, ◌≤◌, ◌∙◌, [], ◌∷◌, ◌++◌, length, vec_len, map, get_or, set, length-set, subst, sym, ap, refl}
+use Rattle.std.proofs.Common.{rules, arith, ◌≡◌, ◌+◌, ◌-◌, ◌<◌, ◌∙◌, [], ◌∷◌, ◌++◌, length, vec_len, get_or, set, length-set, subst, sym, ap}
 use Rattle.std.proofs.lemmas.List.{get_or_default}
 use Rattle.std.proofs.lemmas.List.Edits.{get_or-remove_above}
 use Rattle.lane_queue.specs.declared.ends.Lane.{Lane}
-use Rattle.lane_queue.specs.Ends.{IsSendOf, IsTakeOf, put, put_first, taken, take_first, next_put, next_take}
+use Rattle.lane_queue.specs.Ends.{IsSendOf, IsTakeOf, put, taken, next_put, next_take}
 use Rattle.msg_code.specs.declared.unit.Batch.{Batch}
 use Rattle.msg_code.specs.declared.unit.Control.{Control}
 use Rattle.msg_code.specs.declared.talk.State.{State}
-use Rattle.session_work.specs.declared.hands.Hand.{Hand}
 use Rattle.session_work.specs.Alone.{IsHandAt}
 use Rattle.session_work.specs.Lates.{batches_of}
-use Rattle.session_work.specs.Links.{IsLinkAt}
 use Rattle.session_work.specs.Rows.{PutMore, TookMore, item}
 use Rattle.session_work.proofs.Each.{some_done, some_left, map-set_same, done_next, same_next, get_or_next, item_at, item_push_before, item_push_at, more_of}
 use Rattle.session_work.proofs.hands.hands_turn.Goals as goal
@@ -22,14 +20,14 @@ hand_turn-state-requires-clause-at g c =
     let i = c.loop-i.i in let h = c.index_mut-in-loop-i-3.result.now in let now = c.loop-i.hands.items in
     let size = c.loop-i.invariant.size in let room : length c.args.hands.now.items ≡ length c.args.lanes.now.batches.now = search rules in let below = c.loop-i-test.true in
     let inside : i < length now = omega arith in
-    subst (IsHandAt g.L.LinkMachine c.args.k c.args.lanes.now i) (sym c.index_mut-in-loop-i-3.ensures.value) (c.loop-i.invariant.left i h (omega arith) inside)
+    subst (IsHandAt g.L.LinkMachine c.args.turn.now.number c.args.lanes.now i) (sym c.index_mut-in-loop-i-3.ensures.value) (c.loop-i.invariant.left i h (omega arith) inside)
 
 pub hand_turn-state-requires-clause-control : goal.hand_turn-state-requires-clause-control
 hand_turn-state-requires-clause-control g c =
     let i = c.loop-i.i in let m = c.remove-control.result in let below = c.loop-i-test.true in
-    let many : length c.args.made.now.items ≡ length c.args.lanes.now.controls.now = search rules in let same = c.requires.boards.0 in
+    let many : length c.args.turn.now.controls.items ≡ length c.args.lanes.now.controls.now = search rules in let same = c.requires.boards.0 in
     let at : i + 0 ≡ i = omega arith in
-    let is : m ≡ get_or c.args.made.now.items i m = c.remove-control.ensures.value ∙ (c.loop-i.invariant.rest 0 m ∙ ap (λ k. get_or c.args.made.now.items k m) at) in
+    let is : m ≡ get_or c.args.turn.now.controls.items i m = c.remove-control.ensures.value ∙ (c.loop-i.invariant.rest 0 m ∙ ap (λ k. get_or c.args.turn.now.controls.items k m) at) in
     ap (λ (x : Control). x.turn) is ∙ c.requires.made.1 i m (omega arith)
 
 pub hand_turn-state-requires-clause-send : goal.hand_turn-state-requires-clause-send
@@ -46,7 +44,7 @@ next_batch-batch-requires g c =
 
 pub hand_turn-state-requires-clause-batch : goal.hand_turn-state-requires-clause-batch
 hand_turn-state-requires-clause-batch g c =
-    let n = length c.args.lanes.now.batches.now in let k = c.args.k in let i = c.loop-i.i in let below = c.loop-i-test.true in let b = c.next_batch-batch.result in let all = batches_of n k c.args.row.now in
+    let n = length c.args.lanes.now.batches.now in let k = c.args.turn.now.number in let i = c.loop-i.i in let below = c.loop-i-test.true in let b = c.next_batch-batch.result in let all = batches_of n k c.args.turn.now.batches in
     let m = n - (i + 1) in let held = c.loop-i.invariant.row (m + 1) (omega arith) in let first = c.next_batch-batch.ensures m held.0 in
     let at : i + 0 ≡ i = omega arith in
     let is : b ≡ get_or all i b = ap (λ xs. get_or xs 0 b) (sym first) ∙ (held.1 0 b ∙ ap (λ j. get_or all j b) at) in let long = c.requires.row.0 in
@@ -73,20 +71,20 @@ loop-i-preserved g c =
     let same = c.requires.boards.0 in let same2 = c.requires.boards.1 in
     let inside : i < length now = omega arith in
     let there = c.hand_turn-state.ensures.at in
-    let P = IsHandAt g.L.LinkMachine (c.args.k + 1) c.args.lanes.now in let R = IsHandAt g.L.LinkMachine c.args.k c.args.lanes.now in
+    let P = IsHandAt g.L.LinkMachine (c.args.turn.now.number + 1) c.args.lanes.now in let R = IsHandAt g.L.LinkMachine c.args.turn.now.number c.args.lanes.now in
     -- the control that is sent
-    let made = c.args.made.now.items in let m = c.remove-control.result in let many : length made ≡ length c.args.lanes.now.controls.now = search rules in
+    let made = c.args.turn.now.controls.items in let m = c.remove-control.result in let many : length made ≡ length c.args.lanes.now.controls.now = search rules in
     let at : i + 0 ≡ i = omega arith in
     let is : m ≡ get_or made i m = c.remove-control.ensures.value ∙ (c.loop-i.invariant.rest 0 m ∙ ap (λ k. get_or made k m) at) in
     let one : item i made ≡ m ∷ [] = item_at made i m (omega arith) ∙ ap (λ x. x ∷ []) (sym is) in
-    let before = c.loop-i.invariant.still in let less : vec_len c.remove-control.new.self + 1 ≡ vec_len c.loop-i.made = c.remove-control.ensures.len in
-    let some : 0 < length c.loop-i.made.items = search rules in
+    let before = c.loop-i.invariant.still in let less : vec_len c.remove-control.new.self + 1 ≡ vec_len c.loop-i.turn.controls = c.remove-control.ensures.len in
+    let some : 0 < length c.loop-i.turn.controls.items = search rules in
     let so = c.args.sends.now.items in let sn = c.loop-i.sends.items in let ssize : length sn ≡ length so = c.loop-i.invariant.sends_size in
     let sroom : length so ≡ length c.args.lanes.now.controls.now = search rules in let sp = c.index_mut.result.now in let sq = c.hand_turn-state.new.send in let sin : i < length sn = omega arith in
     let shere : sp ≡ get_or so i sp = c.index_mut.ensures.value ∙ c.loop-i.invariant.unsent i sp (omega arith) in
     let sent : (x : Lane Control) → PutMore (item i made) (get_or c.args.lanes.now.controls.now i x) sp sq = λ x. (let s = c.hand_turn-state.ensures.put x in (s.0, s.1, s.2 ∙ ap (λ r. put sp ++ r) (sym one))) in
     -- the batch that is sent
-    let nb = length c.args.lanes.now.batches.now in let all = batches_of nb c.args.k c.args.row.now in let b = c.next_batch-batch.result in let left = nb - (i + 1) in
+    let nb = length c.args.lanes.now.batches.now in let all = batches_of nb c.args.turn.now.number c.args.turn.now.batches in let b = c.next_batch-batch.result in let left = nb - (i + 1) in
     let held = c.loop-i.invariant.row (left + 1) (omega arith) in let took = c.next_batch-batch.ensures left held.0 in
     let bis : b ≡ get_or all i b = ap (λ xs. get_or xs 0 b) (sym took) ∙ (held.1 0 b ∙ ap (λ j. get_or all j b) at) in let along = c.requires.row.0 in
     let bone : item i all ≡ b ∷ [] = item_at all i b (omega arith) ∙ ap (λ x. x ∷ []) (sym bis) in
@@ -95,27 +93,27 @@ loop-i-preserved g c =
     let bhere : bp ≡ get_or bo i bp = c.index_mut-in-loop-i.ensures.value ∙ c.loop-i.invariant.unbatched i bp (omega arith) in
     let bsent : (x : Lane Batch) → PutMore (item i all) (get_or c.args.lanes.now.batches.now i x) bp bq = λ x. (let s = c.hand_turn-state.ensures.batch x in (s.0, s.1, s.2 ∙ ap (λ r. put bp ++ r) (sym bone))) in
     -- the state that is found
-    let found = c.loop-i.found.items in let s = c.hand_turn-state.result in let count : length found ≡ i = search rules in
+    let found = c.loop-i.turn.states.items in let s = c.hand_turn-state.result in let count : length found ≡ i = search rules in
     let pushed : c.push.new.self.items ≡ found ++ s ∷ [] = search rules in
     let to = c.args.takes.now.items in let tn = c.loop-i.takes.items in let tsize : length tn ≡ length to = c.loop-i.invariant.takes_size in
     let troom : length to ≡ length c.args.lanes.now.states.now = search rules in let tp = c.index_mut-in-loop-i-2.result.now in let tq = c.hand_turn-state.new.take in let tin : i < length tn = omega arith in
     let there2 : tp ≡ get_or to i tp = c.index_mut-in-loop-i-2.ensures.value ∙ c.loop-i.invariant.untaken i tp (omega arith) in
     let got : (x : Lane State) → TookMore (item i (found ++ s ∷ [])) (get_or c.args.lanes.now.states.now i x) tp tq = λ x. (let r = c.hand_turn-state.ensures.taken x in (r.0, r.1, r.2 ∙ ap (λ q. taken tp ++ q) (sym (item_push_at found s i (sym count))))) in record {
       still = omega arith;
-      rest = λ j x. ap (λ xs. get_or xs j x) c.remove-control.ensures.items ∙ (get_or-remove_above c.loop-i.made.items 0 x j (omega arith) some ∙ (c.loop-i.invariant.rest (j + 1) x ∙ (let e : i + (j + 1) ≡ (i + 1) + j = omega arith in ap (λ k. get_or made k x) e)));
+      rest = λ j x. ap (λ xs. get_or xs j x) c.remove-control.ensures.items ∙ (get_or-remove_above c.loop-i.turn.controls.items 0 x j (omega arith) some ∙ (c.loop-i.invariant.rest (j + 1) x ∙ (let e : i + (j + 1) ≡ (i + 1) + j = omega arith in ap (λ k. get_or made k x) e)));
       sends_size = length-set sn i sq ∙ ssize;
       sent = done_next (λ j. PutMore (item j made)) c.args.lanes.now.controls.now so sn i sq sin c.loop-i.invariant.sent
           (λ x p. let f : sp ≡ get_or so i p = shere ∙ get_or_default so i sp p (omega arith) in subst (λ w. PutMore (item i made) (get_or c.args.lanes.now.controls.now i x) w sq) f (sent x));
       unsent = same_next so sn i sq c.loop-i.invariant.unsent;
       row = λ m is. let h = c.loop-i.invariant.row (m + 1) (omega (arith, is)) in let e = c.next_batch-batch.ensures m h.0 in let many = ap length e in let hm = h.0 in
-          (omega arith, λ j x. let f : i + (j + 1) ≡ (i + 1) + j = omega arith in sym (get_or_next b (batches_of m c.args.k c.next_batch-batch.new.row) j x) ∙ (ap (λ xs. get_or xs (j + 1) x) (sym e) ∙ (h.1 (j + 1) x ∙ ap (λ l. get_or all l x) f)));
+          (omega arith, λ j x. let f : i + (j + 1) ≡ (i + 1) + j = omega arith in sym (get_or_next b (batches_of m c.args.turn.now.number c.next_batch-batch.new.row) j x) ∙ (ap (λ xs. get_or xs (j + 1) x) (sym e) ∙ (h.1 (j + 1) x ∙ ap (λ l. get_or all l x) f)));
       batches_size = length-set bn i bq ∙ bsize;
       batched = done_next (λ j. PutMore (item j all)) c.args.lanes.now.batches.now bo bn i bq bin c.loop-i.invariant.batched
           (λ x p. let f : bp ≡ get_or bo i p = bhere ∙ get_or_default bo i bp p (omega arith) in subst (λ w. PutMore (item i all) (get_or c.args.lanes.now.batches.now i x) w bq) f (bsent x));
       unbatched = same_next bo bn i bq c.loop-i.invariant.unbatched;
       count = search rules;
       room = let r = c.loop-i.invariant.room in let v = c.push.ensures.capacity in omega arith;
-      numbers = λ j x low. subst (λ xs. (get_or xs j x).turn ≡ c.args.k) (sym pushed) (more_of (λ (y : State). y.turn) c.args.k found s c.loop-i.invariant.numbers c.hand_turn-state.ensures.number j x (subst (λ xs. j < length xs) pushed low));
+      numbers = λ j x low. subst (λ xs. (get_or xs j x).turn ≡ c.args.turn.now.number) (sym pushed) (more_of (λ (y : State). y.turn) c.args.turn.now.number found s c.loop-i.invariant.numbers c.hand_turn-state.ensures.number j x (subst (λ xs. j < length xs) pushed low));
       takes_size = length-set tn i tq ∙ tsize;
       took = subst (λ xs. (j : _) (x : _) (p q : _) → j < i + 1 → TookMore (item j xs) (get_or c.args.lanes.now.states.now j x) (get_or to j p) (get_or (set tn i tq) j q)) (sym pushed) (done_next (λ j. TookMore (item j (found ++ s ∷ []))) c.args.lanes.now.states.now to tn i tq tin
           (λ j x p q low. subst (λ r. TookMore r (get_or c.args.lanes.now.states.now j x) (get_or to j p) (get_or tn j q)) (sym (item_push_before found s j (omega arith))) (c.loop-i.invariant.took j x p q low))

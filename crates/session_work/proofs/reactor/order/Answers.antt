@@ -1,16 +1,12 @@
-use Rattle.std.proofs.Common.{true, false, ◌≡◌, ◌⊎◌, ◌+◌, ◌-◌, ◌<◌, ◌∷◌, ◌++◌, [], Some, None, IfNone, length, ap, sym, subst, ◌∙◌, rules, arith, refl, append-nil, ⊎_elim}
+use Rattle.std.proofs.Common.{false, ◌≡◌, ◌⊎◌, ◌+◌, ◌-◌, ◌∷◌, ◌++◌, [], Some, None, length, ap, sym, subst, ◌∙◌, rules, arith, refl, append-nil, ⊎_elim}
 use mathlib.Core.Logic.{inl, inr}
 use Rattle.plan_types.specs.declared.cause.Cause.TheVariants as cause
-use Rattle.lane_queue.specs.Ends.{IsTakeOf, put, take_first, taken, next_take}
+use Rattle.lane_queue.specs.Ends.{IsTakeOf, take_first, taken}
 use Rattle.session_work.specs.declared.table.ReactorTurn.{ReactorTurn}
-use Rattle.session_work.specs.Bares.{bare_control, bare_word, stop_piece}
+use Rattle.session_work.specs.Bares.{bare_control}
 use Rattle.session_work.specs.Heads.{IsRow, Wrote}
-use Rattle.session_work.specs.Leads.{HasSaid}
-use Rattle.session_work.specs.Reactors.{IsReactorDone}
 use Rattle.session_work.specs.Rows.{copies, RowTaken}
-use Rattle.session_work.proofs.Each.{length-copies}
 use Rattle.session_work.proofs.Columns.{row_none}
-use Rattle.session_work.proofs.Leads.{led_controls, led_words}
 use Rattle.session_work.proofs.Reactors.{at_controls, at_word, at_states, at_note, has_said, said_can, has_led, on_with, end_ordered, end_wanting}
 use Rattle.session_work.proofs.reactor.order.Goals as goal
 

@@ -1,14 +1,11 @@
-use Rattle.std.proofs.Common.{◌≡◌, ◌∷◌, [], true, Some, None, length, ap, sym, subst, ◌∙◌, rules, refl}
-use mathlib.Core.Logic.{inl, inr}
+use Rattle.std.proofs.Common.{◌≡◌, [], Some, None, length, sym, subst, ◌∙◌, rules, refl}
+use mathlib.Core.Logic.{inl}
 use Rattle.plan_types.specs.declared.cause.Cause.TheVariants as cause
 use Rattle.session_work.specs.declared.table.ReactorTurn.{ReactorTurn}
-use Rattle.session_work.specs.declared.reactor.ReactorDone.{ReactorDone}
 use Rattle.session_work.specs.Alone.{with_takes}
-use Rattle.session_work.specs.Bares.{bare_control, bare_word, stop_piece}
 use Rattle.session_work.specs.Heads.{IsRow, Wrote}
-use Rattle.session_work.specs.Rows.{CanPut, copies}
+use Rattle.session_work.specs.Rows.{CanPut}
 use Rattle.session_work.proofs.Alone.{here_with}
-use Rattle.session_work.proofs.Each.{length-copies}
 use Rattle.session_work.proofs.Reactors.{at_controls, at_word, end_ordered, end_wanting}
 use Rattle.session_work.proofs.reactor.order_here.Goals as goal
 

@@ -10,12 +10,12 @@ ghost use Rattle.session_run.specs.Ends.{status_of};
 use crate::answer::Answer;
 use crate::ended::finish;
 use crate::run::end_with;
-use crate::scene::{Runtime, refuse};
+use crate::scene::refuse;
 use generated_load::{LoadFiles, load_machine};
 use io_core::{Files, Gate, Sink, SureSink};
 use plan_types::{Cause, Listed};
 use report_text::{ReportLine, Show};
-use session_run::{Ended, Report, run};
+use session_run::{Ended, Report, Runtime, run};
 use std::alloc::{AllocError, Global};
 use std::sync::Wait;
 use std::thread::Threads;
@@ -81,14 +81,12 @@ fn counted_load<R: Threads + Wait + Sync, G: Gate + Sync>(
     let mut files = LoadFiles::new(seed, moves);
     let mut none = SureSink::new();
     let ran = run(
-        rt.threads,
-        rt.alloc,
+        rt,
         &machine,
-        &mut files,
-        "load",
         &scene,
+        "load",
+        &mut files,
         &mut none,
-        rt.gate,
         Show::Counts,
     );
     if wants_memory(&ran.cause) {

@@ -26,20 +26,11 @@ use crate::source::{ReadFault, read_text};
 use io_core::{Files, Gate, Sink};
 use plan_types::{Cause, Machine};
 use report_text::Show;
-use session_run::{Ended, run};
+use session_run::{Ended, Runtime, run};
 use std::alloc::Global;
 use std::sync::Wait;
 use std::thread::Threads;
 use wire_scene::{Scene, SceneFault, read_scene};
-
-/// What the workers of a run are started with: the runtime that gives them threads, the memory, and the gate that each
-/// passes in each of its turns.
-#[derive(Drop)]
-pub struct Runtime<'a, R, G> {
-    pub threads: &'a R,
-    pub alloc: Global,
-    pub gate: &'a G,
-}
 
 /// One byte more is read of a scene, to tell that it is too large.
 const SCENE_LIMIT: u64 = 16_777_216;
@@ -95,17 +86,7 @@ fn run_found<R: Threads + Wait + Sync, F: Files, S: Sink, G: Gate + Sync>(
     ensures quiet_output { result.cause ≢ Cause.WriteFault → result.cause ≢ Cause.Memory →
         S.faults out.new ≡ S.faults out.old }
 {
-    run(
-        rt.threads,
-        rt.alloc,
-        machine,
-        files,
-        gcode,
-        scene,
-        out,
-        rt.gate,
-        Show::Lines,
-    )
+    run(rt, machine, scene, gcode, files, out, Show::Lines)
 }
 
 /// An end line alone, of a run that isn't begun.

@@ -158,14 +158,7 @@ pub fn run_back<
     L: LinkMachine + Send,
     A: ReactorMachine,
     O: Outside,
->(
-    rt: &R,
-    gate: &G,
-    alloc: Global,
-    machines: Machines<M, L, A>,
-    outside: O,
-    told: &mut Option<Told<A>>,
-) -> O
+>(rt: &Runtime<'_, R, G>, machines: Machines<M, L, A>, outside: O, told: &mut Option<Told<A>>) -> O
     requires boards { (M.boards machines.motion ≡ vec_len machines.links)
         × (A.boards machines.reactor ≡ vec_len machines.links) }
     requires wants { M.wants machines.motion 0 ≡ Some 0 }
@@ -173,11 +166,6 @@ pub fn run_back<
         machines.links.items (head_at machines.reactor outside) (ran_at t result)) }
     ensures back { IfNone told.new (result ≡ outside) }
 {
-    let rt = Runtime {
-        threads: rt,
-        alloc,
-        gate,
-    };
     let Machines {
         motion,
         links,
@@ -188,7 +176,7 @@ pub fn run_back<
         outside,
         stopped: false,
     };
-    match run(&rt, motion, links, head) {
+    match run(rt, motion, links, head) {
         Ok(ran) => tell(ran, told),
         Err(head) => {
             *told = None;

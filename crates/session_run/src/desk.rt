@@ -9,7 +9,7 @@ use io_core::{Files, Gate, Sink};
 use plan_types::{Cause, Listed, Machine};
 use report_text::{LinePrinter, ReportLine};
 use session_lanes::{Machines, Told, run_back};
-use session_work::{LinkMachine, MotionMachine, Outside, Piece, ReactorMachine};
+use session_work::{LinkMachine, MotionMachine, Outside, Piece, ReactorMachine, Runtime};
 use std::alloc::Global;
 use std::sync::Wait;
 use std::thread::Threads;
@@ -109,10 +109,9 @@ impl<'a, 'm, F: Files, S: Sink> Outside for Desk<'a, 'm, F, S> {
     }
 }
 
-/// What is run: the file of a name, on a machine in a scene; and the memory for it.
+/// What is run: the file of a name, on a machine in a scene.
 #[derive(Clone, Copy)]
 pub struct Job<'a> {
-    pub alloc: Global,
     pub machine: &'a Machine,
     pub scene: &'a Scene,
     pub name: &'a str,
@@ -129,8 +128,7 @@ pub fn run_with<
     F: Files,
     S: Sink,
 >(
-    rt: &R,
-    gate: &G,
+    rt: &Runtime<'_, R, G>,
     job: &Job<'_>,
     machines: Machines<M, L, A>,
     files: &mut F,
@@ -145,7 +143,7 @@ pub fn run_with<
         kept.old t files.new out.new kept.new) }
     ensures none { IfNone result ((files.new ≡ files.old) × (out.new ≡ out.old) × (kept.new ≡ kept.old)) }
 {
-    let Ok(printer) = LinePrinter::new(job.alloc, job.machine) else {
+    let Ok(printer) = LinePrinter::new(rt.alloc, job.machine) else {
         return None;
     };
     let mut told = None;
@@ -155,9 +153,9 @@ pub fn run_with<
         kept,
         machine: &printer,
         name: job.name,
-        alloc: job.alloc,
+        alloc: rt.alloc,
     };
-    let desk = run_back(rt, gate, job.alloc, machines, desk, &mut told);
+    let desk = run_back(rt, machines, desk, &mut told);
     drop(desk);
     told
 }

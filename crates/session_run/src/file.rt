@@ -13,6 +13,7 @@ use crate::{Job, Kept, run_with};
 use io_core::{Files, Gate, Sink};
 use plan_types::{BoardDef, Machine};
 use session_lanes::{Machines, Told};
+use session_work::Runtime;
 use std::alloc::{AllocError, Global};
 use std::sync::Wait;
 use std::thread::Threads;
@@ -61,8 +62,7 @@ fn first_links(
 /// each link in a thread of its own beside the reactor, or all on the calling thread where one can't be
 /// started. What there is to tell of it, nothing where memory was wanted before the first turn.
 pub fn run_file<'a, R: Threads + Wait + Sync, G: Gate + Sync, F: Files, S: Sink>(
-    rt: &R,
-    gate: &G,
+    rt: &Runtime<'_, R, G>,
     job: &Job<'a>,
     files: &mut F,
     out: &mut S,
@@ -74,7 +74,7 @@ pub fn run_file<'a, R: Threads + Wait + Sync, G: Gate + Sync, F: Files, S: Sink>
         files.old out.old kept.old t files.new out.new kept.new) }
     ensures none { IfNone result ((files.new ≡ files.old) × (out.new ≡ out.old) × (kept.new ≡ kept.old)) }
 {
-    let alloc = job.alloc;
+    let alloc = rt.alloc;
     let machine = job.machine;
     let scene = job.scene;
     let Ok(links) = first_links(alloc, machine.boards.as_slice(), scene) else {
@@ -87,5 +87,5 @@ pub fn run_file<'a, R: Threads + Wait + Sync, G: Gate + Sync, F: Files, S: Sink>
         links,
         reactor,
     };
-    run_with(rt, gate, job, machines, files, out, kept)
+    run_with(rt, job, machines, files, out, kept)
 }

@@ -20,4 +20,5 @@ pub use reactor::Host;
 pub use read::{PIECE, ReadStop, read_piece};
 pub use report::{run, with_failure};
 pub use session_lanes::LinkLog;
+pub use session_work::Runtime;
 pub use tell::{Kept, tell_lines};

@@ -15,6 +15,7 @@ use io_core::{Files, Gate, Sink, SureSink};
 use plan_types::{Cause, Listed, Machine};
 use report_text::{ReportLine, Show, WriteStop, write_line};
 use session_lanes::Told;
+use session_work::Runtime;
 use std::alloc::{AllocError, Global};
 use std::sync::Wait;
 use std::thread::Threads;
@@ -125,8 +126,7 @@ fn not_begun<S: Sink>(alloc: Global, machine: &Machine, out: &mut S) -> Ended
 
 /// Runs a file of G-code over an output, to the end of its report.
 fn run_over<R: Threads + Wait + Sync, G: Gate + Sync, F: Files, S: Sink>(
-    rt: &R,
-    gate: &G,
+    rt: &Runtime<'_, R, G>,
     job: &Job<'_>,
     files: &mut F,
     out: &mut S,
@@ -145,13 +145,13 @@ fn run_over<R: Threads + Wait + Sync, G: Gate + Sync, F: Files, S: Sink>(
     ensures quiet_output { result.cause ≢ Cause.WriteFault → result.cause ≢ Cause.Memory →
         S.faults out.new ≡ S.faults out.old }
 {
-    let alloc = job.alloc;
+    let alloc = rt.alloc;
     let machine = job.machine;
     let Ok(counts) = no_pulses(alloc, machine.steppers.len()) else {
         return not_begun(alloc, machine, out);
     };
     let mut kept = nothing_kept(alloc, counts);
-    match run_file(rt, gate, job, files, out, &mut kept) {
+    match run_file(rt, job, files, out, &mut kept) {
         Some(told) => {
             let Told { links, cause, .. } = told;
             let cause = end_report(machine, cause, &mut kept, out);
@@ -177,14 +177,12 @@ fn run_over<R: Threads + Wait + Sync, G: Gate + Sync, F: Files, S: Sink>(
 ///
 /// None: how the run ended is told by its cause.
 pub fn run<R: Threads + Wait + Sync, F: Files, S: Sink, G: Gate + Sync>(
-    rt: &R,
-    alloc: Global,
+    rt: &Runtime<'_, R, G>,
     machine: &Machine,
-    files: &mut F,
-    name: &str,
     scene: &Scene,
+    name: &str,
+    files: &mut F,
     out: &mut S,
-    gate: &G,
     show: Show,
 ) -> Ended
     requires machine { IsValidMachine machine.now }
@@ -203,16 +201,15 @@ pub fn run<R: Threads + Wait + Sync, F: Files, S: Sink, G: Gate + Sync>(
         S.faults out.new ≡ S.faults out.old }
 {
     let job = Job {
-        alloc,
         machine,
         scene,
         name,
     };
     match show {
-        Show::Lines => run_over(rt, gate, &job, files, out),
+        Show::Lines => run_over(rt, &job, files, out),
         Show::Counts => {
             let mut none = SureSink::new();
-            run_over(rt, gate, &job, files, &mut none)
+            run_over(rt, &job, files, &mut none)
         }
     }
 }

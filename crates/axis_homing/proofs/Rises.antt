@@ -36,24 +36,24 @@ from-member : (board tick turn : ℕ) (t : TrigState) (s : Seen) → (hears_from
 from-member board tick turn t s =
     hears-member (s.member.board == board) (member_hears t tick turn s) s s (hears-member t.can _ _ s refl refl) refl
 
-members-kept : (board tick turn : ℕ) (t : TrigState) (ss : List Seen) → map (λ (s : Seen). s.member) (map (hears_from board t tick turn) ss) ≡ map (λ (s : Seen). s.member) ss
+pub members-kept : (board tick turn : ℕ) (t : TrigState) (ss : List Seen) → map (λ (s : Seen). s.member) (map (hears_from board t tick turn) ss) ≡ map (λ (s : Seen). s.member) ss
 members-kept board tick turn t [] = refl
 members-kept board tick turn t (s ∷ ss) =
     ap (λ (x : Member). x ∷ map (λ (s : Seen). s.member) (map (hears_from board t tick turn) ss)) (from-member board tick turn t s)
     ∙ ap (λ (l : List Member). s.member ∷ l) (members-kept board tick turn t ss)
 
-either-members : (c : Bool) (xs ys : List Seen) → map (λ (s : Seen). s.member) ys ≡ map (λ (s : Seen). s.member) xs → map (λ (s : Seen). s.member) (cond c xs ys) ≡ map (λ (s : Seen). s.member) xs
+pub either-members : (c : Bool) (xs ys : List Seen) → map (λ (s : Seen). s.member) ys ≡ map (λ (s : Seen). s.member) xs → map (λ (s : Seen). s.member) (cond c xs ys) ≡ map (λ (s : Seen). s.member) xs
 either-members true xs ys h = refl
 either-members false xs ys h = h
 
 came-kept : (board tick turn : ℕ) (t : TrigState) (g : GroupState) → members_of (came board t tick turn g) ≡ members_of g
 came-kept board tick turn t g = either-members (nat_lt turn g.start) g.members (map (hears_from board t tick turn) g.members) (members-kept board tick turn t g.members)
 
-at-kept : (board tick : ℕ) (t : TrigState) (o : Option ℕ) (g : GroupState) → members_of (came_at board t tick o g) ≡ members_of g
+pub at-kept : (board tick : ℕ) (t : TrigState) (o : Option ℕ) (g : GroupState) → members_of (came_at board t tick o g) ≡ members_of g
 at-kept board tick t None g = refl
 at-kept board tick t (Some turn) g = came-kept board tick turn t g
 
-answer-kept : (clocks : Clocks) (board turn : ℕ) (answer : Cmd) (g : GroupState) → members_of (hears_answer clocks board turn answer g) ≡ members_of g
+pub answer-kept : (clocks : Clocks) (board turn : ℕ) (answer : Cmd) (g : GroupState) → members_of (hears_answer clocks board turn answer g) ≡ members_of g
 answer-kept clocks board turn (cmd.IdentifyResponse x0 x1) g = refl
 answer-kept clocks board turn (cmd.Identify x0 x1) g = refl
 answer-kept clocks board turn (cmd.AllocateOids x0) g = refl
@@ -78,18 +78,18 @@ answer-kept clocks board turn (cmd.TrsyncState x0 x1 x2 x3) g = at-kept board (n
 answer-kept clocks board turn (cmd.Shutdown x0 x1) g = refl
 answer-kept clocks board turn (cmd.IsShutdown x0) g = refl
 
-news-kept : (clocks : Clocks) (board turn : ℕ) (news : List News) (g : GroupState) → members_of (hears_news clocks board turn news g) ≡ members_of g
+pub news-kept : (clocks : Clocks) (board turn : ℕ) (news : List News) (g : GroupState) → members_of (hears_news clocks board turn news g) ≡ members_of g
 news-kept clocks board turn [] g = refl
 news-kept clocks board turn (n ∷ news) g = news-kept clocks board turn news (hears_answer clocks board turn n.answer g) ∙ answer-kept clocks board turn n.answer g
 
-either-group : (c : Bool) (x g : GroupState) → members_of x ≡ members_of g → members_of (cond c x g) ≡ members_of g
+pub either-group : (c : Bool) (x g : GroupState) → members_of x ≡ members_of g → members_of (cond c x g) ≡ members_of g
 either-group true x g h = h
 either-group false x g h = refl
 
 state-kept : (clocks : Clocks) (board start : ℕ) (s : State) (g : GroupState) → members_of (hears_state clocks board start s g) ≡ members_of g
 state-kept clocks board start s g = either-group (nat_le start (s.turn + 1)) (hears_news clocks board s.turn s.news g) g (news-kept clocks board s.turn s.news g)
 
-states-kept : (clocks : List Clocks) (board start : ℕ) (states : List State) (g : GroupState) → members_of (hears_states clocks board start states g) ≡ members_of g
+pub states-kept : (clocks : List Clocks) (board start : ℕ) (states : List State) (g : GroupState) → members_of (hears_states clocks board start states g) ≡ members_of g
 states-kept [] board start states g = refl
 states-kept (c ∷ clocks) board start [] g = refl
 states-kept (c ∷ clocks) board start (s ∷ states) g = states-kept clocks (board + 1) start states (hears_state c board start s g) ∙ state-kept c board start s g
@@ -102,7 +102,7 @@ turned-group : (c : Bool) (g x : GroupState) → members_of x ≡ members_of g �
 turned-group true g x h = refl
 turned-group false g x h = h
 
-in-kept : (p : Phase) (g : GroupState) (turn : ℕ) → members_of (after_in p g turn) ≡ members_of g
+pub in-kept : (p : Phase) (g : GroupState) (turn : ℕ) → members_of (after_in p g turn) ≡ members_of g
 in-kept (Sends round) g turn = refl
 in-kept Goes g turn = turned-group (all_fired g.members) g _ refl
 in-kept Rests g turn = refl
@@ -146,7 +146,7 @@ from-rises m axis moving b (x ∷ boards) =
     rise-where ((axis.board == b) || nat_lt 0 (moving_on b moving m.steppers)) b (moving_on b moving m.steppers) (axis.board == b) (members_from m axis moving (b + 1) boards)
     (from-above m axis moving (b + 1) boards) (from-rises m axis moving (b + 1) boards)
 
-unseen-members : (ms : List Member) → map (λ (s : Seen). s.member) (map unseen ms) ≡ ms
+pub unseen-members : (ms : List Member) → map (λ (s : Seen). s.member) (map unseen ms) ≡ ms
 unseen-members [] = refl
 unseen-members (x ∷ ms) = ap (λ (l : List Member). x ∷ l) (unseen-members ms)
 

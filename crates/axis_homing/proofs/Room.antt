@@ -33,6 +33,7 @@ use Rattle.board_asking.specs.Drift.{bytes_of}
 use Rattle.axis_homing.specs.Homing.{low, place_from, order_command, command_to, commands_to}
 use Rattle.axis_homing.specs.Rising.{IsRising}
 use Rattle.axis_homing.specs.Room.{MayFill}
+use Rattle.trigger_group.proofs.Setup.{length_word, few_steppers}
 
 -- numbers of one, two and three bytes
 count-one : (n : ℕ) → n < 96 → byte_count n ≤ 1
@@ -100,11 +101,11 @@ unfolding command_bytes
 trigger-bytes oid h = let a = count-one oid h in let b = count-one 3 (omega arith) in omega arith
 
 -- the objects of a valid machine
-either-few : (c : Bool) → cond c 1 0 ≤ 1
+pub either-few : (c : Bool) → cond c 1 0 ≤ 1
 either-few true = omega arith
 either-few false = omega arith
 
-on-few : (b : ℕ) (ss : List StepperDef) → steppers_on b ss ≤ length ss
+pub on-few : (b : ℕ) (ss : List StepperDef) → steppers_on b ss ≤ length ss
 on-few b [] = omega arith
 on-few b (s ∷ ss) = let h = on-few b ss in let e = either-few (s.board == b) in omega arith
 
@@ -119,7 +120,7 @@ one-pin : (pins : List ℕ) (p : ℕ) → length (pins ++ p ∷ []) ≤ length p
 one-pin [] p = omega arith
 one-pin (x ∷ pins) p = let h = one-pin pins p in omega arith
 
-pins-few : (b : ℕ) (axes : List AxisDef) (pins : List ℕ) → length (pins_of b axes pins) ≤ length pins + length axes
+pub pins-few : (b : ℕ) (axes : List AxisDef) (pins : List ℕ) → length (pins_of b axes pins) ≤ length pins + length axes
 pins-few b [] pins = omega arith
 pins-few b (a ∷ axes) pins =
     let c = (a.board == b) && not (is_among a.pin pins) in
@@ -131,7 +132,7 @@ place-either : (c : Bool) (x y limit : ℕ) → x ≤ limit → y ≤ limit → 
 place-either true x y limit h i = h
 place-either false x y limit h i = i
 
-place-few : (place pin : ℕ) (pins : List ℕ) → place_from place pin pins ≤ place + length pins
+pub place-few : (place pin : ℕ) (pins : List ℕ) → place_from place pin pins ≤ place + length pins
 place-few place pin [] = omega arith
 place-few place pin (p ∷ pins) =
     let h = place-few (place + 1) pin pins in
@@ -199,7 +200,7 @@ order-few m clocks b start axis Trigger v = let t = trigger-few m b v in trigger
 abbrev Cost : Machine → Clocks → ℕ → ℕ → AxisDef → List Ctl → ℕ
 Cost m clocks b start axis cs = bytes_of (commands_to m clocks b start axis cs)
 
-bytes-append : (xs ys : List Cmd) → bytes_of (xs ++ ys) ≡ bytes_of xs + bytes_of ys
+pub bytes-append : (xs ys : List Cmd) → bytes_of (xs ++ ys) ≡ bytes_of xs + bytes_of ys
 bytes-append [] ys = omega arith
 bytes-append (x ∷ xs) ys = let h = bytes-append xs ys in omega arith
 
@@ -286,17 +287,6 @@ bit-few : (c : Bool) (i : ℕ) (rest : List ℕ) → length (cond c (i ∷ []) [
 bit-few true i rest = omega arith
 bit-few false i rest = omega arith
 
-bits-few : (i n word : ℕ) → length (bits i n word) ≤ n
-bits-few i zero word = omega arith
-bits-few i (suc n) word =
-    let h = bits-few (i + 1) n (word / 2) in
-    let e = bit-few (word % 2 == 1) i (bits (i + 1) n (word / 2)) in
-    omega arith
-
-steppers-few : (s : Seen) → length (steppers s) ≤ 16
-unfolding steppers
-steppers-few s = bits-few 0 16 s.member.moving
-
 -- the most bytes of a round's orders to one board; behind two rows of resets at most four are left
 abbrev most_of : Round → ℕ
 most_of (Resets zero) = 42
@@ -320,7 +310,7 @@ round-one m clocks b start axis (Resets (suc (suc row))) s v =
     let h = resets-cost m clocks b start axis s (take 6 (drop (suc (suc row) * 6) (steppers s))) v in
     let l = length-take 6 (drop (suc (suc row) * 6) (steppers s)) in
     let d = length-drop (suc (suc row) * 6) (steppers s) in
-    let f = steppers-few s in
+    let f = few_steppers s in
     omega arith
 round-one m clocks b start axis (Starts turn) s v =
     let h = stops-cost m clocks b start axis s (take 8 (steppers s)) v in
@@ -333,7 +323,7 @@ round-one m clocks b start axis Homes s v =
     let h = stops-cost m clocks b start axis s (drop 8 (steppers s)) v in
     let i = home-cost s.member.endstop m clocks b start axis s v in
     let l = length-drop 8 (steppers s) in
-    let f = steppers-few s in
+    let f = few_steppers s in
     omega arith
 round-one m clocks b start axis (Timeouts turn) s v = let o = cost-one m clocks b start axis (to_board s (Timeout turn)) [] v in omega arith
 round-one m clocks b start axis Relays s v = relay-cost s.fired m clocks b start axis s v

@@ -78,7 +78,7 @@ text_bytes n c small most fit zero = omega arith
 text_bytes n c small most fit (suc zero) = omega arith
 text_bytes n c small most fit (suc (suc k)) = all_bytes c (checksum (covered n c)) fit (sum_below (covered n c) 65535 (omega arith)) k
 
-text_length : (n : ℕ) (c : List ℕ) → length (block_text n c) ≡ length c + 5
+pub text_length : (n : ℕ) (c : List ℕ) → length (block_text n c) ≡ length c + 5
 text_length n c = let size = length-append c (ending (checksum (covered n c))) in omega (arith, size)
 
 -- what is behind the bytes doesn't count

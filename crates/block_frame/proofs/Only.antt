@@ -27,12 +27,12 @@ or_false : (a : Bool) → (a || false) ≡ true → a ≡ true
 or_false true e = refl
 or_false false e = e
 
-needs_none : (d : Bool) (bytes : List ℕ) (m : ℕ) (next : Bool) → Scans d bytes NeedMore m next → m ≡ 0
+pub needs_none : (d : Bool) (bytes : List ℕ) (m : ℕ) (next : Bool) → Scans d bytes NeedMore m next → m ≡ 0
 needs_none true bytes m next s = s.1
 needs_none false bytes m next s = s.1
 
 -- something that is skipped or bad has bytes
-drops_some : (bytes : List ℕ) (m : ℕ) (next : Bool) → 0 < length bytes → Drops bytes m next → (0 < m) × (m ≤ length bytes)
+pub drops_some : (bytes : List ℕ) (m : ℕ) (next : Bool) → 0 < length bytes → Drops bytes m next → (0 < m) × (m ≤ length bytes)
 drops_some bytes m true some (none, all) = (omega (arith, all, some), omega (arith, all))
 drops_some bytes m false some end = (end.some, end.within)
 

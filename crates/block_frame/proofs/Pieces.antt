@@ -88,7 +88,7 @@ finds_once bytes Bad Skip m n p q s t = absurd (s.0.no_skip t.0)
 finds_once bytes Bad NeedMore m n p q s t = absurd (s.0.decided t.0)
 finds_once bytes Bad Bad m n p q s t = let e = drops_once bytes m n p q s.1 t.1 in (refl, e.0, e.1, refl)
 
-none_in : (bytes : List ℕ) → bytes ≡ [] → 0 < length bytes → ⊥
+pub none_in : (bytes : List ℕ) → bytes ≡ [] → 0 < length bytes → ⊥
 none_in bytes e h = let none : length bytes ≡ 0 = ap length e in omega arith
 
 dropping_once : (bytes : List ℕ) (f g : Found) (m n : ℕ) (p q : Bool) → FindsDropping bytes f m p → FindsDropping bytes g n q → SameThing f g m n p q
@@ -193,7 +193,7 @@ longer_bad a b s h = record {
   decided = λ u. s.decided (undecided_before a b u);
 }
 
-bad_some : (a : List ℕ) → IsBad a → 0 < length a
+pub bad_some : (a : List ℕ) → IsBad a → 0 < length a
 bad_some [] s = absurd (s.decided tt)
 bad_some (x ∷ a) s = omega arith
 

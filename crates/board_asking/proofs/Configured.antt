@@ -10,15 +10,12 @@ use Rattle.board_asking.specs.declared.asking.Stage.{Stage}
 use Rattle.board_asking.specs.declared.asking.Stage.TheVariants.{Identify, Uptime, Configure, Config, Connected}
 use Rattle.board_asking.specs.Asking.{more, were_put, was_put, is_in_time, hears_first, listens, answered, or_asking, is_connected, after_piece, after_clock, after_drift, sample_of, settled, tells_clock}
 use Rattle.board_asking.specs.Laws.{SaysConfigured, WasConfigured}
+use Rattle.plan_types.proofs.Facts.{no_both}
 
 -- none of two stages is connected, whichever it is
 two : (b : Bool) (x y : Stage) → is_connected x ≡ false → is_connected y ≡ false → is_connected (cond b x y) ≡ false
 two true x y h i = h
 two false x y h i = i
-
-apart : (b : Bool) → b ≡ true → b ≡ false → ⊥
-apart true h i = cc
-apart false h i = cc
 
 -- an answer gives nothing, or an asking of which nothing is out; that is connected only where this holds
 abbrev Gives : Option Asking → Type 0 → Type 0
@@ -29,7 +26,7 @@ if-gives true x P s f = inr (x, refl, s, f refl)
 if-gives false x P s f = inl refl
 
 told : (turn : ℕ) (a : Asking) (stage : Stage) (number : ℕ) (answer : Cmd) → Gives (answered turn a stage number answer) ((is_connected stage ≡ true) ⊎ SaysConfigured answer)
-told turn a (Identify offset) number (cmd.IdentifyResponse x0 x1) = if-gives (offset == x0) (after_piece a offset (length x1.items)) _ refl (λ e h. absurd (apart _ h (two (nat_lt (length x1.items) 40) Uptime (Identify ((offset + 40) % 2 ^ 32)) refl refl)))
+told turn a (Identify offset) number (cmd.IdentifyResponse x0 x1) = if-gives (offset == x0) (after_piece a offset (length x1.items)) _ refl (λ e h. absurd (no_both _ h (two (nat_lt (length x1.items) 40) Uptime (Identify ((offset + 40) % 2 ^ 32)) refl refl)))
 told turn a (Identify offset) number (cmd.Identify x0 x1) = inl refl
 told turn a (Identify offset) number (cmd.AllocateOids x0) = inl refl
 told turn a (Identify offset) number cmd.GetConfig = inl refl
@@ -71,7 +68,7 @@ told turn a Uptime number (cmd.StepperStopOnTrigger x0 x1) = inl refl
 told turn a Uptime number (cmd.ConfigEndstop x0 x1 x2) = inl refl
 told turn a Uptime number (cmd.EndstopHome x0 x1 x2 x3 x4 x5 x6 x7) = inl refl
 told turn a Uptime number (cmd.Config x0 x1 x2 x3) = inl refl
-told turn a Uptime number (cmd.Uptime x0 x1) = if-gives (tells_clock a number) (after_clock a (sample_of a turn x0 x1)) _ refl (λ e h. absurd (apart _ h (two (nat_le 8 (more a.samples)) (Configure 0) Uptime refl refl)))
+told turn a Uptime number (cmd.Uptime x0 x1) = if-gives (tells_clock a number) (after_clock a (sample_of a turn x0 x1)) _ refl (λ e h. absurd (no_both _ h (two (nat_le 8 (more a.samples)) (Configure 0) Uptime refl refl)))
 told turn a Uptime number (cmd.TrsyncState x0 x1 x2 x3) = inl refl
 told turn a Uptime number (cmd.Shutdown x0 x1) = inl refl
 told turn a Uptime number (cmd.IsShutdown x0) = inl refl

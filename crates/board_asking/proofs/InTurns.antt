@@ -12,6 +12,7 @@ use Rattle.board_asking.specs.Asking.{more, listens, ready_stage, is_over, is_qu
 use Rattle.board_asking.specs.Turns.{asking_in_turn, heard, states_come, heard_at, AsksOf, WasAsked, IsOutBehind, AreUnanswered, OnceConfigured}
 use Rattle.board_asking.proofs.Configured.{Stays, listened, configured}
 use Rattle.std.specs.Prelude.{drop}
+use Rattle.plan_types.proofs.Facts.{first_of_both, second_of_both}
 
 -- only an answer connects a board
 either-stage : (b : Bool) (x y : Asking) → x.stage ≡ y.stage → is_connected (cond b x y).stage ≡ true → is_connected y.stage ≡ true
@@ -25,11 +26,11 @@ asks-connect setups k a (Configure n) h = cc
 asks-connect setups k a Config h = either-stage (is_question_due k a.since) (asked k a) a refl h
 asks-connect setups k a Connected h = h
 
-none-of-two : (b : Bool) (n : ℕ) → is_connected (cond b Config (Configure n)) ≡ true → ⊥
+pub none-of-two : (b : Bool) (n : ℕ) → is_connected (cond b Config (Configure n)) ≡ true → ⊥
 none-of-two true n h = cc
 none-of-two false n h = cc
 
-ready-connects : (setups : List Setup) (stage : Stage) → is_connected (ready_stage setups stage) ≡ true → is_connected stage ≡ true
+pub ready-connects : (setups : List Setup) (stage : Stage) → is_connected (ready_stage setups stage) ≡ true → is_connected stage ≡ true
 ready-connects setups (Identify offset) h = h
 ready-connects setups Uptime h = h
 ready-connects setups (Configure n) h = absurd (none-of-two (is_over (drop n setups)) n h)
@@ -243,27 +244,19 @@ in-row : (setups : List Setup) (states : List State) → length states < 2 ^ 59 
 in-row setups [] h = inl refl
 in-row setups (s ∷ states) h = one-more setups s states (omega arith) (in-row setups states (omega arith))
 
-both-first : (a b : Bool) → (a && b) ≡ true → a ≡ true
-both-first true b h = refl
-both-first false b h = cc
-
-both-second : (a b : Bool) → (a && b) ≡ true → b ≡ true
-both-second true b h = h
-both-second false b h = cc
-
 no-out : (o : Option ℕ) → o ≡ None → is_out o ≡ true → (A : Type 0) → A
 no-out None e h A = cc
 no-out (Some n) e h A = cc
 
 unanswered : (setups : List Setup) (states : List State) → gives_up (length states) (heard setups states) ≡ true → Row setups states
     → (count : ℕ) × (8 ≤ count) × AreUnanswered setups states (heard setups states).first count
-unanswered setups states h (inl none) = no-out (heard setups states).since none (both-first (is_out (heard setups states).since) _ h) _
+unanswered setups states h (inl none) = no-out (heard setups states).since none (first_of_both (is_out (heard setups states).since) _ h) _
 unanswered setups states h (inr (first, missed, since, r)) =
     let k = length states in
     let a = heard setups states in
-    let rest = both-second (is_out a.since) (is_question_due k a.since && nat_le 7 a.missed) h in
-    let d = due k since (subst (λ (o : Option ℕ). is_question_due k o ≡ true) r.since (both-first (is_question_due k a.since) (nat_le 7 a.missed) rest)) in
-    let seven : 7 ≤ missed = subst (λ (n : ℕ). 7 ≤ n) r.missed (leb-true 7 a.missed (both-second (is_question_due k a.since) (nat_le 7 a.missed) rest)) in
+    let rest = second_of_both (is_out a.since) (is_question_due k a.since && nat_le 7 a.missed) h in
+    let d = due k since (subst (λ (o : Option ℕ). is_question_due k o ≡ true) r.since (first_of_both (is_question_due k a.since) (nat_le 7 a.missed) rest)) in
+    let seven : 7 ≤ missed = subst (λ (n : ℕ). 7 ≤ n) r.missed (leb-true 7 a.missed (second_of_both (is_question_due k a.since) (nat_le 7 a.missed) rest)) in
     let late = r.late in
     let row = r.row in
     let until : first + 4 * (missed + 1) ≡ k = omega arith in

@@ -11,7 +11,7 @@ use Rattle.board_sim.specs.Board as board
 use Rattle.board_sim.specs.Asleep.{AllSleep, Sleeps}
 use Rattle.board_sim.specs.Places.{NoneBehind}
 use Rattle.board_sim.specs.Rig.{Rig, Slot, Passed, no_objects, moment_in, moment_of, earliest_moment, rested, rests_to, goes_on, at_of, passes_by, happens_at, pass, passes, all_left}
-use Rattle.board_sim.proofs.Passing.{is_le}
+use Rattle.plan_types.proofs.Facts.{is_le}
 
 no_switch : (levels : List Level) (until : ℕ) (can : Bool) (s : Option Sampling) → s ≡ None → trig.switch_before levels until can s ≡ None
 no_switch levels until false s e = refl

@@ -13,12 +13,7 @@ use Rattle.board_sim.specs.Fair.{only, pending_at, SlotRises, MakesMeant, IsCut}
 use Rattle.board_sim.specs.Halted.{without, cut_at, cut_all, is_halted}
 use Rattle.board_sim.proofs.Bound.{same_or_not}
 use Rattle.board_sim.proofs.Steps.{only-append}
-
-eq_true : (i j : ℕ) → i ≡ j → (i == j) ≡ true
-eq_true i j e = elim (eqb_tells i j) [ inl k ↦ k.0 | inr k ↦ absurd (k.1 e) ]
-
-eq_false : (i j : ℕ) → i ≢ j → (i == j) ≡ false
-eq_false i j d = elim (eqb_tells i j) [ inl k ↦ absurd (d k.1) | inr k ↦ k.0 ]
+use Rattle.plan_types.proofs.Facts.{is_equal, second_of_neither, not_equal}
 
 only_same_by : (b : Bool) (i : ℕ) (p : Pulse) (xs : List Pulse) → (p.stepper == i) ≡ b → only i xs ≡ only i (only i xs) → only i (p ∷ xs) ≡ only i (only i (p ∷ xs))
 only_same_by true i p xs e h = rw (e, e) (ap (λ (ys : List Pulse). p ∷ ys) h)
@@ -31,7 +26,7 @@ only_same i (p ∷ xs) = only_same_by (p.stepper == i) i p xs refl (only_same i 
 only_other_by : (b : Bool) (i j : ℕ) (p : Pulse) (xs : List Pulse) → i ≢ j → (p.stepper == i) ≡ b → only j (only i xs) ≡ [] → only j (only i (p ∷ xs)) ≡ []
 only_other_by true i j p xs d e h =
     let is : p.stepper ≡ i = elim (eqb_tells p.stepper i) [ inl k ↦ k.1 | inr k ↦ (let bad : false ≡ true = sym k.0 ∙ e in absurd (cc)) ] in
-    rw (e, eq_false p.stepper j (λ same. d (sym is ∙ same))) h
+    rw (e, not_equal p.stepper j (λ same. d (sym is ∙ same))) h
 only_other_by false i j p xs d e h = rw e h
 
 only_other : (i j : ℕ) (xs : List Pulse) → i ≢ j → only j (only i xs) ≡ []
@@ -52,7 +47,7 @@ cons_by b p xs ys e = ap (λ (zs : List Pulse). if b then p ∷ zs else zs) e
 without_other_by : (b : Bool) (i j : ℕ) (p : Pulse) (xs : List Pulse) → i ≢ j → (p.stepper == i) ≡ b → only j (without i xs) ≡ only j xs → only j (without i (p ∷ xs)) ≡ only j (p ∷ xs)
 without_other_by true i j p xs d e h =
     let is : p.stepper ≡ i = elim (eqb_tells p.stepper i) [ inl k ↦ k.1 | inr k ↦ (let bad : false ≡ true = sym k.0 ∙ e in absurd (cc)) ] in
-    rw (e, eq_false p.stepper j (λ same. d (sym is ∙ same))) h
+    rw (e, not_equal p.stepper j (λ same. d (sym is ∙ same))) h
 without_other_by false i j p xs d e h = rw e (cons_by (p.stepper == j) p (only j (without i xs)) (only j xs) h)
 
 without_other : (i j : ℕ) (xs : List Pulse) → i ≢ j → only j (without i xs) ≡ only j xs
@@ -74,7 +69,7 @@ none_rises : (now : ℕ) (o : Option Pending) → SlotRises now (emptied o)
 none_rises now None = tt
 none_rises now (Some q) = tt
 
-at_halted : (xs : List (Option Pending)) (i : ℕ) → get_or (set xs i (emptied (get_or xs i None))) i None ≡ emptied (get_or xs i None)
+pub at_halted : (xs : List (Option Pending)) (i : ℕ) → get_or (set xs i (emptied (get_or xs i None))) i None ≡ emptied (get_or xs i None)
 at_halted [] i = refl
 at_halted (x ∷ xs) zero = refl
 at_halted (x ∷ xs) (suc i) = at_halted xs i
@@ -120,16 +115,12 @@ halt_cuts (i ∷ is) b made meant w oid =
     prefix_of (only oid (cut_all is made (cut_at i made meant))) (only oid (cut_at i made meant)) (only oid meant) (halt_cuts is (halt_one i b) made (cut_at i made meant) (one_whole b i made meant w) oid)
     (one_prefix b i oid made meant w (same_or_not i oid))
 
-rest_of : (a b : Bool) → (a || b) ≡ false → b ≡ false
-rest_of true b e = let bad : true ≡ false = e in absurd (cc)
-rest_of false b e = e
-
 first_of : (a b : Bool) → a ≡ true → (a || b) ≡ false → ⊥
 first_of true b e f = let bad : true ≡ false = f in absurd (cc)
 first_of false b e f = let bad : false ≡ true = e in absurd (cc)
 
 pub not_first : (i j : ℕ) (is : List ℕ) → has j (i ∷ is) ≡ false → (i ≢ j) × (has j is ≡ false)
-not_first i j is e = ((λ same. first_of (j == i) (has j is) (eq_true j i (sym same)) e), rest_of (j == i) (has j is) e)
+not_first i j is e = ((λ same. first_of (j == i) (has j is) (is_equal j i (sym same)) e), second_of_neither (j == i) (has j is) e)
 
 pub halt_leaves : (is : List ℕ) (j : ℕ) (made meant : List Pulse) → has j is ≡ false → only j (cut_all is made meant) ≡ only j meant
 halt_leaves [] j made meant e = refl

@@ -23,7 +23,7 @@ use Rattle.board_sim.proofs.Bound.{same_or_not}
 use Rattle.board_sim.proofs.Steps.{only-append, only_other}
 use Rattle.board_sim.proofs.Halted.{cut_same, cut_other}
 use Rattle.board_sim.proofs.HaltedTime.{Goes, goes_same, all_kept, part_of, part_cut, whole_part, halts_keep, halts_go}
-use Rattle.board_sim.proofs.Keeps.{slot_set, renewed, rises_at, slot_is}
+use Rattle.board_sim.proofs.Keeps.{slot_set, renewed, rises_at, slot_is, none_meant}
 use Rattle.board_sim.proofs.Keeps as one
 
 abbrev Keeps : Rig → List Pulse → List Pulse → Rig → Type 0
@@ -257,10 +257,6 @@ reset_running (Shut reason tick first) b oid clock ticks made meant e k = rw (ap
 -- a command of triggers
 abbrev Result : Rig → Cmd → List ℕ → List Pulse → List Pulse → Controller → Type 0
 Result r c ticks made meant q = KeptPart q made (meant_next r.controller made meant (record { command = c; ticks = ticks }))
-
-none_meant : (o : BoardState) (b : Controller) (c : Cmd) (ticks : List ℕ) → meant_by b c ticks ≡ [] → meant_running o b c ticks ≡ []
-none_meant Running b c ticks e = e
-none_meant (Shut reason tick first) b c ticks e = refl
 
 by_trigger : (r q : Rig) (c : Cmd) (ticks : List ℕ) (made meant : List Pulse) → IsNoReset c → meant_by r.controller c ticks ≡ [] → ((ms : List Pulse) → Keeps r made ms q) → KeptPart r.controller made meant → Result r c ticks made meant q.controller
 by_trigger r q c ticks made meant n none keeps k =

@@ -21,6 +21,7 @@ use Rattle.board_sim.specs.Fair.{Meant, commands_of, IsFairOn, IsFairCommand, Is
 use Rattle.board_sim.proofs.Sorted.{Up}
 use Rattle.board_sim.proofs.Steps.{only-append, only_same, only_other, pending_push, split_groups, rise_from, end_any, rise_push, rise_up, before_up, only_by_tick}
 use Rattle.board_sim.proofs.Heeding.{heeds_all}
+use Rattle.plan_types.proofs.Facts.{true_and_false}
 
 -- what a command keeps, where these steps are meant by it
 abbrev pub Keeps : List Pulse → List Pulse → Done → List Pulse → Type 0
@@ -128,13 +129,10 @@ push_whole b oid q made meant t ticks w at small fair late =
     (rise_push b.tick q.groups (record { up = q.up; ticks = ticks }) r some
     (goes_on b.tick q.last q.groups ticks r fair.follows fair.rise (λ none. rw first (late none)) some)))
 
-clash : {x : Bool} → x ≡ true → x ≡ false → ⊥
-clash e f = cc
-
 some_none : (r : ℕ × ℕ) → Some r ≡ None → ⊥
 some_none r e = cc
 
-no_nil : (g : Group) (gs : List Group) → g ∷ gs ≡ [] → ⊥
+pub no_nil : (g : Group) (gs : List Group) → g ∷ gs ≡ [] → ⊥
 no_nil g gs e = cc
 
 last_test : (a b c : Bool) (x y z : ℕ × ℕ) → (if a then Some x else (if b then Some y else (if c then Some z else None))) ≡ None → c ≡ false
@@ -144,7 +142,7 @@ last_test false false true x y z e = absurd (some_none z e)
 last_test false false false x y z e = refl
 
 not_before : (now : ℕ) (gs : List Group) (first : ℕ) → (is_none_pending gs && nat_lt first now) ≡ false → gs ≡ [] → now ≤ first
-not_before now [] first h e = elim (leb_tells (suc first) now) [ inl p ↦ absurd (clash p.0 h) | inr p ↦ omega (arith, p.1) ]
+not_before now [] first h e = elim (leb_tells (suc first) now) [ inl p ↦ absurd (true_and_false p.0 h) | inr p ↦ omega (arith, p.1) ]
 not_before now (g ∷ gs) first h e = absurd (no_nil g gs e)
 
 -- where no step pends, the first one of a triple that isn't refused is not before now
@@ -226,7 +224,7 @@ running_keeps Running b c ticks made meant e k fair =
     acts_keeps b c ticks made meant e (subst At e k) fair
 running_keeps (Shut reason tick first) b c ticks made meant e k fair = quiet_keeps b made meant k
 
-none_meant : (o : BoardState) (b : Controller) (c : Cmd) (ticks : List ℕ) → meant_by b c ticks ≡ [] → meant_running o b c ticks ≡ []
+pub none_meant : (o : BoardState) (b : Controller) (c : Cmd) (ticks : List ℕ) → meant_by b c ticks ≡ [] → meant_running o b c ticks ≡ []
 none_meant Running b c ticks e = e
 none_meant (Shut reason tick first) b c ticks e = refl
 
@@ -292,7 +290,7 @@ slots_at t i [] = refl
 slots_at t zero (o ∷ os) = refl
 slots_at t (suc i) (o ∷ os) = slots_at t i os
 
-slot_split : (oid t : ℕ) (o : Option Pending) → slot_before oid t o ++ pending_at oid (slot_to t o) ≡ pending_at oid o
+pub slot_split : (oid t : ℕ) (o : Option Pending) → slot_before oid t o ++ pending_at oid (slot_to t o) ≡ pending_at oid o
 slot_split oid t None = refl
 slot_split oid t (Some q) =
     sym (map-append (pulse_of oid) (steps_before t q.groups) (pending_steps (groups_from t q.groups))) ∙ ap (λ x. map (pulse_of oid) x) (split_groups t q.groups)
@@ -339,7 +337,7 @@ pub pass_keeps : (b : Controller) (t : ℕ) (made meant : List Pulse) → IsFair
 pass_keeps b t made meant k =
     elim (leb_tells b.tick t) [ inl p ↦ rw p.0 (on_keeps b.state b t made meant refl k) | inr p ↦ rw p.0 (rw (append-nil made) k) ]
 
-none_at : (n oid : ℕ) → get_or (places n) oid None ≡ None
+pub none_at : (n oid : ℕ) → get_or (places n) oid None ≡ None
 none_at zero oid = refl
 none_at (suc n) zero = refl
 none_at (suc n) (suc oid) = none_at n oid

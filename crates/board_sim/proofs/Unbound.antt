@@ -165,7 +165,7 @@ Kept i r q = IsUnbound i q × Less i r.controller q.controller
 as_it_is : (r : Rig) (i : ℕ) → IsUnbound i r → Kept i r r
 as_it_is r i free = (free, same_as r.controller i)
 
-set_any : (xs : List (Option Slot)) (oid j : ℕ) (v u : Slot) → get_or (set xs oid (Some v)) j None ≡ Some u → (v ≡ u) ⊎ (get_or xs j None ≡ Some u)
+pub set_any : (xs : List (Option Slot)) (oid j : ℕ) (v u : Slot) → get_or (set xs oid (Some v)) j None ≡ Some u → (v ≡ u) ⊎ (get_or xs j None ≡ Some u)
 set_any [] oid j v u e = inr e
 set_any (x ∷ xs) zero zero v u e = inl (cc)
 set_any (x ∷ xs) zero (suc j) v u e = inr e

@@ -16,7 +16,7 @@ use Rattle.board_world.specs.declared.event.Event.TheVariants.{Put, Control, Sen
 use Rattle.board_world.specs.World.{Core, does, takes_in}
 use Rattle.board_world.specs.Apart.{AreNumbersApart, RepliesApart, TickFits}
 
-same_number : (n a : ℕ) → n < a + 12 → a ≤ n + 12 → n % 16 ≡ a % 16 → n ≡ a
+pub same_number : (n a : ℕ) → n < a + 12 → a ≤ n + 12 → n % 16 ≡ a % 16 → n ≡ a
 same_number n a low high e = omega (arith, low, high, e)
 
 pub down_apart : (s a : ℕ) (ns : List ℕ) → AreNear s a ns → AreNumbersApart a ns

@@ -19,12 +19,9 @@ use Rattle.board_world.specs.declared.event.Event.TheVariants.{Put, Control, Sen
 use Rattle.board_world.specs.World.{Core, Step, Do, Turn, takes_in, does, after_event, in_turn, run_world}
 use Rattle.board_world.specs.Shut.{IsRefused, HasSteps, Shuts, ShutBy, WasShut}
 use Rattle.board_world.proofs.Runs.{still}
-
-clash : false ≡ true → ⊥
-clash e = cc
-
-no_nil : (g : Group) (gs : List Group) → g ∷ gs ≡ [] → ⊥
-no_nil g gs e = cc
+use Rattle.plan_types.proofs.Facts.{was_le, false_true}
+use Rattle.board_sim.proofs.Keeps.{no_nil}
+use Rattle.board_sim.proofs.Shut.{some_same, none_some, below}
 
 -- the parts of a shutdown
 reason_of : BoardState → ℕ
@@ -39,10 +36,10 @@ first_in : BoardState → ℕ
 first_in Running = 0
 first_in (Shut reason tick first) = first
 
-runs_on : (reason tick first : ℕ) → Running ≡ Shut reason tick first → ⊥
+pub runs_on : (reason tick first : ℕ) → Running ≡ Shut reason tick first → ⊥
 runs_on reason tick first e = cc
 
-still_runs : (b : Controller) (reason tick first : ℕ) → b.state ≡ Running → b.state ≡ Shut reason tick first → ⊥
+pub still_runs : (b : Controller) (reason tick first : ℕ) → b.state ≡ Running → b.state ≡ Shut reason tick first → ⊥
 still_runs b reason tick first e f = runs_on reason tick first (sym e ∙ f)
 
 -- a stop with these parts
@@ -53,20 +50,9 @@ parts : (r now f reason tick first : ℕ) → Shut r now f ≡ Shut reason tick 
 unfolding reason_of tick_in first_in
 parts r now f reason tick first e = (sym (ap reason_of e), sym (ap tick_in e), sym (ap first_in e))
 
--- why a triple is refused
-below : (none : Bool) (first now : ℕ) → (none && nat_lt first now) ≡ true → first < now
-below true first now e = elim (leb_tells (suc first) now) [ inl p ↦ omega (arith, p.1) | inr p ↦ absurd (clash (sym p.0 ∙ e)) ]
-below false first now e = absurd (clash e)
-
 no_groups : (gs : List Group) (c : Bool) → (is_none_pending gs && c) ≡ true → gs ≡ []
 no_groups [] c e = refl
-no_groups (g ∷ gs) c e = absurd (clash e)
-
-some_same : (x r : ℕ × ℕ) → Some x ≡ Some r → x ≡ r
-some_same x r e = cc
-
-none_some : (r : ℕ × ℕ) → None ≡ Some r → ⊥
-none_some r e = cc
+no_groups (g ∷ gs) c e = absurd (false_true e)
 
 abbrev Reasons : Type 0 → Type 0 → Type 0 → ℕ → ℕ × ℕ → Type 0
 Reasons P Q R first r = ((r.0 ≡ zero_count) × P) ⊎ (((r.0 ≡ queue_overflow) × Q) ⊎ ((r.0 ≡ timer_too_close) × (r.1 ≡ first) × R))
@@ -81,16 +67,13 @@ reasons P Q R false false true first r p q s e =
 reasons P Q R false false false first r p q s e = absurd (none_some r e)
 
 is_zero : (n : ℕ) → (n == 0) ≡ true → n ≡ 0
-is_zero n e = elim (eqb_tells n 0) [ inl p ↦ p.1 | inr p ↦ absurd (clash (sym p.0 ∙ e)) ]
-
-is_most : (m n : ℕ) → nat_le m n ≡ true → m ≤ n
-is_most m n e = elim (leb_tells m n) [ inl p ↦ p.1 | inr p ↦ absurd (clash (sym p.0 ∙ e)) ]
+is_zero n e = elim (eqb_tells n 0) [ inl p ↦ p.1 | inr p ↦ absurd (false_true (sym p.0 ∙ e)) ]
 
 refused_why : (now : ℕ) (q : Pending) (t : Triple) (r : ℕ × ℕ) → refusal now q t ≡ Some r
     → Reasons (t.count ≡ 0) (q.slots ≤ length q.groups) ((q.groups ≡ []) × (first_of now q t < now)) (first_of now q t) r
 refused_why now q t r e =
     reasons (t.count ≡ 0) (q.slots ≤ length q.groups) ((q.groups ≡ []) × (first_of now q t < now)) (t.count == 0) (nat_le q.slots (length q.groups))
-    (is_none_pending q.groups && nat_lt (first_of now q t) now) (first_of now q t) r (is_zero t.count) (is_most q.slots (length q.groups))
+    (is_none_pending q.groups && nat_lt (first_of now q t) now) (first_of now q t) r (is_zero t.count) (was_le q.slots (length q.groups))
     (λ on. (no_groups q.groups (nat_lt (first_of now q t) now) on, below (is_none_pending q.groups) (first_of now q t) now on)) e
 
 -- of a stepper that isn't halted
@@ -138,7 +121,7 @@ make_cause b oid None reason tick first running e = still_runs b reason tick fir
 make_cause b oid (Some q) reason tick first running e = still_runs b reason tick first running e
 
 some_groups : (gs : List Group) → is_none_pending gs ≡ false → gs ≢ []
-some_groups [] e = absurd (clash (sym e))
+some_groups [] e = absurd (false_true (sym e))
 some_groups (g ∷ gs) e = λ none. no_nil g gs none
 
 reset_if : (h : Bool) (b : Controller) (oid : ℕ) (q : Pending) (clock reason tick first : ℕ) → is_none_pending q.groups ≡ h → b.state ≡ Running

@@ -9,9 +9,7 @@ use Rattle.block_frame.specs.declared.Found.{Found}
 use Rattle.block_frame.specs.declared.Found.TheVariants.{Block, Skip, NeedMore, Bad}
 use Rattle.block_frame.proofs.Pieces.{scan_once}
 use Rattle.board_world.specs.Stands.{IsFound, IsSmall}
-
-pub block_length : (n : ℕ) (content : List ℕ) → length (block_text n content) ≡ length content + 5
-block_length n content = simp length-append (omega arith)
+use Rattle.block_frame.proofs.Changed.{text_length}
 
 abbrev One : ℕ → List ℕ → List (ℕ × List ℕ)
 One n content = (n, content) ∷ []
@@ -40,7 +38,7 @@ is_found Bad n content e = no_block n content e
 pub found_is : (n : ℕ) (content : List ℕ) (f : Found) (count : ℕ) (drops : Bool) {size : ℕ} → n < 16 → size ≡ length (block_text n content) → size ≤ 64
     → Scans false (block_text n content) f count drops → IsFound f n content
 found_is n content f count drops {size} small same fits s =
-    let short : length content ≤ 59 = omega (arith, same, fits, block_length n content) in
+    let short : length content ≤ 59 = omega (arith, same, fits, text_length n content) in
     let block : IsBlock n content (block_text n content) = record { small = small; fits = short; after = ([], sym (append-nil (block_text n content))) } in
     let own : Found = Block n record { items = content } in
     let there : Scans false (block_text n content) own (length content + 5) false = (block, refl, refl) in

@@ -29,6 +29,7 @@ use Rattle.board_world.specs.Stands.{SeenWorld, WorldStandsFor, IsFound, texts, 
 use Rattle.board_world.proofs.Runs.{ordered_by}
 use Rattle.board_world.proofs.Standing.{station_of, link_after, quiet_stands, same_stands}
 use Rattle.board_world.proofs.Blocks.{block_is, block_reads, reads_as}
+use Rattle.board_world.proofs.Apart.{same_number}
 
 -- the bytes of replies
 abbrev answer_text : Option Cmd → List ℕ
@@ -55,10 +56,6 @@ numbered_texts k (c ∷ cs) = ap (λ x. block_text (k % 16) (wire_text c) ∷ x)
 
 next_is : (a : ℕ) → next_number (a % 16) ≡ (a + 1) % 16
 next_is a = omega arith
-
--- the numbers of a block near the one that is expected agree on the wire only where it is that one
-same_number : (n a : ℕ) → n < a + 12 → a ≤ n + 12 → n % 16 ≡ a % 16 → n ≡ a
-same_number n a low high e = omega (arith, low, high, e)
 
 -- what the board heard of a block
 abbrev Taken : Found → ℕ → List ℕ → Station → Station → List (List ℕ) → Type 0

@@ -12,6 +12,7 @@ use Rattle.board_world.specs.declared.event.Event.TheVariants.{Resend}
 use Rattle.board_world.specs.World.{Core, after_event}
 use Rattle.board_world.specs.Stands.{SeenWorld, WorldStandsFor, text_at, blocks_from, all_put_again}
 use Rattle.board_world.proofs.Standing.{quiet_stands}
+use Rattle.board_world.proofs.Telling.{none_from}
 
 -- the first blocks are put again
 abbrev pub put_first : ℕ → ℕ → List ℕ → List ℕ
@@ -45,7 +46,7 @@ pub every_again : (host new : Host) (i : ℕ) → length host.puts ≤ i → new
 every_again host new i h e = e ∙ ap (λ x. record host { puts = x }) (put_every host.turn i host.puts h)
 
 -- the blocks that are put
-same_sum : (n : ℕ) → n ≡ n + 0
+pub same_sum : (n : ℕ) → n ≡ n + 0
 same_sum n = omega arith
 
 blocks_push : (n : ℕ) (cs : List (List ℕ)) (c : List ℕ) → blocks_from n (cs ++ c ∷ []) ≡ blocks_from n cs ++ block_text ((n + length cs) % 16) c ∷ []
@@ -68,12 +69,6 @@ next_put n i cs first old new text h before is put =
     ap (blocks_from n) (take_more cs i [] h) ∙ blocks_push n (take i cs) c ∙ ap (λ k. blocks_from n (take i cs) ++ block_text ((n + k) % 16) c ∷ []) (length_take i cs (omega arith)) in
     put ∙ ap (λ x. old ++ x ∷ []) is ∙ ap (λ x. x ++ block_text ((n + i) % 16) c ∷ []) before ∙ append_assoc first (blocks_from n (take i cs)) (block_text ((n + i) % 16) c ∷ [])
     ∙ ap (λ x. first ++ x) (sym more)
-
-none_from : (blocks : List (List Command)) (n : ℕ) → length blocks ≤ n → drop n blocks ≡ []
-none_from [] zero h = refl
-none_from [] (suc n) h = refl
-none_from (b ∷ blocks) zero h = absurd (omega arith)
-none_from (b ∷ blocks) (suc n) h = none_from blocks n (omega arith)
 
 one_more : (n : ℕ) → suc n ≡ n + 1
 one_more n = omega arith

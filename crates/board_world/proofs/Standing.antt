@@ -76,7 +76,7 @@ reply_host : (l : Link) (rs : List Reply) → host_of (link.lose_reply l rs) ≡
 reply_host l [] = refl
 reply_host l (r ∷ rs) = refl
 
-reply_up : (l : Link) (rs : List Reply) → l.up ≡ rs → map reply_text (link.lose_reply l rs).up ≡ drop 1 (map reply_text rs)
+pub reply_up : (l : Link) (rs : List Reply) → l.up ≡ rs → map reply_text (link.lose_reply l rs).up ≡ drop 1 (map reply_text rs)
 reply_up l [] e = ap (map reply_text) e
 reply_up l (r ∷ rs) e = refl
 
@@ -100,10 +100,10 @@ reply_lost_stands s t h st e =
 no_nil : (c : Command) (cs : List Command) → c ∷ cs ≡ [] → ⊥
 no_nil c cs e = cc
 
-text_old : (blocks : List (List Command)) (b : List Command) (n : ℕ) → n < length blocks → text_at (blocks ++ b ∷ []) n ≡ text_at blocks n
+pub text_old : (blocks : List (List Command)) (b : List Command) (n : ℕ) → n < length blocks → text_at (blocks ++ b ∷ []) n ≡ text_at blocks n
 text_old blocks b n h = ap (λ x. block_text (n % 16) (content_of x)) (get_or-append blocks (b ∷ []) [] n h)
 
-texts_old : (blocks : List (List Command)) (b : List Command) (accepted : ℕ) (ns : List ℕ) → AreNear (length blocks) accepted ns → map (text_at (blocks ++ b ∷ [])) ns ≡ map (text_at blocks) ns
+pub texts_old : (blocks : List (List Command)) (b : List Command) (accepted : ℕ) (ns : List ℕ) → AreNear (length blocks) accepted ns → map (text_at (blocks ++ b ∷ [])) ns ≡ map (text_at blocks) ns
 texts_old blocks b accepted [] h = refl
 texts_old blocks b accepted (n ∷ ns) h =
     ap (λ x. x ∷ map (text_at (blocks ++ b ∷ [])) ns) (text_old blocks b n h.0.was_sent) ∙ ap (λ x. text_at blocks n ∷ x) (texts_old blocks b accepted ns h.2)
@@ -196,7 +196,7 @@ no_text t ts e = cc
 first_text : (t u : List ℕ) (ts us : List (List ℕ)) → t ∷ ts ≡ u ∷ us → t ≡ u
 first_text t u ts us e = cc
 
-none_up : (us : List Reply) → map reply_text us ≡ [] → us ≡ []
+pub none_up : (us : List Reply) → map reply_text us ≡ [] → us ≡ []
 none_up [] e = refl
 none_up (r ∷ rs) e = absurd (no_text (reply_text r) (map reply_text rs) e)
 

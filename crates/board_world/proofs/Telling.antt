@@ -15,7 +15,7 @@ none_mapped : (bs : List (List Command)) → map content_of bs ≡ [] → bs ≡
 none_mapped [] e = refl
 none_mapped (b ∷ bs) e = cc
 
-none_from : (blocks : List (List Command)) (n : ℕ) → length blocks ≤ n → drop n blocks ≡ []
+pub none_from : (blocks : List (List Command)) (n : ℕ) → length blocks ≤ n → drop n blocks ≡ []
 none_from [] zero h = refl
 none_from [] (suc n) h = refl
 none_from (b ∷ blocks) zero h = absurd (omega arith)

@@ -26,19 +26,20 @@ use Rattle.board_world.specs.declared.event.Event.TheVariants.{Put, Control, Sen
 use Rattle.board_world.specs.World.{Core, Step, Do, Turn, obeys, takes_in, after_event, in_turn, run_world, new_world, AllFair}
 use Rattle.board_world.specs.Units.{ticks_for, ticks_of, pulse_ticks, IsMade, FindsStepper, FindsWhile, FindSteppers, AllFind}
 use Rattle.board_world.proofs.Runs.{pulses_cut}
+use Rattle.plan_types.proofs.Facts.{false_true}
 
 pub ticks_append : (oid : ℕ) (ms ns : List Meant) → ticks_of oid (ms ++ ns) ≡ ticks_of oid ms ++ ticks_of oid ns
 ticks_append oid [] ns = refl
 ticks_append oid (m ∷ ms) ns = ap (λ x. ticks_for oid m.command m.ticks ++ x) (ticks_append oid ms ns) ∙ sym (append_assoc (ticks_for oid m.command m.ticks) (ticks_of oid ms) (ticks_of oid ns))
 
-pulses_append : (oid : ℕ) (ps qs : List Pulse) → pulse_ticks oid (ps ++ qs) ≡ pulse_ticks oid ps ++ pulse_ticks oid qs
+pub pulses_append : (oid : ℕ) (ps qs : List Pulse) → pulse_ticks oid (ps ++ qs) ≡ pulse_ticks oid ps ++ pulse_ticks oid qs
 pulses_append oid ps qs = ap (map (λ (p : Pulse). p.tick)) (only-append oid ps qs) ∙ map-append (λ (p : Pulse). p.tick) (only oid ps) (only oid qs)
 
 own_ticks : (oid : ℕ) (up : Bool) (ts : List ℕ) → map (λ (p : Pulse). p.tick) (map (pulse_of oid) (steps_of up ts)) ≡ ts
 own_ticks oid up [] = refl
 own_ticks oid up (t ∷ ts) = ap (λ x. t ∷ x) (own_ticks oid up ts)
 
-taken_ticks : (oid other : ℕ) (up : Bool) (ts : List ℕ) → pulse_ticks oid (map (pulse_of other) (steps_of up ts)) ≡ (if other == oid then ts else [])
+pub taken_ticks : (oid other : ℕ) (up : Bool) (ts : List ℕ) → pulse_ticks oid (map (pulse_of other) (steps_of up ts)) ≡ (if other == oid then ts else [])
 taken_ticks oid other up ts =
     elim (eqb_tells other oid) [
       | inl p ↦ rw p.0 (ap (λ o. pulse_ticks oid (map (pulse_of o) (steps_of up ts))) p.1 ∙ ap (map (λ (p : Pulse). p.tick)) (only_same oid (steps_of up ts)) ∙ own_ticks oid up ts)
@@ -54,9 +55,6 @@ IsSofar (Shut reason tick first) made all = (rest : List ℕ) × (made ++ rest �
 abbrev Adds : BoardState → List ℕ → List ℕ → Type 0
 Adds o made all = (made ≡ all) ⊎ ((made ≡ []) × (is_shut o ≡ true))
 
-clash : false ≡ true → ⊥
-clash e = cc
-
 -- a triple
 triple_adds : (o : Option (ℕ × ℕ)) (b : Controller) (oid other : ℕ) (q : Pending) (own ticks : List ℕ) → Adds (takes_triple o b other q own).board.state (pulse_ticks oid (steps_taken o other q.up ticks)) (if other == oid then ticks else [])
 triple_adds None b oid other q own ticks = inl (taken_ticks oid other q.up ticks)
@@ -65,7 +63,7 @@ triple_adds (Some r) b oid other q own ticks = inr (refl, refl)
 not_halted : (h : Bool) (b : Controller) (d : Done) (oid : ℕ) (ps : List Pulse) (all : List ℕ) → h ≡ false → Adds d.board.state (pulse_ticks oid ps) all
     → Adds (if h then quiet b else d).board.state (pulse_ticks oid (if h then [] else ps)) all
 not_halted false b d oid ps all e k = k
-not_halted true b d oid ps all e k = absurd (clash (sym e))
+not_halted true b d oid ps all e k = absurd (false_true (sym e))
 
 step_adds : (o : Option Pending) (b : Controller) (oid other : ℕ) (t : Triple) (ticks : List ℕ) → IsMade o
     → Adds (queue_step b other o t).board.state (pulse_ticks oid (meant_on b.tick other o t ticks)) (if other == oid then ticks else [])
@@ -133,12 +131,12 @@ takes_adds b (cmd.IsShutdown reason) oid ticks running made = inl refl
 
 grows : (o : BoardState) (made all more rest : List ℕ) → made ≡ all → Adds o more rest → IsSofar o (made ++ more) (all ++ rest)
 grows Running made all more rest e (inl p) = ap (λ x. x ++ more) e ∙ ap (λ x. all ++ x) p
-grows Running made all more rest e (inr p) = absurd (clash p.1)
+grows Running made all more rest e (inr p) = absurd (false_true p.1)
 grows (Shut reason tick first) made all more rest e (inl p) = ([], append-nil (made ++ more) ∙ ap (λ x. x ++ more) e ∙ ap (λ x. all ++ x) p)
 grows (Shut reason tick first) made all more rest e (inr p) = (rest, ap (λ x. (made ++ x) ++ rest) p.0 ∙ ap (λ x. x ++ rest) (append-nil made ∙ e))
 
 stays : (o : BoardState) (made all rest : List ℕ) → is_shut o ≡ true → (r : List ℕ) × (made ++ r ≡ all) → IsSofar o (made ++ []) (all ++ rest)
-stays Running made all rest shut k = absurd (clash shut)
+stays Running made all rest shut k = absurd (false_true shut)
 stays (Shut reason tick first) made all rest shut k =
     (k.0 ++ rest, ap (λ x. x ++ (k.0 ++ rest)) (append-nil made) ∙ sym (append_assoc made k.0 rest) ∙ ap (λ x. x ++ rest) k.1)
 
@@ -147,7 +145,7 @@ no_left : (b : Controller) (made meant : List Pulse) (c : Cmd) → FindsStepper 
 no_left b made meant (cmd.ResetStepClock oid clock) e = rw e refl
 no_left b made meant _ e = refl
 
-left_none : (o : BoardState) (b : Controller) (made meant : List Pulse) (c : Cmd) → FindsWhile o b c → left_running o b made meant c ≡ meant
+pub left_none : (o : BoardState) (b : Controller) (made meant : List Pulse) (c : Cmd) → FindsWhile o b c → left_running o b made meant c ≡ meant
 left_none Running b made meant c finds = no_left b made meant c finds
 left_none (Shut reason tick first) b made meant c finds = refl
 

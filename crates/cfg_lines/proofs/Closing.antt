@@ -3,6 +3,7 @@ use Rattle.std.proofs.Common.{◌≡◌, ℕ, ◌+◌, ◌-◌, ◌<◌, ◌≤�
 use Rattle.std.proofs.lemmas.List.{take_more}
 use Rattle.std.proofs.Math.Seq.{take-length}
 use Rattle.cfg_lines.specs.Said.{closed}
+use Rattle.text_core.proofs.Ends.{split_last}
 
 at_bracket : (xs : List ℕ) → closed (xs ++ 93 ∷ []) ≡ Some xs
 at_bracket [] = refl
@@ -14,13 +15,8 @@ at_other [] b h = rw h refl
 at_other (x ∷ []) b h = rw h refl
 at_other (x ∷ y ∷ ys) b h = ap (option_map (λ t. x ∷ t)) (at_other (y ∷ ys) b h)
 
--- a text is its front and its last byte
-pub front_and_last : (xs : List ℕ) → 1 ≤ length xs → take (length xs - 1) xs ++ get_or xs (length xs - 1) 0 ∷ [] ≡ xs
-front_and_last xs some = let below : length xs - 1 < length xs = omega arith in let whole : length xs - 1 + 1 ≡ length xs = omega arith in
-    sym (take_more xs (length xs - 1) 0 below) ∙ rw whole (take-length xs)
-
 pub closed-bracket : (xs : List ℕ) → 1 ≤ length xs → get_or xs (length xs - 1) 0 ≡ 93 → Some (take (length xs - 1) xs) ≡ closed xs
-closed-bracket xs some h = sym (at_bracket (take (length xs - 1) xs)) ∙ ap closed (rw h at (front_and_last xs some))
+closed-bracket xs some h = sym (at_bracket (take (length xs - 1) xs)) ∙ ap closed (rw h at (split_last xs some))
 
 pub closed-other : (xs : List ℕ) → 1 ≤ length xs → (get_or xs (length xs - 1) 0 == 93) ≡ false → None ≡ closed xs
-closed-other xs some h = sym (at_other (take (length xs - 1) xs) (get_or xs (length xs - 1) 0) h) ∙ ap closed (front_and_last xs some)
+closed-other xs some h = sym (at_other (take (length xs - 1) xs) (get_or xs (length xs - 1) 0) h) ∙ ap closed (split_last xs some)

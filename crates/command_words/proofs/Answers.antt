@@ -1,6 +1,6 @@
 -- From the subcommand and its operands to what the words ask for.
 use Rattle.std.proofs.Common.{◌≡◌, ◌∙◌, ◌&&◌, ◌||◌, ◌⊎◌, subst, ◌==◌, ◌<◌, ◌^◌, arith, inl, inr, length, ℕ, Bool, true, false, refl, sym, ap, List, [], ◌∷◌, Option, Some, None, codes, map, true≢false, cond}
-use Rattle.command_words.proofs.Top.{Outcome, both, is_simple_program, neither, outcome_of}
+use Rattle.command_words.proofs.Top.{Outcome, both, is_simple_program, outcome_of}
 use Rattle.std.specs.Str.{bytes_eq}
 use Rattle.std.specs.List.{list_all}
 use Rattle.std.specs.Prelude.{option_and_then, option_map, Box, IsSome, nat_le}
@@ -20,6 +20,7 @@ use Rattle.command_words.specs.Commands.{program}
 use Rattle.std.proofs.lemmas.Slice.Eq.{bytes_eq-Decides}
 use Rattle.command_words.specs.Forms.{Asked, asked, form_of, form_of_two, form_of_three, is_name, is_numeral, bounded_number}
 use Rattle.command_words.specs.Calls.{Call, call_of, call_in, called_form, takes_two, takes_three}
+use Rattle.std.proofs.lemmas.Bool.{or_parts}
 
 -- equality of texts has no order
 pub turned : (a b : Text) → bytes_eq a b ≡ bytes_eq b a
@@ -34,17 +35,17 @@ turned a b = go (bytes_eq a b) (bytes_eq b a) refl refl
 of_two_call : (w a b : Text) (t : Bool) → takes_two w ≡ t → form_of_two w a b ≡ option_and_then called_form (cond t (Some (w, Some a ∷ Some b ∷ None ∷ [])) None)
 of_two_call w a b true e = refl
 of_two_call w a b false e =
-    let parts = neither (bytes_eq (codes "run") w) (bytes_eq (codes "make") w || bytes_eq (codes "fan") w) e in
-    let more = neither (bytes_eq (codes "make") w) (bytes_eq (codes "fan") w) parts.1 in
+    let parts = or_parts (bytes_eq (codes "run") w) (bytes_eq (codes "make") w || bytes_eq (codes "fan") w) e in
+    let more = or_parts (bytes_eq (codes "make") w) (bytes_eq (codes "fan") w) parts.1 in
     rw (turned w (codes "run"), turned w (codes "make"), turned w (codes "fan"), parts.0, more.0, more.1) refl
 
 of_three_call : (w a b c : Text) (t : Bool) → takes_three w ≡ t → form_of_three w a b c ≡ option_and_then called_form (cond t (Some (w, Some a ∷ Some b ∷ Some c ∷ [])) None)
 of_three_call w a b c true e = refl
 of_three_call w a b c false e =
-    let parts = neither (bytes_eq (codes "run") w) (bytes_eq (codes "check") w || (bytes_eq (codes "dump") w || (bytes_eq (codes "replay") w || bytes_eq (codes "mesh") w))) e in
-    let others = neither (bytes_eq (codes "check") w) (bytes_eq (codes "dump") w || (bytes_eq (codes "replay") w || bytes_eq (codes "mesh") w)) parts.1 in
-    let more = neither (bytes_eq (codes "dump") w) (bytes_eq (codes "replay") w || bytes_eq (codes "mesh") w) others.1 in
-    let last = neither (bytes_eq (codes "replay") w) (bytes_eq (codes "mesh") w) more.1 in
+    let parts = or_parts (bytes_eq (codes "run") w) (bytes_eq (codes "check") w || (bytes_eq (codes "dump") w || (bytes_eq (codes "replay") w || bytes_eq (codes "mesh") w))) e in
+    let others = or_parts (bytes_eq (codes "check") w) (bytes_eq (codes "dump") w || (bytes_eq (codes "replay") w || bytes_eq (codes "mesh") w)) parts.1 in
+    let more = or_parts (bytes_eq (codes "dump") w) (bytes_eq (codes "replay") w || bytes_eq (codes "mesh") w) others.1 in
+    let last = or_parts (bytes_eq (codes "replay") w) (bytes_eq (codes "mesh") w) more.1 in
     rw (turned w (codes "run"), turned w (codes "check"), turned w (codes "dump"), turned w (codes "replay"), turned w (codes "mesh"), parts.0, others.0, more.0, last.0, last.1) refl
 
 -- a test of each text in a list of values

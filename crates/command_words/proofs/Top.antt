@@ -13,6 +13,7 @@ use Rattle.command_words.specs.Calls.{call_of, operands_in, takes_two, takes_thr
 use Rattle.std.proofs.lemmas.Slice.Eq.{bytes_eq-Decides}
 use Rattle.std.specs.List.{list_all}
 use Rattle.command_words.proofs.Leaf.{none_fails, one_fails, two_pass, three_pass, four_fail, rows_of_two, rows_of_three, rows_two, rows_three, two-none_fails, two-one_fails, two-pass, two-rows, two-three_fail, all-rows, all-pass, all-none_fails, all-one_fails, all-two_fail, all-four_fail, leaf_two, leaf_three, leaf_all, standing, turn_value}
+use Rattle.std.proofs.lemmas.Bool.{or_parts}
 
 pub is_simple_program : is_simple_and_free program ≡ true
 is_simple_program = refl
@@ -20,22 +21,18 @@ is_simple_program = refl
 abbrev names : Names
 names = names_of (built program)
 
-pub neither : (a b : Bool) → (a || b) ≡ false → (a ≡ false) × (b ≡ false)
-neither true b e = absurd (true≢false e)
-neither false b e = (refl, e)
-
 -- a word is the name of a subcommand
 abbrev is_command : Text → Bool
 is_command w = bytes_eq (codes "run") w || (bytes_eq (codes "make") w || (bytes_eq (codes "fan") w || (bytes_eq (codes "check") w || (bytes_eq (codes "dump") w || (bytes_eq (codes "replay") w || bytes_eq (codes "mesh") w)))))
 
 no_such : (w : Text) → is_command w ≡ false → find (answers_to w) names ≡ None
 no_such w e =
-    let parts = neither (bytes_eq (codes "run") w) (bytes_eq (codes "make") w || (bytes_eq (codes "fan") w || (bytes_eq (codes "check") w || (bytes_eq (codes "dump") w || (bytes_eq (codes "replay") w || bytes_eq (codes "mesh") w))))) e in
-    let more = neither (bytes_eq (codes "make") w) (bytes_eq (codes "fan") w || (bytes_eq (codes "check") w || (bytes_eq (codes "dump") w || (bytes_eq (codes "replay") w || bytes_eq (codes "mesh") w)))) parts.1 in
-    let fans = neither (bytes_eq (codes "fan") w) (bytes_eq (codes "check") w || (bytes_eq (codes "dump") w || (bytes_eq (codes "replay") w || bytes_eq (codes "mesh") w))) more.1 in
-    let others = neither (bytes_eq (codes "check") w) (bytes_eq (codes "dump") w || (bytes_eq (codes "replay") w || bytes_eq (codes "mesh") w)) fans.1 in
-    let last = neither (bytes_eq (codes "dump") w) (bytes_eq (codes "replay") w || bytes_eq (codes "mesh") w) others.1 in
-    let end = neither (bytes_eq (codes "replay") w) (bytes_eq (codes "mesh") w) last.1 in
+    let parts = or_parts (bytes_eq (codes "run") w) (bytes_eq (codes "make") w || (bytes_eq (codes "fan") w || (bytes_eq (codes "check") w || (bytes_eq (codes "dump") w || (bytes_eq (codes "replay") w || bytes_eq (codes "mesh") w))))) e in
+    let more = or_parts (bytes_eq (codes "make") w) (bytes_eq (codes "fan") w || (bytes_eq (codes "check") w || (bytes_eq (codes "dump") w || (bytes_eq (codes "replay") w || bytes_eq (codes "mesh") w)))) parts.1 in
+    let fans = or_parts (bytes_eq (codes "fan") w) (bytes_eq (codes "check") w || (bytes_eq (codes "dump") w || (bytes_eq (codes "replay") w || bytes_eq (codes "mesh") w))) more.1 in
+    let others = or_parts (bytes_eq (codes "check") w) (bytes_eq (codes "dump") w || (bytes_eq (codes "replay") w || bytes_eq (codes "mesh") w)) fans.1 in
+    let last = or_parts (bytes_eq (codes "dump") w) (bytes_eq (codes "replay") w || bytes_eq (codes "mesh") w) others.1 in
+    let end = or_parts (bytes_eq (codes "replay") w) (bytes_eq (codes "mesh") w) last.1 in
     rw (parts.0, more.0, fans.0, others.0, last.0, end.0, end.1) refl
 
 pub unknown_fails : (w : Text) (ws : List Text) → is_name w ≡ true → is_command w ≡ false → is_empty (fault_of program (w ∷ ws)) ≡ false

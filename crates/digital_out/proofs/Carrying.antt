@@ -147,7 +147,7 @@ rise_all low (w ∷ ws) h =
     let first = h.0 in
     All-cons (λ (v : Want). low ≤ v.tick) w ws first (λ k d lt. let x = later k d lt in omega (arith, x, first))
 
-stays_by : (until : ℕ) (q : Output) (w : Want) (ws : List Want) (b : Bool) → nat_lt w.tick until ≡ b → (want_turn until q w ws).event ≡ None → until ≤ w.tick
+pub stays_by : (until : ℕ) (q : Output) (w : Want) (ws : List Want) (b : Bool) → nat_lt w.tick until ≡ b → (want_turn until q w ws).event ≡ None → until ≤ w.tick
 stays_by until q w ws false is h = grind (arith, nat_tests)
 stays_by until q w ws true is h = absurd (let x = rw is at h in cc)
 

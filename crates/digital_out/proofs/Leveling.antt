@@ -15,6 +15,8 @@ use Rattle.digital_out.specs.Rising.{WantsRiseFrom}
 use Rattle.digital_out.specs.Calls.{AreFair, OutputCall, Push, Advance, accepted_wants, accepted_by, accepted_one, after_call, after_all, after_push, event_items, made, made_one, new_queue, call_time}
 use Rattle.digital_out.specs.Levels.{first_miss, last_level, level_at, level_unless, missed_at, missed_by}
 use Rattle.digital_out.specs.Outputs.{Output, Turn, comes_late, event_next, event_of, is_too_close, miss_turn, missed_of, not_behind, pushed, pushed_at, turn_by, output_turn, want_turn, with_time, with_want}
+use Rattle.plan_types.proofs.Facts.{second_of_neither}
+use Rattle.digital_out.proofs.Carrying.{stays_by}
 
 -- a queue that was not missed goes on as its commands do: with the level and the tick of the last one that was carried out, and
 -- those that pend
@@ -68,10 +70,6 @@ rise_more (p ∷ ps) w far rise =
     let e : length (p ∷ ps) - 1 ≡ length ps = omega arith in
     last_above p ps w (subst (λ (n : ℕ). not_behind (slice_get (p ∷ ps) n) w.tick ≡ false) e far) rise.1 0 rise.0
 
-neither : (a b : Bool) → (a || b) ≡ false → b ≡ false
-neither true b h = absurd (true≢false h)
-neither false b h = h
-
 -- one command more
 goes_more : (q : Output) (all : List Want) (now : ℕ) (w : Want) → q.time ≤ now → not_behind (last_item q.pending) w.tick ≡ false → GoesOn q all → GoesOn (with_want q now w) (all ++ w ∷ [])
 goes_more q all now w le far on = record {
@@ -87,7 +85,7 @@ PushStands q all at level r = GoesOn (after_push q r) (all ++ accepted_by at lev
 push_close : (q : Output) (all : List Want) (now at : ℕ) (level : Bool) (b : Bool) → is_too_close q.pending now at ≡ b → q.time ≤ now → q.missed ≡ false → GoesOn q all
     → PushStands q all at level (cond b (Err TooClose) (Ok (with_want q now (record { tick = at; on = level }))))
 push_close q all now at level true is le well on = (subst (λ (ws : List Want). GoesOn q ws) (sym (append-nil all)) on, well)
-push_close q all now at level false is le well on = (goes_more q all now (record { tick = at; on = level }) le (neither (nat_lt at now) (not_behind (last_item q.pending) at) is) on, well)
+push_close q all now at level false is le well on = (goes_more q all now (record { tick = at; on = level }) le (second_of_neither (nat_lt at now) (not_behind (last_item q.pending) at) is) on, well)
 
 push_full : (q : Output) (all : List Want) (now at : ℕ) (level : Bool) (b : Bool) → q.time ≤ now → q.missed ≡ false → GoesOn q all
     → PushStands q all at level (cond b (Err Overflow) (cond (is_too_close q.pending now at) (Err TooClose) (Ok (with_want q now (record { tick = at; on = level })))))
@@ -279,10 +277,6 @@ miss_quiet : (until : ℕ) (q : Output) (miss : Option ℕ) → (miss_turn until
 miss_quiet until q None h = refl
 miss_quiet until q (Some at) h = before_late until at (miss_past_by until at q (nat_lt at until) refl h)
 
-want_past_by : (until : ℕ) (q : Output) (w : Want) (ws : List Want) (b : Bool) → nat_lt w.tick until ≡ b → (want_turn until q w ws).event ≡ None → until ≤ w.tick
-want_past_by until q w ws true is h = absurd (let x = rw is at h in cc)
-want_past_by until q w ws false is h = grind (arith, nat_tests)
-
 late_past : (until : ℕ) (q : Output) (miss : Option ℕ) (tick : ℕ) → comes_late miss tick ≡ true → (miss_turn until q miss).event ≡ None → until ≤ tick
 late_past until q None tick late h = absurd (true≢false (sym late))
 late_past until q (Some at) tick late h = let le = miss_past_by until at q (nat_lt at until) refl h in let lt : at < tick = grind (arith, nat_tests) in omega (arith, le, lt)
@@ -303,7 +297,7 @@ quiet_late until q w ws true is rise h =
 quiet_late until q w ws false is rise h =
     let miss = missed_of q.max q.level q.last in
     let here : (want_turn until q w ws).event ≡ None = sym (ap (λ (x : Bool). (cond x (miss_turn until q miss) (want_turn until q w ws)).event) is) ∙ h in
-    let le = want_past_by until q w ws (nat_lt w.tick until) refl here in
+    let le = stays_by until q w ws (nat_lt w.tick until) refl here in
     (subst (λ (x : Bool). tick_before until (cond x miss (first_miss q.max w.on w.tick ws)) ≡ None) (sym is) (none_from until q.max w.tick w.on ws le (drop_first w.tick w.tick ws (omega arith) rise.1)), stays until q.level w ws le)
 
 quiet_of : (until : ℕ) (q : Output) (pending : List Want) → WantsRiseFrom 0 pending → (turn_by until q (missed_of q.max q.level q.last) pending).event ≡ None → Quiet until q pending

@@ -19,10 +19,8 @@ use Rattle.frame_dump.specs.declared.trace.TraceTurn.{TraceTurn}
 use Rattle.frame_dump.specs.Things.{HasNumber, Thing, AreIn, AreThings, all_taken, is_taken, taken_behind}
 use Rattle.frame_dump.specs.Dumps.{AddsLines, AreContent, IsBlockIn, IsDump, ShowAll, Shows, end_behind, open_lines}
 use Rattle.frame_dump.specs.Sofar.{DumpSofar, LineSofar, ListsLine}
-
--- what is left of a list behind its first elements
-pub rest_all : {X : Type 0} → (n : ℕ) (xs : List X) → take (length xs - n) (drop n xs) ≡ drop n xs
-rest_all n xs = rw (← length-drop n xs) (take-length (drop n xs))
+use Rattle.block_frame.proofs.Only.{needs_none}
+use Rattle.msg_code.proofs.Parameters.{rest_all}
 
 -- a content
 pub content_none : (es : List Named) (content : List ℕ) (xs : List DumpLine) → content ≡ [] → AddsLines (AreContent es content) xs xs
@@ -131,10 +129,6 @@ line_more es turn taken d d1 d2 bytes xs ys zs at count end end' f h scans other
       number = numbers k h.number ∙ ap (λ (n : ℕ). n % 16) (sym (taken_append taken h.things (t ∷ [])));
       added = one.2 ∙ ap (λ (l : List DumpLine). l ++ one.0) h.added ∙ append_assoc xs h.lines one.0;
     }
-
-needs_none : (d : Bool) (bytes : List ℕ) (count : ℕ) (drops : Bool) → Scans d bytes NeedMore count drops → count ≡ 0
-needs_none false bytes count drops s = s.1
-needs_none true bytes count drops s = s.1
 
 pub line_end : (es : List Named) (turn taken : ℕ) (d d1 d2 : Bool) (bytes : List ℕ) (xs ys : List DumpLine) (at count end : ℕ) → LineSofar es turn taken d bytes xs at d1 end ys
     → Scans d1 (drop at bytes) NeedMore count d2 → ListsLine es turn taken d bytes xs (drop at bytes) d2 end ys

@@ -4,11 +4,11 @@ use Rattle.std.specs.Prelude.{Result, Ok, Err}
 use Rattle.std.proofs.lemmas.Bool.Decides.{nat_tests}
 use Rattle.plan_types.specs.Numbers.{is_above}
 use Rattle.text_core.specs.Bytes.{Text}
-use Rattle.frame_dump.proofs.Dumping.{rest_all}
 use Rattle.frame_dump.specs.declared.fault.TraceFault.{TraceFault}
 use Rattle.frame_dump.specs.declared.trace.TraceTurn.{TraceTurn}
 use Rattle.frame_dump.specs.Traces.{AreTurns, before_bytes, byte_of, hex_bytes, hex_value, rising, trace_turn, turns_from, with_first}
 use Rattle.frame_dump.specs.Sofar.{BytesSofar, low_after, low_behind, with_bytes, with_turns}
+use Rattle.msg_code.proofs.Parameters.{rest_all}
 
 start : (o : Option (List ℕ)) → with_bytes [] o ≡ o
 start None = refl

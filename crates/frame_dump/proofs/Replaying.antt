@@ -20,14 +20,16 @@ use Rattle.msg_dict.specs.Dictionary.{Named}
 use Rattle.msg_code.specs.declared.cmd.Cmd.{Cmd}
 use Rattle.board_sim.specs.Rig.{Rig, new_rig, passes, takes_all}
 use Rattle.board_sim.specs.Turn.{AreHeard, Expected, Heard, Holds, IsHeard, IsTurn, Noise, Other, Simulated, Station, accepted_commands, expected_after, hears_all}
-use Rattle.board_sim.proofs.Hearing.{expected_is, takes_some}
+use Rattle.board_sim.proofs.Hearing.{expected_is, takes_some, expected_append}
 use Rattle.board_sim.proofs.Heeding.{heeds_all}
 use Rattle.frame_dump.specs.declared.trace.TraceTurn.{TraceTurn}
 use Rattle.frame_dump.specs.Things.{Thing, AreIn, all_taken, is_taken, taken_behind}
 use Rattle.frame_dump.specs.Traces.{AreTurns}
 use Rattle.frame_dump.specs.Replays.{AreGiven, Given, GiveAll, Gives, GivesContent, IsReplay, Played, plays, plays_to, with_pulses}
 use Rattle.frame_dump.specs.Played.{PlayedSofar, PlaysTurn, StandsAt, run_until, plays_on}
-use Rattle.frame_dump.proofs.Dumping.{next_number, rest_all, split, at_end}
+use Rattle.frame_dump.proofs.Dumping.{next_number, split, at_end}
+use Rattle.plan_types.proofs.Facts.{is_equal, not_equal}
+use Rattle.msg_code.proofs.Parameters.{rest_all}
 
 -- what was found, with how many bytes each thing takes
 abbrev founds : List Thing → List Found
@@ -58,18 +60,6 @@ accepted_append (Expected cs ∷ xs) ys = ap (λ (l : List Cmd). cs ++ l) (accep
 accepted_append (Other ∷ xs) ys = accepted_append xs ys
 accepted_append (Noise ∷ xs) ys = accepted_append xs ys
 
-expected_append : (n : ℕ) (xs ys : List Heard) → expected_after n (xs ++ ys) ≡ expected_after (expected_after n xs) ys
-expected_append n [] ys = refl
-expected_append n (Expected cs ∷ xs) ys = expected_append ((n + 1) % 16) xs ys
-expected_append n (Other ∷ xs) ys = expected_append n xs ys
-expected_append n (Noise ∷ xs) ys = expected_append n xs ys
-
-test_true : (n m : ℕ) → n ≡ m → (n == m) ≡ true
-test_true n m e = grind (arith, nat_tests)
-
-test_false : (n m : ℕ) → (n ≡ m → ⊥) → (n == m) ≡ false
-test_false n m e = grind (arith, nat_tests)
-
 -- what a thing gives, and how many blocks are taken behind it
 record Heeds (taken e : ℕ) (f : Found) (hs : List Heard) : Type 0 where
   gives : Gives own_formats taken f (accepted_commands hs)
@@ -77,7 +67,7 @@ record Heeds (taken e : ℕ) (f : Found) (hs : List Heard) : Type 0 where
 
 heeds : (taken e : ℕ) (f : Found) (hs : List Heard) → e ≡ taken % 16 → IsHeard e f hs → Heeds taken e f hs
 heeds taken e (Block number content) hs same (inl (is, cs, holds, heard)) =
-    let test : is_taken taken number ≡ true = test_true number (taken % 16) (is ∙ same) in
+    let test : is_taken taken number ≡ true = is_equal number (taken % 16) (is ∙ same) in
     let commands : accepted_commands hs ≡ cs = ap accepted_commands heard ∙ append-nil cs in
     let At : Bool → Type 0 = λ b. GivesContent own_formats b content.items (accepted_commands hs) in
     let Of : List Cmd → Type 0 = λ l. Holds own_formats content.items l in
@@ -86,7 +76,7 @@ heeds taken e (Block number content) hs same (inl (is, cs, holds, heard)) =
       number = ap (expected_after e) heard ∙ ap (λ (n : ℕ). (n + 1) % 16) same ∙ next_number taken ∙ ap (λ (b : Bool). cond b (taken + 1) taken % 16) (sym test);
     }
 heeds taken e (Block number content) hs same (inr (other, heard)) =
-    let test : is_taken taken number ≡ false = test_false number (taken % 16) (λ k. other (k ∙ sym same)) in
+    let test : is_taken taken number ≡ false = not_equal number (taken % 16) (λ k. other (k ∙ sym same)) in
     let At : Bool → Type 0 = λ b. GivesContent own_formats b content.items (accepted_commands hs) in
     record {
       gives = subst At (sym test) (ap accepted_commands heard);

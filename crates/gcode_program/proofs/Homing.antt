@@ -15,9 +15,7 @@ use Rattle.gcode_state.specs.declared.state.State.{State}
 use Rattle.gcode_state.specs.Sound.{IsSound, IsWithin}
 use Rattle.gcode_state.specs.States.{coordinates_of}
 use Rattle.gcode_program.specs.Homes.{IsRoom, homing_from, homing_move, homing_run, is_positive, placed_on, stood}
-
-near : (n m : ℕ) (z : ℤ) → n ≤ m → IsWithin n z → unsigned_abs z ≤ m
-near n m z h w = omega (arith, ints, w.below, w.above)
+use Rattle.gcode_state.proofs.ValidMoves.{near}
 
 below_four : (P : ℕ → Type 0) → P 0 → P 1 → P 2 → P 3 → (k : ℕ) → k < 4 → P k
 below_four P a b c d zero h = a
@@ -89,7 +87,7 @@ gone : (b : Bool) (e : ℤ) (r : ℕ) → unsigned_abs (e -ℤ (if b then e -ℤ
 gone true e r = omega (arith, ints)
 gone false e r = omega (arith, ints)
 
-still : (x : ℤ) → unsigned_abs (x -ℤ x) ≡ 0
+pub still : (x : ℤ) → unsigned_abs (x -ℤ x) ≡ 0
 still x = omega (arith, ints)
 
 from_near : (b : Bool) (e : ℤ) (r : ℕ) → unsigned_abs e ≤ 500_000_000 → r ≤ 1_500_000_000 → unsigned_abs (if b then e -ℤ pos r else e +ℤ pos r) ≤ 2 ^ 60

@@ -13,6 +13,7 @@ use Rattle.gcode_state.specs.declared.state.StateFault.{StateFault}
 use Rattle.gcode_state.specs.declared.state.StateFault.TheVariants.{OutOfRange, NotHomed, BadSpeed, MoveTooLong, TooMany}
 use Rattle.gcode_state.specs.Sound.{IsWithin, IsSteady, IsSound}
 use Rattle.gcode_state.specs.States.{differs, is_slow, is_any_unhomed, is_any_outside, is_long, is_too_many, target_of, is_outside, is_unhomed, placed, first_that_holds, move_fault, moves, moved, aim_of, e_target_of, speed_of, stretched, given_number}
+use Rattle.plan_types.proofs.Facts.{not_less}
 
 -- no test of the list holds
 pub record NoFault (s : State) (aim : Aim) : Type 0 where
@@ -33,9 +34,6 @@ none_of false false false false false f g h i j none = (refl, refl, refl)
 sides_of : (a b c : Bool) → (a || (b || c)) ≡ false → (a ≡ false) × (b ≡ false) × (c ≡ false)
 sides_of a b c h = grind (arith, nat_tests)
 
-not_above : (m n : ℕ) → nat_lt m n ≡ false → n ≤ m
-not_above m n h = grind (arith, nat_tests)
-
 below : (t : Bool) (m n : ℕ) → (t && nat_le m n) ≡ false → t ≡ true → n < m
 below t m n h moving = grind (arith, nat_tests)
 
@@ -51,7 +49,7 @@ unfolding move_fault is_any_outside is_long is_too_many
 no_fault s aim has_feed h =
     let none = none_of (is_slow s aim has_feed) (is_any_unhomed s aim) (is_any_outside s aim) (is_long s aim) (is_too_many s aim) BadSpeed NotHomed OutOfRange MoveTooLong TooMany h in
     let sides = sides_of (is_outside s.x aim.x) (is_outside s.y aim.y) (is_outside s.z aim.z) none.0 in
-    record { x = sides.0; y = sides.1; z = sides.2; short = not_above 500000000 (unsigned_abs (aim.e.at -ℤ s.e_at)) none.1; room = λ moving. below (moves s aim) 2000000 s.count none.2 moving }
+    record { x = sides.0; y = sides.1; z = sides.2; short = not_less 500000000 (unsigned_abs (aim.e.at -ℤ s.e_at)) none.1; room = λ moving. below (moves s aim) 2000000 s.count none.2 moving }
 
 -- a coordinate that no fault names stays in its range
 pub steady_behind : (axis : Axis) (target : Target) → IsSteady axis → is_outside axis target ≡ false → target.reads -ℤ target.at ≡ axis.reads -ℤ axis.at → IsSteady (placed axis target)

@@ -20,7 +20,7 @@ use Rattle.gcode_state.proofs.Accepted.{no_fault}
 pub apart_small : (n : ℕ) (a b : ℤ) → IsWithin n a → IsWithin n b → unsigned_abs (b -ℤ a) ≤ 2 * n
 apart_small n a b ha hb = omega (arith, ints, ha.below, ha.above, hb.below, hb.above)
 
-near : (n m : ℕ) (z : ℤ) → n ≤ m → IsWithin n z → unsigned_abs z ≤ m
+pub near : (n m : ℕ) (z : ℤ) → n ≤ m → IsWithin n z → unsigned_abs z ≤ m
 near n m z h w = omega (arith, ints, w.below, w.above)
 
 -- what is not apart does not differ

@@ -21,18 +21,15 @@ use Rattle.bed_mesh.specs.Files.{mesh_code, mesh_end}
 use Rattle.plan_types.specs.declared.plan.ReadEnd.{ReadEnd}
 use Rattle.laws_report.specs.reports.Body.{cause_of}
 use Rattle.host_cli.proofs.Scened.{NoMachine}
-
--- a table that is too long is told by one byte more
-is-large-table : (n : ℕ) → 1_048_576 < n → nat_lt 1_048_576 n ≡ true
-is-large-table n h = grind (arith, nat_tests)
+use Rattle.host_cli.proofs.Cuts.{is-large}
 
 pub table-cut : (t : List ℕ) → tables.mesh_of_text (take (1_048_576 + 1) t) ≡ tables.mesh_of_text t
 unfolding tables.mesh_of_text
 table-cut t = elim (cases_lt 1_048_576 (length t)) [
   | inl large ↦ (
       let count : length (take 1_048_577 t) ≡ 1_048_577 = length-take-le 1_048_577 t (omega arith) in
-      let one = is-large-table (length (take 1_048_577 t)) (omega arith) in
-      let two = is-large-table (length t) large in
+      let one = is-large (length (take 1_048_577 t)) (omega arith) in
+      let two = is-large (length t) large in
       rw (one, two) refl)
   | inr small ↦ ap tables.mesh_of_text (take_all 1_048_577 t (omega arith))
 ]

@@ -25,6 +25,7 @@ use Rattle.host_cli.specs.Promises.{EndsBeforeRun, IsRefused}
 use Rattle.session_run.specs.Reported.{GivenFor}
 use Rattle.host_cli.specs.Traffic.{EndsCleanly, IsTraceFault, IsTraceIn, IsTrafficText, ShowsTraffic, board_named, with_end}
 use Rattle.host_cli.proofs.Scened.{any-refused, for-refused}
+use Rattle.host_cli.proofs.Cuts.{is-large-scene}
 
 -- what is written, one part behind the other
 pub writes-both : (old mid new : Option (List ℕ)) (x y : List ℕ) → WritesAll old mid x → WritesAll mid new y → WritesAll old new (x ++ y)
@@ -40,17 +41,13 @@ front-both old mid new x y first second = λ before b.
     let s = second (before ++ x) (first before b) in
     (x ++ s.0, s.1 ∙ ap Some (append_assoc before x s.0), (s.2.0, ap (λ (l : List ℕ). x ++ l) s.2.1 ∙ sym (append_assoc x s.0 s.2.0)))
 
--- a trace that is too long is told by one byte more
-is-large-trace : (n : ℕ) → 16_777_216 < n → nat_lt 16_777_216 n ≡ true
-is-large-trace n h = grind (arith, nat_tests)
-
 pub trace-cut : (t : List ℕ) → traces.trace_of_text (take (16_777_216 + 1) t) ≡ traces.trace_of_text t
 unfolding traces.trace_of_text
 trace-cut t = elim (cases_lt 16_777_216 (length t)) [
   | inl large ↦ (
       let count : length (take 16_777_217 t) ≡ 16_777_217 = length-take-le 16_777_217 t (omega arith) in
-      let one = is-large-trace (length (take 16_777_217 t)) (omega arith) in
-      let two = is-large-trace (length t) large in
+      let one = is-large-scene (length (take 16_777_217 t)) (omega arith) in
+      let two = is-large-scene (length t) large in
       rw (one, two) refl)
   | inr small ↦ ap traces.trace_of_text (take_all 16_777_217 t (omega arith))
 ]

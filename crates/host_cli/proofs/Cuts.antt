@@ -8,7 +8,7 @@ use Rattle.cfg_text.specs.Reading.{machine_of_text}
 use Rattle.plan_types.specs.declared.machine.Machine.{Machine}
 use Rattle.wire_scene.specs.Reading as scenes
 
-is-large : (n : ℕ) → 1_048_576 < n → nat_lt 1_048_576 n ≡ true
+pub is-large : (n : ℕ) → 1_048_576 < n → nat_lt 1_048_576 n ≡ true
 is-large n h = grind (arith, nat_tests)
 
 -- of a configuration that is too large, no more than one byte too many need be read
@@ -31,7 +31,7 @@ text-cut t h = take_all 4_611_686_018_427_387_904 t (omega arith)
 pub first-name : (x y : List ℕ × List ℕ) → Some x ≡ Some y → x.0 ≡ y.0
 first-name x y e = let same : x ≡ y = cc in ap (λ (p : List ℕ × List ℕ). p.0) same
 
-is-large-scene : (n : ℕ) → 16_777_216 < n → nat_lt 16_777_216 n ≡ true
+pub is-large-scene : (n : ℕ) → 16_777_216 < n → nat_lt 16_777_216 n ≡ true
 is-large-scene n h = grind (arith, nat_tests)
 
 -- nor of a scene

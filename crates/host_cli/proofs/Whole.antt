@@ -17,12 +17,12 @@ use Rattle.session_run.specs.Ends.{IsBare, status_of}
 use Rattle.session_run.specs.Reported.{GivenFor, IsOfRun, with_failure}
 
 -- behind a write that failed
-failure-is : (own : Cause) → (with_failure own ≡ cause.Memory) ⊎ (with_failure own ≡ cause.WriteFault)
-failure-is cause.Memory = inl refl
-failure-is _ = inr refl
+failure_is : (own : Cause) → (with_failure own ≡ cause.Memory) ⊎ (with_failure own ≡ cause.WriteFault)
+failure_is cause.Memory = inl refl
+failure_is _ = inr refl
 
-pub failed-as : (own given : Cause) → given ≡ with_failure own → (given ≡ cause.Memory) ⊎ (given ≡ cause.WriteFault)
-failed-as own given e = ⊎_elim (λ x. inl (e ∙ x)) (λ x. inr (e ∙ x)) (failure-is own)
+failed_as : (own given : Cause) → given ≡ with_failure own → (given ≡ cause.Memory) ⊎ (given ≡ cause.WriteFault)
+failed_as own given e = ⊎_elim (λ x. inl (e ∙ x)) (λ x. inr (e ∙ x)) (failure_is own)
 
 pub given-for : (own given : Cause) (before after : ℕ) → EndsAs own before after given → GivenFor own given
 given-for own given before after (inl e) = inl e.0
@@ -35,7 +35,7 @@ alone-cause c old new given shown x = by x.given_is where
   by : GivenFor c given → IsCauseOf c given
   by (inl e) = inl e
   by (inr (inl e)) = inr (inl e)
-  by (inr (inr e)) = ⊎_elim (λ m. inr (inl m)) (λ w. inr (inr (inr w))) (failed-as c given e)
+  by (inr (inr e)) = ⊎_elim (λ m. inr (inl m)) (λ w. inr (inr (inr w))) (failed_as c given e)
 
 pub for-cause : (c : Cause) (old new : Option (List ℕ)) (given : Cause) (shown : Report) → EndsBeforeRun c old new given shown → IsCauseOf c given
 for-cause c old new given shown (inl x) = alone-cause c old new given shown x
@@ -96,7 +96,7 @@ module _ (a : Answer) (shown : Report) (old new : Option (List ℕ)) (given : Ca
 pub own-of : (own given wanted : Cause) (before after : ℕ) → EndsAs own before after given → given ≡ wanted → (cause.Memory ≡ wanted → ⊥) → (cause.WriteFault ≡ wanted → ⊥) → own ≡ wanted
 own-of own given wanted before after (inl e) is memory write = sym e.0 ∙ is
 own-of own given wanted before after (inr (inl e)) is memory write = absurd (memory (sym e ∙ is))
-own-of own given wanted before after (inr (inr e)) is memory write = absurd (⊎_elim (λ x. memory (sym x ∙ is)) (λ x. write (sym x ∙ is)) (failed-as own given e.0))
+own-of own given wanted before after (inr (inr e)) is memory write = absurd (⊎_elim (λ x. memory (sym x ∙ is)) (λ x. write (sym x ∙ is)) (failed_as own given e.0))
 
 -- a write that failed was counted
 pub write-rose : (own given : Cause) (before after : ℕ) → (own ≡ cause.WriteFault → ⊥) → EndsAs own before after given → given ≡ cause.WriteFault → Rose before after
@@ -108,7 +108,7 @@ write-rose own given before after other (inr (inr e)) is = e.1
 pub quiet-output : (own given : Cause) (before after : ℕ) → EndsAs own before after given → given ≢ cause.WriteFault → given ≢ cause.Memory → after ≡ before
 quiet-output own given before after (inl e) write memory = e.1
 quiet-output own given before after (inr (inl e)) write memory = absurd (memory e)
-quiet-output own given before after (inr (inr e)) write memory = absurd (⊎_elim memory write (failed-as own given e.0))
+quiet-output own given before after (inr (inr e)) write memory = absurd (⊎_elim memory write (failed_as own given e.0))
 
 -- how a command ends that shows its answer
 pub cleanly : (f0 f1 s0 s1 status : ℕ) (own given : Cause) → status ≡ status_of given → EndsAs own s0 s1 given → own ≢ cause.Usage → own ≢ cause.WriteFault → (own ≡ cause.ReadFault → Rose f0 f1) → (own ≢ cause.ReadFault → own ≢ cause.Memory → f1 ≡ f0)
@@ -123,7 +123,7 @@ cleanly f0 f1 s0 s1 status own given is ends named unwritten read still = record
 }
   where
     as-own : given ≢ cause.WriteFault → given ≢ cause.Memory → given ≡ own
-    as-own w m = ⊎_elim (λ e. e.0) (λ x. absurd (⊎_elim m (λ e. ⊎_elim m w (failed-as own given e.0)) x)) ends
+    as-own w m = ⊎_elim (λ e. e.0) (λ x. absurd (⊎_elim m (λ e. ⊎_elim m w (failed_as own given e.0)) x)) ends
 
 -- a run's cause says that a machine was there
 pub of-machine : (c : Cause) → IsOfRun c → IsRunCause c
@@ -134,7 +134,7 @@ of-machine c i = tt
 pub given-machine : (own given : Cause) (before after : ℕ) → IsRunCause own → EndsAs own before after given → IsRunCause given
 given-machine own given before after is (inl e) = subst IsRunCause (sym e.0) is
 given-machine own given before after is (inr (inl e)) = subst IsRunCause (sym e) tt
-given-machine own given before after is (inr (inr e)) = by (failed-as own given e.0) where
+given-machine own given before after is (inr (inr e)) = by (failed_as own given e.0) where
   by : (given ≡ cause.Memory) ⊎ (given ≡ cause.WriteFault) → IsRunCause given
   by (inl x) = subst IsRunCause (sym x) tt
   by (inr x) = subst IsRunCause (sym x) tt

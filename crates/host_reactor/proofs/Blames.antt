@@ -116,17 +116,17 @@ phases Running m switches r k states lines =
 phases (Stopping line) m switches r k states lines = late-stale (stale k 0 (listen_all r.askings.items states)) m r k lines line (stale-own k 0 (listen_all r.askings.items states))
 
 -- what a note tells isn't what the reactor is told to stop for
-told-stays : (m : Machine) (r : Known) (n : NoteNews) → (known_behind m r n).stopped ≡ r.stopped
+pub told-stays : (m : Machine) (r : Known) (n : NoteNews) → (known_behind m r n).stopped ≡ r.stopped
 told-stays m r (news.Start section kind turn last moving) = refl
 told-stays m r (news.Done section turn) = refl
 told-stays m r (news.Read end sections) = refl
 told-stays m r (news.Line board line from) = refl
 
-all-stay : (m : Machine) (ns : List NoteNews) (r : Known) → (told_all m ns r).stopped ≡ r.stopped
+pub all-stay : (m : Machine) (ns : List NoteNews) (r : Known) → (told_all m ns r).stopped ≡ r.stopped
 all-stay m [] r = refl
 all-stay m (n ∷ ns) r = all-stay m ns (known_behind m r n) ∙ told-stays m r n
 
-note-stays : (m : Machine) (note : Option Note) (r : Known) → (noted m note r).stopped ≡ r.stopped
+pub note-stays : (m : Machine) (note : Option Note) (r : Known) → (noted m note r).stopped ≡ r.stopped
 note-stays m None r = refl
 note-stays m (Some note) r = all-stay m note.news r
 

@@ -36,6 +36,7 @@ use Rattle.host_reactor.specs.Report.{first_lines}
 use Rattle.host_reactor.specs.Running.{first_cause, is_finished, stop_of}
 use Rattle.host_reactor.specs.Reactor.{Reacted, new_askings, asks_boards, is_connected_now, unless_given_up, cut_line, carries_on, phase_after, finishes, unless_homing_ends, after_homing, unless_stale, unless_late_stale, by_phase, unless_ended, reacts}
 use Rattle.host_reactor.specs.Runs.{Came, known_by, last_reacted, GoesOn, HaveStates, state_at, told_by}
+use Rattle.plan_types.proofs.Facts.{first_of_both, second_of_both}
 
 abbrev end_of : Reacted → Option Cause
 end_of x = x.ordered.end
@@ -97,7 +98,7 @@ connecting-turn m switches r k states note p h =
 abbrev NotConnecting : Reacted → Type 0
 NotConnecting x = x.known.phase ≡ Connecting → ⊥
 
-stop-phase : (o : Option ℕ) → phase_after o ≡ Connecting → ⊥
+pub stop-phase : (o : Option ℕ) → phase_after o ≡ Connecting → ⊥
 stop-phase None e = cc
 stop-phase (Some line) e = cc
 
@@ -214,25 +215,17 @@ behind-now m b (d ∷ boards) c before h l =
     both-of _ _ _ _ (ap (λ (n : ℕ). asking_in_turn (configuration m b) n (heard (configuration m b) (told_by b (c ∷ before)))) (sym (told-length m b c before h (omega arith))))
     (behind-now m (b + 1) boards c before h (omega arith))
 
-and-first : (a b : Bool) → (a && b) ≡ true → a ≡ true
-and-first true b h = refl
-and-first false b h = cc
-
-and-second : (a b : Bool) → (a && b) ≡ true → b ≡ true
-and-second true b h = h
-and-second false b h = cc
-
 all-said : (m : Machine) (b : ℕ) (boards : List BoardDef) (came : List Came) → all_connected (heard_from m b boards came) ≡ true → (i : ℕ) → i < length boards → OnceConfigured (told_by (b + i) came)
 all-said m b [] came h i l = absurd (omega arith)
 all-said m b (d ∷ boards) came h zero l =
     let a = heard (configuration m b) (told_by b came) in
     let e : b ≡ b + 0 = omega arith in
-    subst (λ (n : ℕ). OnceConfigured (told_by n came)) e (once-configured (configuration m b) (told_by b came) (and-first (is_connected a.stage) (all_connected (heard_from m (b + 1) boards came)) h))
+    subst (λ (n : ℕ). OnceConfigured (told_by n came)) e (once-configured (configuration m b) (told_by b came) (first_of_both (is_connected a.stage) (all_connected (heard_from m (b + 1) boards came)) h))
 all-said m b (d ∷ boards) came h (suc i) l =
     let a = heard (configuration m b) (told_by b came) in
     let e : b + 1 + i ≡ b + suc i = omega arith in
     subst (λ (n : ℕ). OnceConfigured (told_by n came)) e
-    (all-said m (b + 1) boards came (and-second (is_connected a.stage) (all_connected (heard_from m (b + 1) boards came)) h) i (omega arith))
+    (all-said m (b + 1) boards came (second_of_both (is_connected a.stage) (all_connected (heard_from m (b + 1) boards came)) h) i (omega arith))
 
 once-more : (xs ys : List State) → OnceConfigured ys → OnceConfigured (xs ++ ys)
 once-more [] ys h = h
@@ -248,7 +241,7 @@ Holds m r came =
     ((r.phase ≡ Connecting) × (r.askings.items ≡ askings_from m 0 m.boards came))
     ⊎ ((r.phase ≡ Connecting → ⊥) × ((b : ℕ) → b < length m.boards → OnceConfigured (told_by b came)))
 
-not-running : (p : Phase) → p ≡ Running → p ≡ Connecting → ⊥
+pub not-running : (p : Phase) → p ≡ Running → p ≡ Connecting → ⊥
 not-running Connecting e f = cc
 not-running Running e f = cc
 not-running (Stopping line) e f = cc

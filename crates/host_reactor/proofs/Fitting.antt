@@ -35,7 +35,7 @@ use Rattle.axis_homing.specs.declared.homing.Homing.{Homing}
 use Rattle.axis_homing.specs.declared.homing.HomingTurn.{HomingTurn}
 use Rattle.axis_homing.specs.Homing.{by_answer, answer_in, hears_all, homing_turn}
 use Rattle.axis_homing.specs.Rising.{HomingRises, IsRising}
-use Rattle.axis_homing.proofs.Room.{fits}
+use Rattle.axis_homing.proofs.Room.{fits, bytes-append}
 use Rattle.axis_homing.proofs.Rises.{hears-rises, homing-rises, started-rises}
 use Rattle.host_reactor.specs.declared.ordered.Known.{Known}
 use Rattle.host_reactor.specs.declared.ordered.Phase.{Phase}
@@ -46,6 +46,7 @@ use Rattle.host_reactor.specs.Running.{first_cause, is_finished, stop_of}
 use Rattle.host_reactor.specs.Reactor.{Reacted, plain_controls, ends, asks_boards, is_connected_now, homing_commands, stop_command, run_controls, unless_given_up, carries_on, finishes, unless_homing_ends, cut_line, after_homing, unless_stale, unless_late_stale, by_phase, unless_ended, reacts}
 use Rattle.host_reactor.specs.Runs.{Came, known_by, last_reacted}
 use Rattle.host_reactor.specs.Laws.{FitIn}
+use Rattle.plan_types.proofs.Facts.{second_of_both}
 
 -- askings
 kept-by : (c : Bool) (room : ℕ) (x : Cmd) (rest : List Setup) (s : Setup) → x ≡ setup_command s → nat_le (command_bytes x) room ≡ c → bytes_of (map setup_command rest) ≤ room - command_bytes x
@@ -105,17 +106,9 @@ asking : (m : Machine) (k b : ℕ) (askings : List Asking) → FitIn 42 (asking_
 asking m k b [] = tt
 asking m k b (a ∷ askings) = (asks-fit (configuration m b) k a a.stage, asking m k (b + 1) askings)
 
-bytes-append : (xs ys : List Cmd) → bytes_of (xs ++ ys) ≡ bytes_of xs + bytes_of ys
-bytes-append [] ys = omega arith
-bytes-append (x ∷ xs) ys = let h = bytes-append xs ys in omega arith
-
-and-second : (a b : Bool) → (a && b) ≡ true → b ≡ true
-and-second true b h = h
-and-second false b h = cc
-
 question-by : (c : Bool) (h : List Cmd) (a : Asking) → asks_now h a ≡ c → bytes_of h ≤ 42 → bytes_of h + bytes_of (cond c (cmd.GetUptime ∷ []) []) ≤ 42
 question-by true h a e f =
-    let l = ltb-true (bytes_of h) 42 (and-second a.waits (nat_lt (bytes_of h) 42) e) in
+    let l = ltb-true (bytes_of h) 42 (second_of_both a.waits (nat_lt (bytes_of h) 42) e) in
     let o = uptime-bytes in
     omega arith
 question-by false h a e f = omega arith

@@ -42,7 +42,7 @@ idle (Some h) = sending h []
 abbrev with_group : Homing → GroupState → Homing
 with_group h g = record h { group = g }
 
-not-yet : (k start : ℕ) (g : GroupState) → k < start → answer_in k start g ≡ None
+pub not-yet : (k start : ℕ) (g : GroupState) → k < start → answer_in k start g ≡ None
 not-yet k start g l = picked (nat_le start k) (ended g) None (grind (arith, nat_tests))
 
 turn-idle : (clocks : List Clocks) (k n : ℕ) (states : List State) (o : Option Homing) → AreOf k states → HomesFrom o (k + (n + 1)) → homing_turn clocks k states o ≡ idle o

@@ -36,7 +36,7 @@ asking : (m : Machine) (k b : ℕ) (askings : List Asking) → AskOnce (asking_c
 asking m k b [] = tt
 asking m k b (a ∷ askings) = (asks-few (configuration m b) k a a.stage, asking m k (b + 1) askings)
 
-stop-none : (stop : Bool) → uptimes (stop_command stop) ≡ 0
+pub stop-none : (stop : Bool) → uptimes (stop_command stop) ≡ 0
 stop-none true = refl
 stop-none false = refl
 

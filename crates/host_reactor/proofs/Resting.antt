@@ -19,7 +19,7 @@ pub picked : {A : Type 0} → (b : Bool) (x y : A) → b ≡ false → cond b x 
 picked false x y h = refl
 picked true x y h = cc
 
-since-kept : (turn : ℕ) (ns : List ℕ) (a : Asking) → (were_put turn ns a).since ≡ a.since
+pub since-kept : (turn : ℕ) (ns : List ℕ) (a : Asking) → (were_put turn ns a).since ≡ a.since
 since-kept turn [] a = refl
 since-kept turn (n ∷ ns) a = since-kept turn ns (was_put turn a n)
 

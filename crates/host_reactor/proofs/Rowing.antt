@@ -34,12 +34,12 @@ use Rattle.host_reactor.specs.Running.{first_cause, is_finished, stop_of}
 use Rattle.host_reactor.specs.Reactor.{Reacted, asks_boards, ends, is_connected_now, new_askings, new_known, plain_controls, stop_command, run_askings, run_controls, unless_given_up, carries_on, finishes, stops, unless_homing_ends, cut_line, after_homing, unless_stale, unless_late_stale, by_phase, unless_ended, reacts}
 
 -- how many there are
-listened : (askings : List Asking) (states : List State) → length (listen_all askings states) ≡ length askings
+pub listened : (askings : List Asking) (states : List State) → length (listen_all askings states) ≡ length askings
 listened [] states = refl
 listened (a ∷ askings) [] = let e = listened askings [] in ap suc e
 listened (a ∷ askings) (s ∷ states) = let e = listened askings states in ap suc e
 
-readied : (m : Machine) (b : ℕ) (askings : List Asking) → length (ready_all m b askings) ≡ length askings
+pub readied : (m : Machine) (b : ℕ) (askings : List Asking) → length (ready_all m b askings) ≡ length askings
 readied m b [] = refl
 readied m b (a ∷ askings) = ap suc (readied m (b + 1) askings)
 

@@ -26,8 +26,10 @@ use Rattle.host_reactor.specs.Reactor.{Reacted, given, homing_commands, run_cont
 use Rattle.host_reactor.specs.Free.{is_running, all_rest, any_drifts, is_quiet, Resting, AsksNone}
 use Rattle.host_reactor.specs.Calm.{homes_none, is_none, none_put, asks_some, is_calm, calm_controls}
 use Rattle.host_reactor.proofs.Resting.{picked, listens-put, none-stale, waits-same, none-new}
-use Rattle.host_reactor.proofs.Freed.{first-true, second-true, not-true, all-resting, running-is, none-drifts, and-false}
+use Rattle.host_reactor.proofs.Freed.{all-resting, running-is, none-drifts}
 use Rattle.host_reactor.proofs.Idle.{no-question}
+use Rattle.plan_types.proofs.Facts.{first_of_both, second_of_both, not_true}
+use Rattle.std.proofs.lemmas.Bool.{and_right}
 
 -- a turn in which nothing homes
 abbrev idle : HomingTurn
@@ -45,9 +47,9 @@ listened-same : (askings : List Asking) (states : List State) → Resting asking
 listened-same [] states h e = refl
 listened-same (a ∷ askings) [] h e = ap (λ (xs : List Asking). a ∷ xs) (listened-same askings [] h.2 refl)
 listened-same (a ∷ askings) (s ∷ states) h e =
-    let none = none-is s.asked (first-true (is_none s.asked) (none_put states) e) in
+    let none = none-is s.asked (first_of_both (is_none s.asked) (none_put states) e) in
     ap (λ (x : Asking). x ∷ listen_all askings states) (listens-put a s h.0 ∙ ap (λ (ns : List ℕ). were_put s.turn ns a) none)
-    ∙ ap (λ (xs : List Asking). a ∷ xs) (listened-same askings states h.2 (second-true (is_none s.asked) (none_put states) e))
+    ∙ ap (λ (xs : List Asking). a ∷ xs) (listened-same askings states h.2 (second_of_both (is_none s.asked) (none_put states) e))
 
 waiting-same : (m : Machine) (k b : ℕ) (askings : List Asking) → AsksNone m k → Resting askings → waiting m k b askings ≡ askings
 waiting-same m k b [] e h = refl
@@ -74,7 +76,7 @@ controls-calm m k b (c ∷ clocks) (a ∷ askings) h =
 -- no board is asked where none drifts, or the turn is no thousandth one
 none-asked : (d : Bool) (m : Machine) (k : ℕ) → any_drifts m.boards ≡ d → (d && (k % 1_000 == 0)) ≡ false → AsksNone m k
 none-asked false m k e h b = ap (λ (x : Bool). x && (k % 1_000 == 0)) (none-drifts m.boards b e)
-none-asked true m k e h b = and-false (drifts (board_at m b).drift) (k % 1_000 == 0) h
+none-asked true m k e h b = and_right (drifts (board_at m b).drift) (k % 1_000 == 0) h
 
 -- what is known, with some of it told anew
 abbrev rebuilt : Known → Phase → List Asking → Known
@@ -108,17 +110,17 @@ record Calms (m : Machine) (r : Known) (k : ℕ) (states : List State) : Type 0 
 
 calms : (m : Machine) (r : Known) (k : ℕ) (states : List State) → is_calm m r k states ≡ true → Calms m r k states
 calms m r k states h =
-    let quiet = first-true (is_quiet r) (homes_none r.homing && (none_put states && not (asks_some m k))) h in
-    let others = second-true (is_quiet r) (homes_none r.homing && (none_put states && not (asks_some m k))) h in
-    let rests = second-true (is_running r.phase) (all_rest r.askings.items && not (all_ended r.done r.reading)) quiet in
-    let last = second-true (homes_none r.homing) (none_put states && not (asks_some m k)) others in
+    let quiet = first_of_both (is_quiet r) (homes_none r.homing && (none_put states && not (asks_some m k))) h in
+    let others = second_of_both (is_quiet r) (homes_none r.homing && (none_put states && not (asks_some m k))) h in
+    let rests = second_of_both (is_running r.phase) (all_rest r.askings.items && not (all_ended r.done r.reading)) quiet in
+    let last = second_of_both (homes_none r.homing) (none_put states && not (asks_some m k)) others in
     record {
-      phase = running-is r.phase (first-true (is_running r.phase) (all_rest r.askings.items && not (all_ended r.done r.reading)) quiet);
-      resting = all-resting r.askings.items (first-true (all_rest r.askings.items) (not (all_ended r.done r.reading)) rests);
-      going = not-true (all_ended r.done r.reading) (second-true (all_rest r.askings.items) (not (all_ended r.done r.reading)) rests);
-      homing = homes-is r.homing (first-true (homes_none r.homing) (none_put states && not (asks_some m k)) others);
-      put = first-true (none_put states) (not (asks_some m k)) last;
-      asking = none-asked (any_drifts m.boards) m k refl (not-true (asks_some m k) (second-true (none_put states) (not (asks_some m k)) last));
+      phase = running-is r.phase (first_of_both (is_running r.phase) (all_rest r.askings.items && not (all_ended r.done r.reading)) quiet);
+      resting = all-resting r.askings.items (first_of_both (all_rest r.askings.items) (not (all_ended r.done r.reading)) rests);
+      going = not_true (all_ended r.done r.reading) (second_of_both (all_rest r.askings.items) (not (all_ended r.done r.reading)) rests);
+      homing = homes-is r.homing (first_of_both (homes_none r.homing) (none_put states && not (asks_some m k)) others);
+      put = first_of_both (none_put states) (not (asks_some m k)) last;
+      asking = none-asked (any_drifts m.boards) m k refl (not_true (asks_some m k) (second_of_both (none_put states) (not (asks_some m k)) last));
     }
 
 runs-calm : (m : Machine) (switches : List Switch) (r : Known) (k : ℕ) (states : List State) (lines : List ReportLine) → Calms m r k states → runs m switches r k states lines ≡ told_as r k (calm_controls k r.clocks r.askings.items) [] lines

@@ -8,7 +8,7 @@ use Rattle.link_core.specs.Host.{content_of, closes_last, given, acked_by, acked
 use Rattle.link_core.specs.Stands.{host_of, last_closes}
 use Rattle.link_core.proofs.Near.{Rise_within}
 
-last_closes_push : (closed : Bool) (bs : List (List Command)) (b : List Command) → last_closes closed (bs ++ b ∷ []) ≡ closes_last (last_closes closed bs) b
+pub last_closes_push : (closed : Bool) (bs : List (List Command)) (b : List Command) → last_closes closed (bs ++ b ∷ []) ≡ closes_last (last_closes closed bs) b
 last_closes_push closed [] b = refl
 last_closes_push closed (c ∷ bs) b = last_closes_push (closes_last closed c) bs b
 

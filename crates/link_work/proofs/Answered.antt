@@ -51,11 +51,11 @@ use Rattle.link_work.specs.Limits.{KeepsLimits, carried}
 use Rattle.link_work.specs.Blocks.{Hold}
 use Rattle.link_work.specs.Taking.{HasTaken}
 use Rattle.link_work.specs.Answers.{AnsweredSo, AreClear, IsAmong, IsAnswered, IsCalm, IsClear, IsInBlock, SentAll, TellSo}
-use Rattle.link_work.proofs.Blocks.{commands, count_all, count_first, count_in, count_queued, count_up, few_held}
+use Rattle.link_work.proofs.Blocks.{commands, count_all, count_first, count_in, count_queued, count_up, few_held, no_more}
 use Rattle.link_work.proofs.Bounds.{Goes, counted, idle_is, taken_by, total}
 use Rattle.link_work.proofs.Draining.{IsSound, Oldest, Parts, drained, drained_from, oldest_of, parts_of, quiet_longer, sound_turn}
 use Rattle.link_work.proofs.Hearing.{heard_append}
-use Rattle.link_work.proofs.Late.{first_sound, moved, no_more, queued_length, sound_along, taken_length, unmoved}
+use Rattle.link_work.proofs.Late.{first_sound, moved, queued_length, sound_along, taken_length}
 use Rattle.link_work.proofs.Limits.{limits_few}
 use Rattle.link_work.proofs.OnLines.{AllLast}
 use Rattle.link_work.proofs.Parts.{board_ticked, host_tick, starts_in_time, ticks_rise}
@@ -63,9 +63,10 @@ use Rattle.link_work.proofs.Reaching.{heard_as}
 use Rattle.link_work.proofs.Saying.{SaysAt, among_right, board_says}
 use Rattle.link_work.proofs.Steps.{all_append, all_come, come_holds, tick_held}
 use Rattle.link_work.proofs.Turns.{QueuesNone, comes_queue_none, none_queued, turns_are_steps}
+use Rattle.board_world.proofs.Resending.{same_sum}
 
 -- what is due is heard
-due_if : (b : Bool) (c : Copy) (cs rest : List Copy) → (if b then rest else c ∷ cs) ≡ [] → (b ≡ true) × (rest ≡ [])
+pub due_if : (b : Bool) (c : Copy) (cs rest : List Copy) → (if b then rest else c ∷ cs) ≡ [] → (b ≡ true) × (rest ≡ [])
 due_if true c cs rest e = (refl, e)
 due_if false c cs rest e = absurd (omega (arith, ap length e))
 
@@ -75,7 +76,7 @@ first_heard Lost r rs h f e = cc
 first_heard Stays r rs h f e = cc
 first_heard Garbled r rs h f e = cc
 
-heard_both : (turn : ℕ) (c : Copy) (cs : List Copy) (h : Core) → nat_le c.due turn ≡ true
+pub heard_both : (turn : ℕ) (c : Copy) (cs : List Copy) (h : Core) → nat_le c.due turn ≡ true
     → heard_in (come Up turn (c ∷ cs)) h ≡ heard_in (comes Up c.fate) h ++ heard_in (come Up turn cs) (run_world (comes Up c.fate) h)
 heard_both turn c cs h due =
     ap (λ (b : Bool). heard_in (if b then comes Up c.fate ++ come Up turn cs else []) h) due ∙ heard_append (comes Up c.fate) (come Up turn cs) h
@@ -127,15 +128,15 @@ news_hold (x ∷ rs) news r c n k t =
 taken_many : (h : Core) → IsOrdered h → length h.taken ≡ length (flat_map (λ cs. cs) (take h.link.accepted h.link.blocks))
 taken_many h o = sym (length-map h.taken on_wire) ∙ sym (ap length (wired h o)) ∙ ap length o.in_step.each_once
 
-many_by : (h : Core) → IsOrdered h → length h.taken ≡ length h.link.taken
+pub many_by : (h : Core) → IsOrdered h → length h.taken ≡ length h.link.taken
 many_by h o = sym (length-map h.taken on_wire) ∙ sym (ap length (wired h o))
 
 -- nothing is queued while blocks come
-replies_queue_none : (turn : ℕ) (copies : List Copy) (h : Core) → (run_world (come Up turn copies) h).queued ≡ h.queued
+pub replies_queue_none : (turn : ℕ) (copies : List Copy) (h : Core) → (run_world (come Up turn copies) h).queued ≡ h.queued
 replies_queue_none turn copies h =
     all_orders (come Up turn copies) h ∙ ap (λ x. h.queued ++ x) (none_queued (come Up turn copies) (all_come QueuesNone Up (λ fate. comes_queue_none Up fate) turn copies)) ∙ append-nil h.queued
 
-board_queues_none : (clock : BoardClock) (turn : ℕ) (copies : List Copy) (h : Core) → (run_world (board_steps clock turn copies) h).queued ≡ h.queued
+pub board_queues_none : (clock : BoardClock) (turn : ℕ) (copies : List Copy) (h : Core) → (run_world (board_steps clock turn copies) h).queued ≡ h.queued
 board_queues_none clock turn copies h =
     let steps = board_steps clock turn copies in
     all_orders steps h ∙ ap (λ x. h.queued ++ x) (none_queued steps (all_append QueuesNone (come Down turn copies) _ (all_come QueuesNone Down (λ fate. comes_queue_none Down fate) turn copies) (refl, tt)))
@@ -207,7 +208,7 @@ in_time : (clock : BoardClock) (turn : ℕ) (o : Orders) (l m : LinkState) → I
 in_time clock turn o l m k t = subst (InTime clock (turn + 1)) (sym t.becomes) (in_time_same clock turn o t.resent l k)
 
 in_time_along : (clock : BoardClock) (os : List Orders) (turn : ℕ) (l m : LinkState) → InTime clock turn l → AreTurns clock turn os l m → InTime clock (turn + length os) m
-in_time_along clock [] turn l m k e = subst (λ n. InTime clock n m) (unmoved turn) (subst (InTime clock turn) (sym e) k)
+in_time_along clock [] turn l m k e = subst (λ n. InTime clock n m) (same_sum turn) (subst (InTime clock turn) (sym e) k)
 in_time_along clock (o ∷ os) turn l m k t =
     subst (λ n. InTime clock n m) (moved turn (length os)) (in_time_along clock os (turn + 1) t.0 m (in_time clock turn o l t.0 k t.1) t.2)
 
@@ -443,7 +444,7 @@ two_numbers m n a b =
       joined = refl;
     }
 
-differ : numbers_differ own_formats ≡ true
+pub differ : numbers_differ own_formats ≡ true
 unfolding own_formats
 differ = refl
 

@@ -33,11 +33,11 @@ use Rattle.link_work.specs.Limits.{AllKeepLimits, KeepsLimits}
 use Rattle.link_work.specs.Taking.{HasTaken, command_place, spill}
 use Rattle.link_work.proofs.Answered.{begins}
 use Rattle.link_work.proofs.Late.{are_turns, late_command, limits_first, ordered_after}
-use Rattle.link_work.proofs.Settled.{not_both}
 use Rattle.link_work.proofs.Shut.{Found, Located, TurnShut, locate, turn_shut, unit_begins, which, why_steps}
 use Rattle.link_work.proofs.Stretches.{spoiled_by, stretch_grows}
 use Rattle.link_work.proofs.Turns.{turns_are_steps}
 use Rattle.link_work.proofs.Units.{late_unit, turn_before}
+use Rattle.plan_types.proofs.Facts.{both_parts, is_equal, is_less, was_less, false_true}
 
 -- one of some things
 among_split : {A : Type 0} (front rest : List A) (x : A) → IsAmong x (front ++ x ∷ rest)
@@ -163,25 +163,11 @@ pub held_grows : (os : List Orders) (ends : List Ended) (o : Orders) (e : Ended)
     → held_in (os ++ o ∷ []) (ends ++ e ∷ []) ≡ (if is_idle e.link then [] else hold (held_in os ends) (length os) o.batch.units)
 held_grows os ends o e many = grows_if (is_idle e.link) os ends o e refl many
 
--- a unit that may be late is found
-both_true : (a b : Bool) → (a && b) ≡ true → (a ≡ true) × (b ≡ true)
-both_true true b e = (refl, e)
-both_true false b e = absurd (not_both e)
-
-is_below : (a b : ℕ) → nat_lt a b ≡ true → a < b
-is_below a b e = elim (leb_tells (suc a) b) [ inl p ↦ p.1 | inr p ↦ absurd (not_both (sym p.0 ∙ e)) ]
-
-below_is : (a b : ℕ) → a < b → nat_lt a b ≡ true
-below_is a b h = elim (leb_tells (suc a) b) [ inl p ↦ p.0 | inr p ↦ absurd (omega (arith, p.1, h)) ]
-
-equal_is : (a b : ℕ) → a ≡ b → (a == b) ≡ true
-equal_is a b e = elim (eqb_tells a b) [ inl p ↦ p.0 | inr p ↦ absurd (p.1 e) ]
-
 found_if : (b : Bool) (lead : ℕ) (turns : List ℕ) (first : ℕ) (x : HeldUnit) (hs : List HeldUnit) → may_be_late lead turns first x ≡ b
     → (b ≡ false → lead < (late_by lead turns first hs).0 + (late_by lead turns first hs).1)
     → lead < (late_by lead turns first (x ∷ hs)).0 + (late_by lead turns first (x ∷ hs)).1
 found_if true lead turns first x hs e rest =
-    let low = is_below lead (counted_to x.due turns + x.spill) (both_true (x.first == first) (nat_lt lead (counted_to x.due turns + x.spill)) e).1 in
+    let low = was_less lead (counted_to x.due turns + x.spill) (both_parts (x.first == first) (nat_lt lead (counted_to x.due turns + x.spill)) e).1 in
     let same : late_by lead turns first (x ∷ hs) ≡ (counted_to x.due turns, x.spill) = ap (λ (b : Bool). if b then (counted_to x.due turns, x.spill) else late_by lead turns first hs) e in
     omega (arith, low, ap (λ (p : ℕ × ℕ). p.0) same, ap (λ (p : ℕ × ℕ). p.1) same)
 found_if false lead turns first x hs e rest =
@@ -193,7 +179,7 @@ late_found : (lead : ℕ) (turns : List ℕ) (first : ℕ) (hs : List HeldUnit) 
 late_found lead turns first [] h k e = absurd k
 late_found lead turns first (x ∷ hs) h k e =
     found_if (may_be_late lead turns first x) lead turns first x hs refl (λ none. elim k [
-      | inl same ↦ absurd (not_both (sym none ∙ ap (may_be_late lead turns first) same ∙ e))
+      | inl same ↦ absurd (false_true (sym none ∙ ap (may_be_late lead turns first) same ∙ e))
       | inr more ↦ late_found lead turns first hs h more e
     ])
 
@@ -288,7 +274,7 @@ lead_is (pos zero) = (omega arith, omega arith)
 lead_is (pos (suc n)) = (omega arith, omega arith)
 lead_is (negsuc n) = (omega arith, omega arith)
 
-state_by : (s : BoardState) (o : Option ShutNews) (n : ShutNews) → IsShutNews s o → o ≡ Some n → s ≡ Shut n.reason n.tick n.first
+pub state_by : (s : BoardState) (o : Option ShutNews) (n : ShutNews) → IsShutNews s o → o ≡ Some n → s ≡ Shut n.reason n.tick n.first
 state_by Running o n k e = absurd (none_some n (sym k ∙ e))
   where
     none_some : (n : ShutNews) → None ≡ Some n → ⊥
@@ -306,7 +292,7 @@ told_numbers : (lead : ℕ) (turns : List ℕ) (hs : List HeldUnit) (o : Option 
     → n.spoiled + n.spill ≡ (late_by lead turns n.first hs).0 + (late_by lead turns n.first hs).1
 told_numbers lead turns hs o n e r k =
     let now : (n.spoiled, n.spill) ≡ spill_told (n.reason == timer_too_close) (late_by lead turns n.first hs) = subst (IsCounted lead turns hs) e k in
-    let same = now ∙ ap (λ b. spill_told b (late_by lead turns n.first hs)) (equal_is n.reason timer_too_close r) in
+    let same = now ∙ ap (λ b. spill_told b (late_by lead turns n.first hs)) (is_equal n.reason timer_too_close r) in
     omega (arith, ap (λ (p : ℕ × ℕ). p.0) same, ap (λ (p : ℕ × ℕ). p.1) same)
 
 pub counted_as : (lead lead2 : ℕ) (turns turns2 : List ℕ) (hs hs2 : List HeldUnit) (o o2 : Option ShutNews) → lead ≡ lead2 → turns ≡ turns2 → hs ≡ hs2 → o ≡ o2 → IsCounted lead turns hs o → IsCounted lead2 turns2 hs2 o2
@@ -349,7 +335,7 @@ told_cause b pins board entries os ends o m turn clock old quiet hs told n same 
     let enough : lead < counted_to u.unit.due turns + h.spill =
     omega (arith, more, spoiled_by d old ends was, counted_later d u.unit.due old (omega arith), counted_with u.unit.due old turn quiet, lead_is (clock_of b).drift) in
     let may : may_be_late lead turns n.first h ≡ true =
-    ap (λ (x : Bool). x && nat_lt lead (counted_to h.due turns + h.spill)) (equal_is h.first n.first (sym u.is)) ∙ below_is lead (counted_to h.due turns + h.spill) enough in
+    ap (λ (x : Bool). x && nat_lt lead (counted_to h.due turns + h.spill)) (is_equal h.first n.first (sym u.is)) ∙ is_less lead (counted_to h.due turns + h.spill) enough in
     let here = subst (λ k. IsAmong h (hold hs k o.batch.units)) (sym at) (p.held hs u.unit held u.among) in
     let found = late_found lead turns n.first (hold hs turn o.batch.units) h here may in
     let numbers = told_numbers lead turns (hold hs turn o.batch.units) told n some reason (subst (λ k. IsCounted k turns (hold hs turn o.batch.units) told) leads counted) in

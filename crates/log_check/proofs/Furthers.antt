@@ -32,7 +32,7 @@ use Rattle.log_check.specs.declared.further.Further.{Further}
 use Rattle.log_check.specs.Behind.{further_of, further_said, told_line, with_further, with_one}
 use Rattle.log_check.specs.Faults.{are_few, has_own_room, has_room}
 use Rattle.log_check.specs.Steps.{AreClocksOfBoard}
-use Rattle.log_check.proofs.Tests.{both-first, both-second}
+use Rattle.plan_types.proofs.Facts.{first_of_both, second_of_both}
 
 -- the last line is the one that was added
 last-added : (from : ℕ) (held : List Held) (h : Held) → last_from from (held ++ h ∷ []) ≡ h.from
@@ -42,14 +42,14 @@ last-added from (g ∷ held) h = last-added g.from held h
 -- a line that may hold keeps what the lines before it have
 kept-added : (c : Clocks) (from : ℕ) (l : Line) → AreKept c → may_hold c from l ≡ true → AreKept (added c from l)
 kept-added c from l kept may =
-    let like = both-first (is_like c.first l) (is_later c from l && are_small c from l) may in
-    let later = both-first (is_later c from l) (are_small c from l) (both-second (is_like c.first l) (is_later c from l && are_small c from l) may) in
-    let same : (l.freq == c.first.freq) ≡ true = both-first (l.freq == c.first.freq) (l.at % 1_000_000 == 0) like in
-    let whole : (l.at % 1_000_000 == 0) ≡ true = both-second (l.freq == c.first.freq) (l.at % 1_000_000 == 0) like in
-    let above : nat_lt (last_from 0 c.held) from ≡ true = both-first (nat_lt (last_from 0 c.held) from) (nat_le l.at from && nat_le c.first.at from) later in
-    let both = both-second (nat_lt (last_from 0 c.held) from) (nat_le l.at from && nat_le c.first.at from) later in
-    let own : nat_le l.at from ≡ true = both-first (nat_le l.at from) (nat_le c.first.at from) both in
-    let first : nat_le c.first.at from ≡ true = both-second (nat_le l.at from) (nat_le c.first.at from) both in
+    let like = first_of_both (is_like c.first l) (is_later c from l && are_small c from l) may in
+    let later = first_of_both (is_later c from l) (are_small c from l) (second_of_both (is_like c.first l) (is_later c from l && are_small c from l) may) in
+    let same : (l.freq == c.first.freq) ≡ true = first_of_both (l.freq == c.first.freq) (l.at % 1_000_000 == 0) like in
+    let whole : (l.at % 1_000_000 == 0) ≡ true = second_of_both (l.freq == c.first.freq) (l.at % 1_000_000 == 0) like in
+    let above : nat_lt (last_from 0 c.held) from ≡ true = first_of_both (nat_lt (last_from 0 c.held) from) (nat_le l.at from && nat_le c.first.at from) later in
+    let both = second_of_both (nat_lt (last_from 0 c.held) from) (nat_le l.at from && nat_le c.first.at from) later in
+    let own : nat_le l.at from ≡ true = first_of_both (nat_le l.at from) (nat_le c.first.at from) both in
+    let first : nat_le c.first.at from ≡ true = second_of_both (nat_le l.at from) (nat_le c.first.at from) both in
     let after : last_from 0 c.held < from = grind (arith, nat_tests) in
     let h : Held = record { from = from; line = l; most = lines_tick c from; start = tick l from; plan = tick c.first from } in
     record {
@@ -98,8 +98,8 @@ few-alone c (suc n) turn alone kept before room =
 
 pub own-room : (c : Clocks) (held : List Held) (moves turn : ℕ) → c.held ≡ held → AreKept c → has_room c.first moves turn ≡ true → are_few c moves turn ≡ has_own_room c held moves turn
 own-room c [] moves turn alone kept room =
-    let a : nat_le c.first.at (turn * turn_ns) ≡ true = both-first (nat_le c.first.at (turn * turn_ns)) (nat_lt (tick c.first ((turn + moves * turns_of_move) * turn_ns)) 12_999_999_995_705_032_704) room in
-    let b : nat_lt (tick c.first ((turn + moves * turns_of_move) * turn_ns)) 12_999_999_995_705_032_704 ≡ true = both-second (nat_le c.first.at (turn * turn_ns)) (nat_lt (tick c.first ((turn + moves * turns_of_move) * turn_ns)) 12_999_999_995_705_032_704) room in
+    let a : nat_le c.first.at (turn * turn_ns) ≡ true = first_of_both (nat_le c.first.at (turn * turn_ns)) (nat_lt (tick c.first ((turn + moves * turns_of_move) * turn_ns)) 12_999_999_995_705_032_704) room in
+    let b : nat_lt (tick c.first ((turn + moves * turns_of_move) * turn_ns)) 12_999_999_995_705_032_704 ≡ true = second_of_both (nat_le c.first.at (turn * turn_ns)) (nat_lt (tick c.first ((turn + moves * turns_of_move) * turn_ns)) 12_999_999_995_705_032_704) room in
     let before : c.first.at ≤ turn * turn_ns = grind (arith, nat_tests) in
     let below : tick c.first ((turn + moves * turns_of_move) * turn_ns) < 12_999_999_995_705_032_704 = grind (arith, nat_tests) in
     let few = few-alone c moves turn alone kept before below in

@@ -16,23 +16,23 @@ use Rattle.section_plan.proofs.Boards.{base-small}
 use Rattle.clock_line.specs.Kept.{AreKept}
 use Rattle.log_check.specs.Faults.{has_own_room, has_room, have_room, is_roomy, may_start, ready, same_kind}
 use Rattle.log_check.proofs.Furthers.{own-room}
-use Rattle.log_check.proofs.Tests.{both-first, both-second}
 use Rattle.log_check.specs.Points.{Point, section_at}
 use Rattle.log_check.specs.Steps.{CanPlan, IsSoundPoint}
+use Rattle.plan_types.proofs.Facts.{first_of_both, second_of_both}
 
 room-at : (cs : List Clocks) (moves turn b : ℕ) (d : Clocks) → have_room cs moves turn ≡ true → b < length cs → is_roomy (get_or cs b d) moves turn ≡ true
 room-at [] moves turn b d room inside = absurd (omega arith)
-room-at (c ∷ cs) moves turn zero d room inside = both-first (is_roomy c moves turn) (have_room cs moves turn) room
-room-at (c ∷ cs) moves turn (suc b) d room inside = room-at cs moves turn b d (both-second (is_roomy c moves turn) (have_room cs moves turn) room) (omega arith)
+room-at (c ∷ cs) moves turn zero d room inside = first_of_both (is_roomy c moves turn) (have_room cs moves turn) room
+room-at (c ∷ cs) moves turn (suc b) d room inside = room-at cs moves turn b d (second_of_both (is_roomy c moves turn) (have_room cs moves turn) room) (omega arith)
 
 line-before : (l : Line) (moves turn : ℕ) → has_room l moves turn ≡ true → l.at ≤ turn * turn_ns
 line-before l moves turn room =
-    let h = both-first (nat_le l.at (turn * turn_ns)) (nat_lt (tick l ((turn + moves * turns_of_move) * turn_ns)) 12_999_999_995_705_032_704) room in
+    let h = first_of_both (nat_le l.at (turn * turn_ns)) (nat_lt (tick l ((turn + moves * turns_of_move) * turn_ns)) 12_999_999_995_705_032_704) room in
     grind (arith, nat_tests)
 
 line-room : (l : Line) (moves turn : ℕ) → has_room l moves turn ≡ true → tick l ((turn + moves * turns_of_move) * turn_ns) < 12_999_999_995_705_032_704
 line-room l moves turn room =
-    let h = both-second (nat_le l.at (turn * turn_ns)) (nat_lt (tick l ((turn + moves * turns_of_move) * turn_ns)) 12_999_999_995_705_032_704) room in
+    let h = second_of_both (nat_le l.at (turn * turn_ns)) (nat_lt (tick l ((turn + moves * turns_of_move) * turn_ns)) 12_999_999_995_705_032_704) room in
     grind (arith, nat_tests)
 
 own-few : (c : Clocks) (held : List Held) (moves turn : ℕ) → c.held ≡ held → AreKept c → has_room c.first moves turn ≡ true → has_own_room c held moves turn ≡ true → moves ≤ 2_000_000
@@ -51,8 +51,8 @@ ready-at m p moves turn b sound room inside few =
     let told = sound.lines b inside in
     let c = clocks_at p.clocks b in
     let here = room-at p.clocks moves turn b _ room inside in
-    let first = both-first (has_room c.first moves turn) (has_own_room c c.held moves turn) here in
-    let own = both-second (has_room c.first moves turn) (has_own_room c c.held moves turn) here in
+    let first = first_of_both (has_room c.first moves turn) (has_own_room c c.held moves turn) here in
+    let own = second_of_both (has_room c.first moves turn) (has_own_room c c.held moves turn) here in
     let below = line-room c.first moves turn first in
     record {
       freq = told.freq;
@@ -79,13 +79,13 @@ starts m sections p i turn kind may =
     let c = length p.clocks == length m.boards in
     let b = same_kind kind section.kind in
     let a = nat_lt p.begun (length sections) in
-    let one = both-second (i == p.begun) (a && (b && (c && (d && e)))) may in
-    let two = both-second a (b && (c && (d && e))) one in
-    let three = both-second b (c && (d && e)) two in
-    let four = both-second c (d && e) three in
-    let inside : nat_lt p.begun (length sections) ≡ true = both-first a (b && (c && (d && e))) one in
-    let boards : (length p.clocks == length m.boards) ≡ true = both-first c (d && e) three in
-    record { inside = grind (arith, nat_tests); boards = grind (arith, nat_tests); room = both-second d e four }
+    let one = second_of_both (i == p.begun) (a && (b && (c && (d && e)))) may in
+    let two = second_of_both a (b && (c && (d && e))) one in
+    let three = second_of_both b (c && (d && e)) two in
+    let four = second_of_both c (d && e) three in
+    let inside : nat_lt p.begun (length sections) ≡ true = first_of_both a (b && (c && (d && e))) one in
+    let boards : (length p.clocks == length m.boards) ≡ true = first_of_both c (d && e) three in
+    record { inside = grind (arith, nat_tests); boards = grind (arith, nat_tests); room = second_of_both d e four }
 
 pub plannable : (m : Machine) (sections : List Section) (p : Point) (turn : ℕ) → IsValidMachine m → CanPlan sections → IsSoundPoint m p → turn < 2 ^ 62 → Starts m sections p turn
     → IsPlannable m p.clocks (section_at sections p.begun).moves turn

@@ -15,7 +15,6 @@ use Rattle.plan_types.specs.Sections.{clocks_at}
 use Rattle.clock_line.specs.Fits.{may_hold}
 use Rattle.log_check.specs.declared.tally.Tally.{Tally}
 use Rattle.plan_types.specs.declared.cause.MisfitKind.TheVariants as misfit
-use Rattle.log_check.proofs.Tests.{both-first}
 use Rattle.log_check.specs.declared.further.Further.{Further}
 use Rattle.log_check.specs.Behind.{begun, pulses, told_line, with_further}
 use Rattle.log_check.specs.Faults.{fault_at, no_tally, open_fault}
@@ -23,9 +22,7 @@ use Rattle.log_check.specs.Points.{Point, plans, point}
 use Rattle.log_check.specs.Pulses.{tally_of, with_pulse}
 use Rattle.log_check.specs.Steps.{with_misfit, next_point, with_clock, with_made}
 use Rattle.log_check.specs.Verdicts.{with_pulse_of}
-
-pub no-some : {X : Type 0} {x : X} → Some x ≡ None → ⊥
-no-some e = cc
+use Rattle.plan_types.proofs.Facts.{is_itself, some_none, first_of_both}
 
 -- a value for each number of some, of which one is set
 set-one : {X : Type 0} (f g : ℕ → X) (a n s : ℕ) (x : X) → ((t : ℕ) → t ≢ a + s → g t ≡ f t) → (s < n → x ≡ g (a + s)) → set (map f (range_with_len a n)) s x ≡ map g (range_with_len a n)
@@ -44,9 +41,6 @@ set-one f g a (suc n) (suc s) x others here =
     let rest = set-one f g (a + 1) n s x (λ t far. others t (λ e. far (e ∙ sym on))) (λ inside. here (omega (arith, inside)) ∙ ap g (sym on)) in
     ap (λ h. h ∷ set (map f (range_with_len (a + 1) n)) s x) first ∙ ap (λ l. g a ∷ l) rest
 
-itself : (s : ℕ) → (s == s) ≡ true
-itself s = grind (arith, nat_tests)
-
 other : (s t : ℕ) → t ≢ s → (s == t) ≡ false
 other s t far = grind (arith, nat_tests)
 
@@ -54,7 +48,7 @@ other s t far = grind (arith, nat_tests)
 more-of : (plan : List Planned) (s tick : ℕ) (up : Bool) (lines : List LogLine) → with_pulse plan (tally_of plan (pulses s lines)) tick ≡ tally_of plan (pulses s (line.Pulse s tick up ∷ lines))
 more-of plan s tick up lines =
     let p : Pulse = record { tick = tick; stepper = s; up = up } in
-    let is : pulses s (line.Pulse s tick up ∷ lines) ≡ p ∷ pulses s lines = rw (itself s) refl in
+    let is : pulses s (line.Pulse s tick up ∷ lines) ≡ p ∷ pulses s lines = rw (is_itself s) refl in
     ap (tally_of plan) (sym is)
 
 none-of : (plan : List Planned) (s t tick : ℕ) (up : Bool) (lines : List LogLine) → t ≢ s → tally_of plan (pulses t (line.Pulse s tick up ∷ lines)) ≡ tally_of plan (pulses t lines)
@@ -96,12 +90,12 @@ board-tests m sections p b turn tick fits = by p.ended fits where
 
 pub board-first : (m : Machine) (sections : List Section) (p : Point) (b turn tick : ℕ) → fault_at m sections p (line.Board b turn tick) ≡ None → p.begun ≡ 0
 board-first m sections p b turn tick fits =
-    let h : (p.begun == 0) ≡ true = both-first (p.begun == 0) (b == length p.clocks) (board-tests m sections p b turn tick fits) in
+    let h : (p.begun == 0) ≡ true = first_of_both (p.begun == 0) (b == length p.clocks) (board-tests m sections p b turn tick fits) in
     grind (arith, nat_tests)
 
 pub line-inside : (m : Machine) (sections : List Section) (p : Point) (b turn tick from : ℕ) → fault_at m sections p (line.Line b turn tick from) ≡ None → b < length p.told
 line-inside m sections p b turn tick from fits =
-    let h : nat_lt b (length p.told) ≡ true = both-first (nat_lt b (length p.told)) (may_hold (clocks_at p.told b) from (told_line m b turn tick)) (by p.ended fits) in
+    let h : nat_lt b (length p.told) ≡ true = first_of_both (nat_lt b (length p.told)) (may_hold (clocks_at p.told b) from (told_line m b turn tick)) (by p.ended fits) in
     grind (arith, nat_tests) where
       by : (ended : Bool) → (if ended then Some misfit.BadLine else open_fault m sections p (line.Line b turn tick from)) ≡ None → (nat_lt b (length p.told) && may_hold (clocks_at p.told b) from (told_line m b turn tick)) ≡ true
       by true e = cc

@@ -26,9 +26,9 @@ use Rattle.log_check.specs.Points.{Point, point, section_at}
 use Rattle.log_check.specs.Pulses.{pulse_fault, with_pulse}
 use Rattle.log_check.specs.Steps.{CanPlan, IsSoundPoint, AreClocksOfBoard, next_point, with_clock, with_made, with_section}
 use Rattle.log_check.proofs.Planning.{Starts, plannable, starts}
-use Rattle.log_check.proofs.Tests.{both-second}
 use Rattle.log_check.proofs.Furthers.{further-told}
 use Rattle.log_check.proofs.Pointing.{board-first, board-tests}
+use Rattle.plan_types.proofs.Facts.{second_of_both}
 
 -- nothing told
 pub start-sound : (m : Machine) (sections : List Section) (further : List Further) → All (λ f. f.from < 2 ^ 64) further → IsSoundPoint m (point m sections further [])
@@ -138,7 +138,7 @@ pub clock-sound : (m : Machine) (sections : List Section) (p : Point) (b turn ti
     → IsSoundPoint m (with_clock p (with_further m b p.further (one_line (told_line m b turn tick))) (one_line (told_line m b turn tick)))
 clock-sound m sections p b turn tick valid sound there soon fits =
     let tests = board-tests m sections p b turn tick fits in
-    let place : b ≡ length p.clocks = (let h : (b == length p.clocks) ≡ true = both-second (p.begun == 0) (b == length p.clocks) tests in grind (arith, nat_tests)) in
+    let place : b ≡ length p.clocks = (let h : (b == length p.clocks) ≡ true = second_of_both (p.begun == 0) (b == length p.clocks) tests in grind (arith, nat_tests)) in
     let none = sound.none (board-first m sections p b turn tick fits) in
     let c = with_further m b p.further (one_line (told_line m b turn tick)) in
     let told : AreClocksOfBoard m c b = further-told m b p.further (one_line (told_line m b turn tick)) (line-told m b turn tick valid there soon) sound.early in

@@ -5,9 +5,7 @@ use Rattle.std.proofs.lemmas.Bool.Decides.{nat_tests}
 use Rattle.plan_types.specs.declared.plan.Move.{Move}
 use Rattle.plan_types.specs.Moves.{move_length}
 use Rattle.plan_types.specs.Speeds.{least_limit, unit}
-
-tested : (a b : ℕ) → a < b → nat_lt a b ≡ true
-tested a b h = grind (arith, nat_tests)
+use Rattle.plan_types.proofs.Facts.{is_less}
 
 untested : (a b : ℕ) → b ≤ a → nat_lt a b ≡ false
 untested a b h = grind (arith, nat_tests)
@@ -31,17 +29,17 @@ module _ (m n : Move) (scv s c p q l : ℕ) (ep : p ≡ m.v * m.v) (eq : q ≡ n
   pub with_both : (k corner x f y r : ℕ) → s < unit → 0 < c → k ≡ corner_at scv s → corner ≡ min l k → x ≡ bend_at m s c → f ≡ min corner x → y ≡ bend_at n s c → r ≡ min f y → r ≡ least_limit m n scv s c
   with_both k corner x f y r h d ek ec ex ef ey er =
       let e : r ≡ min (min (min (min (m.v * m.v) (n.v * n.v)) (corner_at scv s)) (bend_at m s c)) (bend_at n s c) = rw (ef, ec, el, ep, eq, ek, ex, ey) at er in
-      rw (tested s unit h, tested 0 c d) (e ∙ five _ _ _ _ _)
+      rw (is_less s unit h, is_less 0 c d) (e ∙ five _ _ _ _ _)
 
   pub with_bends : (corner x f y r : ℕ) → unit ≤ s → 0 < c → corner ≡ l → x ≡ bend_at m s c → f ≡ min corner x → y ≡ bend_at n s c → r ≡ min f y → r ≡ least_limit m n scv s c
   with_bends corner x f y r h d ec ex ef ey er =
       let e : r ≡ min (min (min (m.v * m.v) (n.v * n.v)) (bend_at m s c)) (bend_at n s c) = rw (ef, ec, el, ep, eq, ex, ey) at er in
-      rw (untested s unit h, tested 0 c d) (e ∙ four _ _ _ _)
+      rw (untested s unit h, is_less 0 c d) (e ∙ four _ _ _ _)
 
   pub with_corner : (k corner : ℕ) → s < unit → c ≤ 0 → k ≡ corner_at scv s → corner ≡ min l k → corner ≡ least_limit m n scv s c
   with_corner k corner h d ek ec =
       let e : corner ≡ min (min (m.v * m.v) (n.v * n.v)) (corner_at scv s) = rw (el, ep, eq, ek) at ec in
-      rw (tested s unit h, untested 0 c d) (e ∙ three _ _ _)
+      rw (is_less s unit h, untested 0 c d) (e ∙ three _ _ _)
 
   pub with_none : (corner : ℕ) → unit ≤ s → c ≤ 0 → corner ≡ l → corner ≡ least_limit m n scv s c
   with_none corner h d ec =

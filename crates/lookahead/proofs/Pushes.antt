@@ -25,7 +25,7 @@ one_longer : {X : Type 0} (xs : List X) (x : X) → length (xs ++ x ∷ []) ≡ 
 one_longer [] x = refl
 one_longer (y ∷ xs) x = ap suc (one_longer xs x)
 
-drop-before : {X : Type 0} (t : ℕ) (xs ys : List X) → t ≤ length xs → drop t (xs ++ ys) ≡ drop t xs ++ ys
+pub drop-before : {X : Type 0} (t : ℕ) (xs ys : List X) → t ≤ length xs → drop t (xs ++ ys) ≡ drop t xs ++ ys
 drop-before zero xs ys h = refl
 drop-before (suc t) [] ys h = absurd (omega arith)
 drop-before (suc t) (x ∷ xs) ys h = drop-before t xs ys (omega arith)

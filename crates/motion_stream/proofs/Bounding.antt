@@ -34,7 +34,7 @@ use Rattle.trapezoid.proofs.Distances.{quotients-within}
 use Rattle.step_ticks.proofs.Lists.{filtered-All}
 use Rattle.step_ticks.proofs.Within.{IsWithin, steps-within}
 use Rattle.section_plan.specs.Runs.{IsJoined, IsShortMove, move_ns, part_at, steps_of_move}
-use Rattle.section_plan.proofs.Boards.{alone-board, alone-tick, last_turn-soon, room-for}
+use Rattle.section_plan.proofs.Boards.{alone-board, alone-tick, last_turn-soon, room-for, shorter, filtered-shorter, next-turn, turn-within}
 use Rattle.section_plan.proofs.Counts.{few-steps, raw_steps-append}
 use Rattle.section_plan.proofs.Durations.{duration-small}
 use Rattle.section_stream.proofs.Speeds.{joined-at, length-greatest}
@@ -145,19 +145,6 @@ end_soon cruise (m ∷ moves) (s ∷ t ∷ speeds) begin share short =
     let rest = end_soon cruise moves (t ∷ speeds) (begin + duration (parts m s t cruise)) share (All-tail IsShortMove m moves short) in
     omega (arith, time, rest)
 
--- the steps that are planned of raw ones: some are left out, and the others are moved back by 4 ticks at most for each before it
-shorter : (b : Bool) (xs ys : List Planned) (n : ℕ) → length xs ≤ n → length ys ≤ n → length (cond b xs ys) ≤ n
-shorter true xs ys n h k = h
-shorter false xs ys n h k = k
-
-filtered_shorter : (r : ℕ) (xs : List Planned) → length (filtered r xs) ≤ length xs
-filtered_shorter r [] = omega arith
-filtered_shorter r (a ∷ []) = omega arith
-filtered_shorter r (a ∷ b ∷ xs) =
-    let one = filtered_shorter r xs in
-    let two = filtered_shorter r (b ∷ xs) in
-    shorter (cancel r a b) (filtered r xs) (a ∷ filtered r (b ∷ xs)) (length (a ∷ b ∷ xs)) (omega (arith, one)) (omega (arith, two))
-
 spaced_by : (clocks : Clocks) (last top most : ℕ) (xs : List Planned) → clocks.held ≡ [] → last ≤ top → top + 4 * length xs ≤ most → All (IsWithin clocks.first.clock top) xs → All (λ q. q.tick ≤ most) (spaced last (map (on_board clocks) xs))
 spaced_by clocks last top most [] alone to room h = All-nil (λ (q : Planned). q.tick ≤ most)
 spaced_by clocks last top most (x ∷ xs) alone to room h =
@@ -173,20 +160,8 @@ planned_by : (gear : Gear) (clocks : Clocks) (segments : List Segment) (base top
 planned_by gear clocks segments base top most alone to within room =
     let raw = raw_steps gear clocks.first.freq segments in
     let reach = cancel_reach clocks.first.freq in
-    let fewer = filtered_shorter reach raw in
+    let fewer = filtered-shorter reach raw in
     spaced_by clocks base top most (filtered reach raw) alone to (omega (arith, fewer, room)) (filtered-All (IsWithin clocks.first.clock top) reach raw within)
-
--- a turn has some ticks
-next_turn : (x f : ℕ) → 1_000_000 ≤ f → x * f / 1_000_000_000 < (x + 1_000_000) * f / 1_000_000_000
-next_turn x f low = omega (arith, low)
-
-turn_by : (clocks : Clocks) (turn t : ℕ) → IsValidLine clocks.first → clocks.held ≡ [] → clocks.first.at ≤ turn * turn_ns → t ≤ tick clocks.first (turn * turn_ns) → lines_turn clocks t ≤ turn
-turn_by clocks turn t valid alone before by =
-    let e = alone-tick clocks ((turn + 1) * turn_ns) alone in
-    let next = next_turn (turn * turn_ns - clocks.first.at) clocks.first.freq valid.freq_low in
-    let away : (turn + 1) * turn_ns - clocks.first.at ≡ (turn * turn_ns - clocks.first.at) + 1_000_000 = omega (arith, before) in
-    let later : tick clocks.first (turn * turn_ns) < tick clocks.first ((turn + 1) * turn_ns) = rw away (omega (arith, next)) in
-    turn-below clocks t turn (omega (arith, e, later, by))
 
 -- a stepper's last step is soon
 stepper_soon : (m : Machine) (clocks : List Clocks) (moves : List Move) (turn s : ℕ) → IsValidMachine m → s < length m.steppers → MayStart (clocks_at clocks (stepper_at m s).board) turn → (clocks_at clocks (stepper_at m s).board).held ≡ [] → All IsShortMove moves → 0 < length moves → stepper_end m clocks moves turn s ≤ turn + length moves * turns_of_move
@@ -206,7 +181,7 @@ stepper_soon m clocks moves turn s valid there may alone short some =
     let base = alone-tick own (turn * turn_ns) alone in
     let up = tick-mono line (turn * turn_ns) (turn * turn_ns + n * move_ns) (omega arith) in
     let all = planned_by def.gear own (map (segment_of m.corexy def.drive line) (timed_moves m.cruise moves (greatest_speeds moves m.scv) (turn * turn_ns))) (lines_tick own (turn * turn_ns)) top most alone (omega (arith, base, up)) few.within (omega (arith, raw, room)) in
-    last_turn-soon own last (stepper_plan m clocks moves turn s) (λ k d lt. turn_by own last (get_or (stepper_plan m clocks moves turn s) k d).tick may.lasting.valid alone (omega (arith, begun)) (all k d lt))
+    last_turn-soon own last (stepper_plan m clocks moves turn s) (λ k d lt. turn-within own last (get_or (stepper_plan m clocks moves turn s) k d).tick may.lasting.valid alone (omega (arith, begun)) (all k d lt))
 
 latest_by : (xs : List ℕ) (most : ℕ) → ((k d : ℕ) → k < length xs → get_or xs k d ≤ most) → latest xs ≤ most
 latest_by [] most all = omega arith
@@ -244,7 +219,7 @@ pub planned_within : (gear : Gear) (clocks : Clocks) (segments : List Segment) (
 planned_within gear clocks segments low base top board most by to within room =
     let raw = raw_steps gear clocks.first.freq segments in
     let reach = cancel_reach clocks.first.freq in
-    let fewer = filtered_shorter reach raw in
+    let fewer = filtered-shorter reach raw in
     spaced_within clocks low base top board most (filtered reach raw) by to (omega (arith, fewer, room)) (filtered-All (IsWithin low top) reach raw within)
 
 -- lines that all hold by a plan tick rise no faster than plan ticks behind it

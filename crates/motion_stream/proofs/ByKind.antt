@@ -38,14 +38,12 @@ use Rattle.motion_stream.specs.declared.course.Course.{Course}
 use Rattle.motion_stream.specs.Courses.{GoesAs, HomesOn, IsGoingOn, IsLaid}
 use Rattle.motion_stream.specs.Motions.{started_until}
 use Rattle.motion_stream.specs.Seen.{EndsBy, Going, IsContinued, items_read, moves_end, sections_in}
-
-clash : true ≡ false → ⊥
-clash p = cc
+use Rattle.plan_types.proofs.Facts.{true_false}
 
 -- one that does not home is of moves, and one that does is not
 pub moves_kind : (kind : SectionKind) → is_home kind ≡ false → kind ≡ Moves
 moves_kind Moves e = refl
-moves_kind (Home axis) e = absurd (clash e)
+moves_kind (Home axis) e = absurd (true_false e)
 
 -- when it may end
 pub ends_sooner : (kind : SectionKind) (m : Machine) (next later : ℕ) (x : Started) → next ≤ later → EndsBy kind m later x → EndsBy kind m next x
@@ -102,23 +100,23 @@ goes_longer Moves m clocks next g h on future start last moving i = record {
   last = last ∙ i.last;
   moving = moving ∙ i.moving;
 }
-goes_longer (Home axis) m clocks next g h on future start last moving i = absurd (clash (sym on ∙ i.whole))
+goes_longer (Home axis) m clocks next g h on future start last moving i = absurd (true_false (sym on ∙ i.whole))
 
 -- one that homes
 pub homes_on : (kind : SectionKind) (m : Machine) (clocks : List Clocks) (next : ℕ) (g : Going) → is_home kind ≡ true → GoesAs kind m clocks next g → HomesOn m clocks g
-homes_on Moves m clocks next g e i = absurd (clash (sym e))
+homes_on Moves m clocks next g e i = absurd (true_false (sym e))
 homes_on (Home axis) m clocks next g e i = i
 
 pub planned_home : (kind : SectionKind) (m : Machine) (clocks : List Clocks) (s : Started) → is_home kind ≡ true → IsHomed m clocks s → IsPlanned kind m clocks s
-planned_home Moves m clocks s e h = absurd (clash (sym e))
+planned_home Moves m clocks s e h = absurd (true_false (sym e))
 planned_home (Home axis) m clocks s e h = h
 
 pub laid_home : (kind : SectionKind) (m : Machine) (clocks : List Clocks) (low : ℕ) (s : Started) → is_home kind ≡ true → s.end + 268 ≤ low → IsLaid kind m clocks low s
-laid_home Moves m clocks low s e over = absurd (clash (sym e))
+laid_home Moves m clocks low s e over = absurd (true_false (sym e))
 laid_home (Home axis) m clocks low s e over = over
 
 pub lines_home : (kind : SectionKind) (end : ℕ) (clocks : List Clocks) → is_home kind ≡ true → planning_lines kind end clocks ≡ map (lines_by (end + 276)) clocks
-lines_home Moves end clocks e = absurd (clash (sym e))
+lines_home Moves end clocks e = absurd (true_false (sym e))
 lines_home (Home axis) end clocks e = refl
 
 -- what was released on a board becomes the whole section

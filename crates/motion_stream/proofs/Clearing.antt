@@ -31,15 +31,7 @@ use Rattle.motion_stream.specs.Motions.{IsPlannerOf, Planner, is_nothing_left}
 use Rattle.motion_stream.specs.Seen.{AreWhole, EndsBy, Going, IsContinued, Seen, items_read, moves_end, sections_in}
 use Rattle.motion_stream.proofs.Drawing.{whole_none}
 use Rattle.motion_stream.proofs.Wholing.{source_front}
-
-clash : true ≡ false → ⊥
-clash e = cc
-
-none_some : {X : Type 0} {x : X} → None ≡ Some x → ⊥
-none_some p = cc
-
-some_same : {X : Type 0} (x y : X) → Some x ≡ Some y → x ≡ y
-some_same x y p = cc
+use Rattle.plan_types.proofs.Facts.{true_false, some_same, none_is_some}
 
 -- sections that are done end before the next turn
 ends_done : (next n : ℕ) (begun : List Started) → AreDone next begun → All (EndsOutside next n) begun
@@ -52,12 +44,12 @@ ends_last next n past s done le = All-append (EndsOutside next n) past (s ∷ []
 -- before connecting ended nothing was begun
 told_some : (m : Machine) (c : Course) (told : Option Told) (past : List Started) (s : Started) (begun : List Started) (going : Option Going) → KnowsConnecting m c told begun going → begun ≡ past ++ s ∷ [] → told ≡ None → ⊥
 told_some m c None past s begun going h e n = none_behind past s (sym h.1 ∙ e)
-told_some m c (Some t) past s begun going h e n = none_some (sym n)
+told_some m c (Some t) past s begun going h e n = none_is_some (sym n)
 
 -- a section goes on
 by_moves : (m : Machine) (told : Option Told) (t : Told) (next : ℕ) (begun all : List Started) (going : Option Going) (g : Going) → told ≡ Some t → going ≡ Some g → AreWhole m told next begun going all → (s : Started) × (all ≡ begun ++ s ∷ []) × IsContinued m next g s
-by_moves m None t next begun all going g told goes w = absurd (none_some told)
-by_moves m (Some u) t next begun all None g told goes w = absurd (none_some goes)
+by_moves m None t next begun all going g told goes w = absurd (none_is_some told)
+by_moves m (Some u) t next begun all None g told goes w = absurd (none_is_some goes)
 by_moves m (Some u) t next begun all (Some x) g told goes w = (w.0, w.1, subst (λ (z : Going). IsContinued m next z w.0) (some_same x g goes) w.2)
 
 settled_before : (b : Bool) (t : ℕ) → (if b then t else 0) ≤ t
@@ -89,7 +81,7 @@ goes_clear m s homes c seen n h i le =
     record {
       ends = λ all w. let x = of all w in subst (All (EndsOutside seen.next n)) (sym x.1) (ends_last seen.next n seen.begun x.0 done (end x.0 x.2));
       begins = λ t whole all others x told may w e. (let y = of all w in let r = ap (ready_after t.first) y.1 ∙ ready_more t.first seen.begun y.0 in let f = end y.0 y.2 in omega (arith, r, f));
-      unheard = λ e. absurd (none_some (sym e ∙ i.told_is));
+      unheard = λ e. absurd (none_is_some (sym e ∙ i.told_is));
     }
 
 cancel : {X : Type 0} (xs ys zs : List X) → xs ++ ys ≡ xs ++ zs → ys ≡ zs
@@ -127,9 +119,9 @@ idle_is m c seen n true connected (Some t) eg ec et h i o d early le =
     record {
       ends = λ all w. subst (All (EndsOutside seen.next n)) (sym (is all w)) (ends_last seen.next n o.0 o.1 done far);
       begins = λ u whole all others s told may w e. (let r = ap (ready_after u.first) (is all w) ∙ ready_more u.first o.0 o.1 in omega (arith, r, far));
-      unheard = λ e. absurd (none_some (sym e ∙ et));
+      unheard = λ e. absurd (none_is_some (sym e ∙ et));
     }
-idle_is m c seen n false true None eg ec et h i o d early le = absurd (clash (sym ec ∙ d.0))
+idle_is m c seen n false true None eg ec et h i o d early le = absurd (true_false (sym ec ∙ d.0))
 idle_is m c seen n false true (Some t) eg ec et h i o d early le =
     let next = h.next in
     let done : AreDone seen.next seen.begun = subst (λ k. AreDone k seen.begun) next o in
@@ -145,16 +137,16 @@ idle_is m c seen n false true (Some t) eg ec et h i o d early le =
           let same : t ≡ u = some_same t u (sym et ∙ told) in
           let ready = d.ready i.none ∙ ap (λ (x : Told). ready_after x.first seen.begun) same ∙ ap (ready_after u.first) (sym (is all w)) in
           omega (arith, low, ready);
-      unheard = λ e. absurd (none_some (sym e ∙ et));
+      unheard = λ e. absurd (none_is_some (sym e ∙ et));
     }
-idle_is m c seen n false false (Some t) eg ec et h i o d early le = absurd (clash (sym d.connected ∙ ec))
+idle_is m c seen n false false (Some t) eg ec et h i o d early le = absurd (true_false (sym d.connected ∙ ec))
 idle_is m c seen n false false None eg ec et h i o d early le =
     let next = h.next in
     let none = d.1 in
     let is : (all : List Started) → AreWhole m seen.told seen.next seen.begun seen.going all → all ≡ [] = λ all w. whole_none m seen.told seen.next seen.begun all seen.going i.none w ∙ none in
     record {
       ends = λ all w. subst (All (EndsOutside seen.next n)) (sym (is all w)) (All-nil (EndsOutside seen.next n));
-      begins = λ u whole all others s told may w e. absurd (none_some (sym et ∙ told));
+      begins = λ u whole all others s told may w e. absurd (none_is_some (sym et ∙ told));
       unheard = λ e. omega (arith, le, next);
     }
 

@@ -37,15 +37,7 @@ use Rattle.motion_stream.specs.Puts.{SectionsGoOn}
 use Rattle.motion_stream.specs.Seen.{AreWhole, Going, Seen, count_of, items_read}
 use Rattle.motion_stream.specs.Steps.{Advances, HasPassed, IsFed, IsPassed}
 use Rattle.motion_stream.specs.Texts.{IsSourceOf}
-
-clash : true ≡ false → ⊥
-clash p = cc
-
-none_some : {X : Type 0} (x : X) → None ≡ Some x → ⊥
-none_some x p = cc
-
-pub some_same : {X : Type 0} (x y : X) → Some x ≡ Some y → x ≡ y
-some_same x y p = cc
+use Rattle.plan_types.proofs.Facts.{true_false, some_same, none_some}
 
 -- the boards of sections
 abbrev pub boards_in_all : List Started → List (List (List Release))

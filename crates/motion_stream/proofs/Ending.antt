@@ -28,9 +28,7 @@ use Rattle.motion_stream.specs.Puts.{TellsReading}
 use Rattle.motion_stream.specs.Seen.{Going, MayBe, Seen, count_of, items_read, sections_in}
 use Rattle.motion_stream.specs.Texts.{IsSourceOf, MayBecome}
 use Rattle.motion_stream.proofs.Drawing.{boards_in_all, whole_none}
-
-clash : true ≡ false → ⊥
-clash p = cc
+use Rattle.plan_types.proofs.Facts.{true_false, none_long, some_none}
 
 -- how many sections begin
 pub begins_append : (xs ys : List Item) → begins_in (xs ++ ys) ≡ begins_in xs + begins_in ys
@@ -102,13 +100,10 @@ all_out boards k next (suc n) (s ∷ begun) many at done none =
     let ended = done.0 in
     ((omega (arith, at, ended), λ b j lt late. (each b j lt late).0), all_out boards k next n begun (omega (arith, many)) at done.1 (λ b j lt late. (each b j lt late).1))
 
-none_some : {X : Type 0} {x : X} → Some x ≡ None → ⊥
-none_some p = cc
-
 -- so it is of all sections of a text, where how it was read is told
 out_begun : (m : Machine) (c : Course) (seen : Seen) (whole : List ℕ) (k turn free : ℕ) (end : Option ReadEnd) → (end ≡ None) ⊎ ((end ≡ c.source.end) × HasPutAll (length m.boards) c) → IsCourseBy m c seen turn free → MayBecome seen.ended seen.text whole → c.next ≡ k + 1
     → (x : ReadEnd) → end ≡ Some x → AreOut (length m.boards) k (length (program_sections m whole)) seen.begun × (seen.going ≡ None)
-out_begun m c seen whole k turn free end (inl none) h may at x is = absurd (none_some (sym is ∙ none))
+out_begun m c seen whole k turn free end (inl none) h may at x is = absurd (some_none (sym is ∙ none))
 out_begun m c seen whole k turn free end (inr (e, put)) h may at x is =
     let n = length (program_sections m whole) in
     let i : IsIdle m c seen.begun seen.going = subst (λ o. IsGoing m o c seen.told seen.begun seen.going) put.nothing h.going in
@@ -146,14 +141,10 @@ out_none boards k n b j [] le lt late out = refl
 out_none boards k zero b j (s ∷ begun) le lt late out = absurd (omega (arith, le))
 out_none boards k (suc n) b j (s ∷ begun) le lt late out = ap (λ us. us ++ units_at b j (boards_in_all begun)) (out.0.1 b j lt late) ∙ out_none boards k n b j begun (omega (arith, le)) lt late out.1
 
-none_long : {X : Type 0} (xs : List X) → length xs ≡ 0 → xs ≡ []
-none_long [] e = refl
-none_long (x ∷ xs) e = absurd (omega (arith, e))
-
 -- what goes on where no section is known to
 idle_by : (m : Machine) (o : Open) (c : Course) (seen : Seen) → IsGoing m o c seen.told seen.begun seen.going → seen.going ≡ None → (o ≡ opens.Nothing) × IsOpen c.goes c.next seen.begun × ((i b : ℕ) → b < length m.boards → units_at b (c.next + i) (boards_in_all seen.begun) ≡ row_at c.ahead.items i b)
 idle_by m opens.Nothing c seen i none = (refl, i.goes, i.ahead.units)
-idle_by m (opens.Goes s homes) c seen i none = absurd (none_some (sym i.is ∙ none))
+idle_by m (opens.Goes s homes) c seen i none = absurd (some_none (sym i.is ∙ none))
 
 not_on : (m : Machine) (goes : Bool) (next k n : ℕ) (begun : List Started) → IsOpen goes next begun → next ≡ k + 1 → length begun ≤ n → AreOut (length m.boards) k n begun → goes ≡ false
 not_on m false next k n begun on at le out = refl
@@ -223,8 +214,8 @@ after_is true (Some end) = refl
 after_is false (Some end) = refl
 
 tells_once : (told : Bool) (end : Option ReadEnd) → tells told end ≡ true → (told ≡ false) × ((x : ReadEnd) × (end ≡ Some x))
-tells_once told None e = absurd (clash (sym e))
-tells_once true (Some end) e = absurd (clash (sym e))
+tells_once told None e = absurd (true_false (sym e))
+tells_once true (Some end) e = absurd (true_false (sym e))
 tells_once false (Some end) e = (refl, (end, refl))
 
 known_one : (end : Option ReadEnd) → (end ≡ None → ⊥) → (x : ReadEnd) × (end ≡ Some x)

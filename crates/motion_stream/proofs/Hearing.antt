@@ -58,15 +58,8 @@ use Rattle.motion_stream.specs.Seen.{Going, Seen, count_of, items_read, sections
 use Rattle.motion_stream.specs.Texts.{HasGrown, IsSourceOf, ended_after, text_after}
 use Rattle.motion_stream.proofs.Drawing.{boards_in_all, later_easy, units_snoc, uptake_kept}
 use Rattle.motion_stream.proofs.Opening.{source_on}
-
-clash : true ≡ false → ⊥
-clash p = cc
-
-some_same : {X : Type 0} (x y : X) → Some x ≡ Some y → x ≡ y
-some_same x y p = cc
-
-none_some : {X : Type 0} (x : X) → None ≡ Some x → ⊥
-none_some x p = cc
+use Rattle.plan_types.proofs.Facts.{true_false, both_parts, some_same, none_some, not_not}
+use Rattle.motion_stream.proofs.Limits.{moves_join}
 
 -- the next section starts no sooner, whatever is read
 grown_later : (turn ready : ℕ) (end : Option ReadEnd) (its : List Item) (old new : Source) → old.end ≡ end → old.items.items ≡ its → HasGrown old new → IsLater turn turn ready end its → IsLater turn turn ready new.end new.items.items
@@ -178,21 +171,13 @@ longer_is g more ends on = record { kind = refl; dwell = refl; start = refl; las
   by_end true all f = (more, f)
   by_end false all f = (more ++ f.0, f.1 ∙ append_assoc g.moves more f.0)
 
-not_not : (b : Bool) → not (not b) ≡ b
-not_not true = refl
-not_not false = refl
-
-moves_in_more : (ms ns : List Move) → moves_in (ms ++ ns) ≡ moves_in ms ++ moves_in ns
-moves_in_more [] ns = refl
-moves_in_more (m ∷ ms) ns = ap (λ is. items.Move m ∷ is) (moves_in_more ms ns)
-
 longer_items : (begun : List Started) (g : Going) (more : List Move) (ends : Bool) (waiting left : List Item) → g.goes ≡ true → waiting ≡ (moves_in more ++ ending ends) ++ left
     → items_read begun (Some g) ++ waiting ≡ items_read begun (Some (longer g more ends)) ++ left
 longer_items begun g more ends waiting left on is =
     let front = items_of (sections_in begun) in
     let head : List Item → List Item = λ x. items.Begin g.kind g.dwell ∷ x in
     let a : items_read begun (Some g) ≡ front ++ head (moves_in g.moves) = ap (λ b. front ++ head (moves_in g.moves ++ ending (not b))) on ∙ ap (λ x. front ++ head x) (append-nil (moves_in g.moves)) in
-    let b : items_read begun (Some (longer g more ends)) ≡ front ++ head (moves_in g.moves ++ (moves_in more ++ ending ends)) = ap (λ x. front ++ head (x ++ ending (not (not ends)))) (moves_in_more g.moves more) ∙ ap (λ e. front ++ head ((moves_in g.moves ++ moves_in more) ++ ending e)) (not_not ends)
+    let b : items_read begun (Some (longer g more ends)) ≡ front ++ head (moves_in g.moves ++ (moves_in more ++ ending ends)) = ap (λ x. front ++ head (x ++ ending (not (not ends)))) (moves_join g.moves more) ∙ ap (λ e. front ++ head ((moves_in g.moves ++ moves_in more) ++ ending e)) (not_not ends)
     ∙ ap (λ x. front ++ head x) (append_assoc (moves_in g.moves) (moves_in more) (ending ends)) in
     ap (λ x. x ++ waiting) a ∙ append_assoc front (head (moves_in g.moves)) waiting ∙ ap (λ x. front ++ (head (moves_in g.moves) ++ x)) is
     ∙ ap (λ x. front ++ head x) (sym (append_assoc (moves_in g.moves) (moves_in more ++ ending ends) left)) ∙ sym (append_assoc front (head (moves_in g.moves ++ (moves_in more ++ ending ends))) left) ∙ ap (λ x. x ++ left) (sym b)
@@ -252,7 +237,7 @@ text_heard m old mid new s later homes seen bytes end b was now reads reader sto
             place = b.place ∙ h.place;
             few = few;
             going = subst (λ o. IsGoing m o new seen.told seen.begun seen.going) (sym now) (subst (λ x. IsGoingOn m x homes new seen.told seen.begun seen.going) (sym same.0) (going_beside m s homes old new seen.told seen.begun seen.going b i));
-            early = subst (λ o. BeginsNoEarlier o (new.next + 260) (new.next + 260) new) (sym now) (λ on. absurd (clash (sym on ∙ ap (λ (x : SectionStream). is_taking (queue_of x)) same.0 ∙ t)));
+            early = subst (λ o. BeginsNoEarlier o (new.next + 260) (new.next + 260) new) (sym now) (λ on. absurd (true_false (sym on ∙ ap (λ (x : SectionStream). is_taking (queue_of x)) same.0 ∙ t)));
             uptake = uptake_kept old new (old.next + 260) (new.next + 260) seen.fresh b.connected b.lines (let e = b.next in omega (arith, e)) h.uptake;
           },
         )
@@ -303,7 +288,7 @@ text_heard m old mid new s later homes seen bytes end b was now reads reader sto
 
 -- lines that a word tells where they are known
 heard_known : (m : Machine) (next : ℕ) (w : WordMsg) (told : Option Told) (c : Course) (begun : List Started) (going : Option Going) → c.connected ≡ true → KnowsConnecting m c told begun going → heard m next w told ≡ told
-heard_known m next w None c begun going on h = absurd (clash (sym on ∙ h.0))
+heard_known m next w None c begun going on h = absurd (true_false (sym on ∙ h.0))
 heard_known m next w (Some t) c begun going on h = refl
 
 with_told : (m : Machine) (c : Course) (seen : Seen) (told : Option Told) → told ≡ seen.told → IsCourseOf m c seen → IsCourseOf m c (record { text = seen.text; ended = seen.ended; read = seen.read; told = told; fresh = seen.fresh; next = seen.next; begun = seen.begun; going = seen.going })
@@ -326,7 +311,7 @@ lines_known m c seen w on h = with_told m c seen (heard m seen.next w seen.told)
 
 unknown : (m : Machine) (told : Option Told) (c : Course) (begun : List Started) (going : Option Going) → c.connected ≡ false → KnowsConnecting m c told begun going → (told ≡ None) × (begun ≡ []) × (going ≡ None)
 unknown m None c begun going off h = (refl, h.1, h.2)
-unknown m (Some t) c begun going off h = absurd (clash (sym h.connected ∙ off))
+unknown m (Some t) c begun going off h = absurd (true_false (sym h.connected ∙ off))
 
 -- no lines are told
 pub lines_none : (m : Machine) (c : Course) (seen : Seen) (w : WordMsg) → c.connected ≡ false → told_of m w ≡ None → IsCourseOf m c seen → IsCourseOf m c (with_lines m seen w)
@@ -381,7 +366,7 @@ lines_told m old new seen w off told waiting ready on source read place goes cur
       early = subst (λ o. BeginsNoEarlier o (new.next + 260) (new.next + 260) new) (sym current) (any_early m old.current old new seen.told seen.begun seen.going (new.next + 260) h.going u.2 (omega (arith, ready, next)));
       uptake = record {
         waiting = ap (λ v. v.items) waiting ∙ h.uptake.waiting;
-        none = λ no. absurd (clash (sym on ∙ no));
+        none = λ no. absurd (true_false (sym on ∙ no));
         held = λ b lt. subst (λ (hs : List Held). AreHeldBy (new.next + 260 + 16) hs) (sym (are.1.alone b (let count = are.1.count in omega (arith, lt, count)))) tt;
       };
     }
@@ -389,10 +374,6 @@ lines_told m old new seen w off told waiting ready on source read place goes cur
 -- an answer
 abbrev with_ended : Seen → Option Started → Seen
 with_ended seen o = record { text = seen.text; ended = seen.ended; read = seen.read; told = seen.told; fresh = seen.fresh; next = seen.next; begun = begun_with seen.begun o; going = going_with seen.going o }
-
-both : (a b : Bool) → (a && b) ≡ true → (a ≡ true) × (b ≡ true)
-both true b e = (refl, e)
-both false b e = absurd (clash (sym e))
 
 -- whether a section waits for it
 waiting_is : (m : Machine) (s : SectionStream) (homes : Bool) (c : Course) (told : Option Told) (begun : List Started) (going : Option Going) (i : IsGoingOn m s homes c told begun going) (next : ℕ) → c.next ≡ next → (homes && nat_le c.start c.next) ≡ (is_home i.g.kind && nat_le i.g.start next)
@@ -513,18 +494,18 @@ answer_told m s old new seen i began small nothing goes ready on lines source re
 
 heard_by : (m : Machine) (o : Open) (old new : Course) (seen : Seen) → waits_by o old.start old.next ≡ true → IsGoing m o old seen.told seen.begun seen.going → old.next ≤ 2 ^ 42 → new.current ≡ opens.Nothing → new.goes ≡ true → new.ready ≡ old.next + 260 → new.connected ≡ old.connected → new.lines ≡ old.lines
     → new.source ≡ old.source → new.read ≡ old.read → new.place ≡ old.place → new.ahead ≡ old.ahead → new.next ≡ old.next → IsCourseOf m old seen → IsCourseOf m new (with_ended seen (hears_answer m seen.next seen.going))
-heard_by m opens.Nothing old new seen waits i small nothing goes ready on lines source read place ahead next h = absurd (clash (sym waits))
-heard_by m (opens.Goes s false) old new seen waits i small nothing goes ready on lines source read place ahead next h = absurd (clash (sym waits))
+heard_by m opens.Nothing old new seen waits i small nothing goes ready on lines source read place ahead next h = absurd (true_false (sym waits))
+heard_by m (opens.Goes s false) old new seen waits i small nothing goes ready on lines source read place ahead next h = absurd (true_false (sym waits))
 heard_by m (opens.Goes s true) old new seen waits i small nothing goes ready on lines source read place ahead next h =
     let hears : hears_answer m seen.next seen.going ≡ Some (started_until m seen.next i.g) =
     ap (hears_answer m seen.next) i.is ∙ ap (λ (b : Bool). if b then Some (started_until m seen.next i.g) else None) (sym (waiting_is m s true old seen.told seen.begun seen.going i seen.next h.next) ∙ waits) in
-    let began : i.g.start ≤ old.next = elim (leb_tells old.start old.next) [ inl p ↦ (let le = p.1 in let e = i.start_is in omega (arith, le, e)) | inr p ↦ absurd (clash (sym waits ∙ p.0)) ] in
+    let began : i.g.start ≤ old.next = elim (leb_tells old.start old.next) [ inl p ↦ (let le = p.1 in let e = i.start_is in omega (arith, le, e)) | inr p ↦ absurd (true_false (sym waits ∙ p.0)) ] in
     subst (λ (o : Option Started). IsCourseOf m new (with_ended seen o)) (sym hears) (answer_told m s old new seen i began small nothing goes ready on lines source read place ahead next h)
 
 pub answer_heard : (m : Machine) (old new : Course) (seen : Seen) (w : WordMsg) → (tells_homed w.news && waits_by old.current old.start old.next) ≡ true → old.next ≤ 2 ^ 42 → new.current ≡ opens.Nothing → new.goes ≡ true → new.ready ≡ old.next + 260 → new.connected ≡ old.connected → new.lines ≡ old.lines
     → new.source ≡ old.source → new.read ≡ old.read → new.place ≡ old.place → new.ahead ≡ old.ahead → new.next ≡ old.next → IsCourseOf m old seen → IsCourseOf m new (with_answer m seen w)
 answer_heard m old new seen w e small nothing goes ready on lines source read place ahead next h =
-    let b = both (tells_homed w.news) (waits_by old.current old.start old.next) e in
+    let b = both_parts (tells_homed w.news) (waits_by old.current old.start old.next) e in
     subst (λ (t : Bool). IsCourseOf m new (with_ended seen (if t then hears_answer m seen.next seen.going else None))) (sym b.0) (heard_by m old.current old new seen b.1 h.going small nothing goes ready on lines source read place ahead next h)
 
 -- a piece is read while none goes on
@@ -591,13 +572,13 @@ own_heard (l ∷ ls) =
 
 -- once connecting ended all lines of a word are kept
 kept_on : (m : Machine) (c : Course) (told : Option Told) (begun : List Started) (going : Option Going) (ls : List BoardLine) → c.connected ≡ true → KnowsConnecting m c told begun going → lines_kept told ls ≡ ls
-kept_on m c None begun going ls on h = absurd (clash (sym on ∙ h.0))
+kept_on m c None begun going ls on h = absurd (true_false (sym on ∙ h.0))
 kept_on m c (Some t) begun going ls on h = refl
 
 -- before it none is
 kept_off : (m : Machine) (c : Course) (told : Option Told) (begun : List Started) (going : Option Going) (ls : List BoardLine) → c.connected ≡ false → KnowsConnecting m c told begun going → lines_kept told ls ≡ []
 kept_off m c None begun going ls off h = refl
-kept_off m c (Some t) begun going ls off h = absurd (clash (sym h.connected ∙ off))
+kept_off m c (Some t) begun going ls off h = absurd (true_false (sym h.connected ∙ off))
 
 -- further lines that a word tells
 pub further_kept : (m : Machine) (old : Course) (lines : BoardLines) (seen : Seen) (w : WordMsg) → old.connected ≡ true → lines.each ≡ old.lines.each → lines.waiting.items ≡ old.lines.waiting.items ++ lines_in w.news → IsCourseOf m old seen
@@ -606,7 +587,7 @@ further_kept m old lines seen w on each are h =
     let same = kept_on m old seen.told seen.begun seen.going (lines_in w.news) on h.told in
     course_lined m old lines seen (old.next + 260) (old.next + 260) (seen.fresh ++ lines_kept seen.told (lines_in w.news)) each (record {
       waiting = are ∙ ap (λ ls. ls ++ lines_in w.news) h.uptake.waiting ∙ ap (λ ls. seen.fresh ++ ls) (sym same);
-      none = λ off. absurd (clash (sym on ∙ off));
+      none = λ off. absurd (true_false (sym on ∙ off));
       held = subst (λ (cs : List Clocks). (b : ℕ) → b < length cs → AreHeldBy (old.next + 260 + 16) (clocks_at cs b).held) (sym (ap (λ v. v.items) each)) h.uptake.held;
     }) h
 

@@ -32,16 +32,8 @@ use Rattle.motion_stream.specs.Motions.{IsPlannerOf, Planner, hungry, is_nothing
 use Rattle.motion_stream.specs.Seen.{Going, Seen, items_read, sections_in}
 use Rattle.motion_stream.specs.Texts.{MayBecome}
 use Rattle.motion_stream.proofs.Wholing.{source_front}
-
-clash : true ≡ false → ⊥
-clash p = cc
-
-none_some : {X : Type 0} {x : X} → None ≡ Some x → ⊥
-none_some p = cc
-
-both : (a b : Bool) → (a && b) ≡ true → (a ≡ true) × (b ≡ true)
-both true b e = (refl, e)
-both false b e = absurd (clash (sym e))
+use Rattle.plan_types.proofs.Facts.{true_false, both_parts, was_less, none_is_some, not_less}
+use Rattle.std.proofs.lemmas.Bool.{and_cases}
 
 -- the words
 awaits_is : (m : Machine) (o : Open) (c : Course) (told : Option Told) (begun : List Started) (going : Option Going) (k : ℕ) → IsGoing m o c told begun going → waits_by o c.start k ≡ awaits going k
@@ -81,22 +73,16 @@ settled m s homes c told begun going i =
 -- where more is asked for
 none_waits : (its : List Item) → is_nothing_left its ≡ true → its ≡ []
 none_waits [] e = refl
-none_waits (i ∷ its) e = absurd (clash (sym e))
+none_waits (i ∷ its) e = absurd (true_false (sym e))
 
 none_both : {X : Type 0} (xs ys : List X) → xs ++ ys ≡ [] → (xs ≡ []) × (ys ≡ [])
 none_both [] ys e = (refl, e)
 none_both (x ∷ xs) ys e = absurd cc
 
-less : (a b : ℕ) → nat_lt a b ≡ true → a < b
-less a b e = elim (leb_tells (suc a) b) [ inl p ↦ omega (arith, p.1) | inr p ↦ absurd (clash (sym e ∙ p.0)) ]
-
-not_less : (a b : ℕ) → nat_lt a b ≡ false → b ≤ a
-not_less a b e = elim (leb_tells (suc a) b) [ inl p ↦ absurd (clash (sym p.0 ∙ e)) | inr p ↦ omega (arith, p.1) ]
-
 -- the next section has not begun in the text
 next_short : (m : Machine) (c : Course) (told : Option Told) (begun : List Started) (k : ℕ) → KnowsConnecting m c told begun None → c.connected ≡ true → nat_lt c.ready (k + 261) ≡ true → IsShort m told begun None k
-next_short m c None begun k i on lt = absurd (clash (sym on ∙ i.0))
-next_short m c (Some t) begun k i on lt = let ready = i.ready refl in let l = less c.ready (k + 261) lt in (t, refl, omega (arith, ready, l))
+next_short m c None begun k i on lt = absurd (true_false (sym on ∙ i.0))
+next_short m c (Some t) begun k i on lt = let ready = i.ready refl in let l = was_less c.ready (k + 261) lt in (t, refl, omega (arith, ready, l))
 
 idle_lacks : (m : Machine) (c : Course) (seen : Seen) (k : ℕ) → IsCourseOf m c seen → seen.going ≡ None → c.source.end ≡ None → (c.source.opened ≡ false) ⊎ (lacks c opens.Nothing k ≡ true) → Lacks m seen k
 idle_lacks m c seen k h none end (inl fresh) =
@@ -105,8 +91,8 @@ idle_lacks m c seen k h none end (inl fresh) =
     let own = (none_both (items_read seen.begun seen.going) c.source.items.items nil).0 in
     record { told = told; read = read_on m c seen h end; no_end = subst (λ g. HasNoEnd seen.begun g told) (sym none) (nil ∙ sym own ∙ ap (items_read seen.begun) none); short = inl nil }
 idle_lacks m c seen k h none end (inr e) =
-    let soon = both (c.connected && is_nothing_left c.source.items.items) (nat_lt c.ready (k + 261)) e in
-    let on = both c.connected (is_nothing_left c.source.items.items) soon.0 in
+    let soon = both_parts (c.connected && is_nothing_left c.source.items.items) (nat_lt c.ready (k + 261)) e in
+    let on = both_parts c.connected (is_nothing_left c.source.items.items) soon.0 in
     let told = items_read seen.begun seen.going ++ c.source.items.items in
     record {
       told = told;
@@ -169,7 +155,7 @@ some_items begun g rest e = no_items ((none_both (items_of (sections_in begun)) 
 going_lacks : (m : Machine) (s : SectionStream) (homes : Bool) (c : Course) (seen : Seen) (k : ℕ) → IsCourseOf m c seen → IsGoingOn m s homes c seen.told seen.begun seen.going → (is_taking (queue_of s) ≡ true → IsStopped c.source.items.items) → c.source.end ≡ None → (c.source.opened ≡ false) ⊎ (lacks c (opens.Goes s homes) k ≡ true) → Lacks m seen k
 going_lacks m s homes c seen k h i stops end (inl fresh) = absurd (some_items seen.begun i.g c.source.items.items (ap (λ g. items_read seen.begun g ++ c.source.items.items) (sym i.is) ∙ h.source.first end fresh))
 going_lacks m s homes c seen k h i stops end (inr e) =
-    let on = both (is_taking (queue_of s)) (nat_lt (settled_to (queue_of s)) ((k + 261) * turn_ns)) e in
+    let on = both_parts (is_taking (queue_of s)) (nat_lt (settled_to (queue_of s)) ((k + 261) * turn_ns)) e in
     let goes : i.g.goes ≡ true = sym i.takes ∙ on.0 in
     let told = items_read seen.begun seen.going ++ c.source.items.items in
     record {
@@ -179,7 +165,7 @@ going_lacks m s homes c seen k h i stops end (inr e) =
           let none = nothing_waits m c seen i.g h i.is goes end (stops on.0) in
           subst (λ g. HasNoEnd seen.begun g told) (sym i.is) (ap (λ g. items_read seen.begun g ++ c.source.items.items) i.is ∙ ap (λ its. items_read seen.begun (Some i.g) ++ its) none ∙ open_items seen.begun i.g [] goes
           ∙ ap (λ ms. items_of (sections_in seen.begun) ++ items.Begin i.g.kind i.g.dwell ∷ ms) (append-nil (moves_in i.g.moves)));
-      short = inr (subst (λ g. IsShort m seen.told seen.begun g k) (sym i.is) (settled_to (queue_of s), settled m s homes c seen.told seen.begun seen.going i, less (settled_to (queue_of s)) ((k + 261) * turn_ns) on.1));
+      short = inr (subst (λ g. IsShort m seen.told seen.begun g k) (sym i.is) (settled_to (queue_of s), settled m s homes c seen.told seen.begun seen.going i, was_less (settled_to (queue_of s)) ((k + 261) * turn_ns) on.1));
     }
 
 by_open : (m : Machine) (o : Open) (c : Course) (seen : Seen) (k : ℕ) → IsCourseOf m c seen → IsGoing m o c seen.told seen.begun seen.going → BeginsNoEarlier o (c.next + 260) (c.next + 260) c → c.source.end ≡ None → (c.source.opened ≡ false) ⊎ (lacks c o k ≡ true) → Lacks m seen k
@@ -188,7 +174,7 @@ by_open m (opens.Goes s homes) c seen k h i early end why = going_lacks m s home
 
 no_end : (o : Option ReadEnd) → is_none o ≡ true → o ≡ None
 no_end None e = refl
-no_end (Some x) e = absurd (clash (sym e))
+no_end (Some x) e = absurd (true_false (sym e))
 
 why_hungry : (opened lacking : Bool) → (if opened then lacking else true) ≡ true → (opened ≡ false) ⊎ (lacking ≡ true)
 why_hungry true lacking e = inr e
@@ -197,32 +183,27 @@ why_hungry false lacking e = inl refl
 pub hungry_lacks : (p : Planner) (seen : Seen) (k : ℕ) → IsPlannerOf p seen → hungry p k ≡ true → Lacks p.machine seen k
 hungry_lacks p seen k h e =
     let c = p.course in
-    let on = both (is_none c.source.end) (if c.source.opened then lacks c c.current k else true) e in
+    let on = both_parts (is_none c.source.end) (if c.source.opened then lacks c c.current k else true) e in
     by_open p.machine c.current c seen k h h.going h.early (no_end c.source.end on.0) (why_hungry c.source.opened (lacks c c.current k) on.1)
 
--- where nothing more is asked for
-one_false : (a b : Bool) → (a && b) ≡ false → (a ≡ false) ⊎ (b ≡ false)
-one_false true b e = inr e
-one_false false b e = inl refl
-
 some_waits : (its : List Item) → is_nothing_left its ≡ false → (i : Item) × (rest : List Item) × (its ≡ i ∷ rest)
-some_waits [] e = absurd (clash e)
+some_waits [] e = absurd (true_false e)
 some_waits (i ∷ its) e = (i, its, refl)
 
 idle_enough : (m : Machine) (c : Course) (told : Option Told) (begun : List Started) (k : ℕ) → KnowsConnecting m c told begun None → lacks c opens.Nothing k ≡ false → HasEnough m told begun None (items_of (sections_in begun) ++ c.source.items.items) k
 idle_enough m c None begun k i e = tt
 idle_enough m c (Some t) begun k i e =
     let its = items_of (sections_in begun) ++ c.source.items.items in
-    elim (one_false (c.connected && is_nothing_left c.source.items.items) (nat_lt c.ready (k + 261)) e) as (λ _. HasEnough m (Some t) begun None its k) [
-      | inl f ↦ elim (one_false c.connected (is_nothing_left c.source.items.items) f) as (λ _. HasEnough m (Some t) begun None its k) [
-        | inl off ↦ absurd (clash (sym i.connected ∙ off))
+    elim (and_cases (c.connected && is_nothing_left c.source.items.items) (nat_lt c.ready (k + 261)) e) as (λ _. HasEnough m (Some t) begun None its k) [
+      | inl f ↦ elim (and_cases c.connected (is_nothing_left c.source.items.items) f) as (λ _. HasEnough m (Some t) begun None its k) [
+        | inl off ↦ absurd (true_false (sym i.connected ∙ off))
         | inr some ↦ (let w = some_waits c.source.items.items some in inl (w.0, w.1, ap (λ xs. items_of (sections_in begun) ++ xs) w.2))
       ]
       | inr late ↦ (let l = not_less c.ready (k + 261) late in let ready = i.ready refl in inr (omega (arith, l, ready)))
     ]
 
 going_enough : (m : Machine) (s : SectionStream) (homes : Bool) (c : Course) (told : Option Told) (begun : List Started) (going : Option Going) (k : ℕ) → (i : IsGoingOn m s homes c told begun going) → lacks c (opens.Goes s homes) k ≡ false → HasEnough m (Some i.t) begun (Some i.g) (items_read begun (Some i.g) ++ c.source.items.items) k
-going_enough m s homes c told begun going k i e = elim (one_false (is_taking (queue_of s)) (nat_lt (settled_to (queue_of s)) ((k + 261) * turn_ns)) e) as (λ _. HasEnough m (Some i.t) begun (Some i.g) (items_read begun (Some i.g) ++ c.source.items.items) k) [
+going_enough m s homes c told begun going k i e = elim (and_cases (is_taking (queue_of s)) (nat_lt (settled_to (queue_of s)) ((k + 261) * turn_ns)) e) as (λ _. HasEnough m (Some i.t) begun (Some i.g) (items_read begun (Some i.g) ++ c.source.items.items) k) [
   | inl over ↦ inl (c.source.items.items, ended_items begun i.g c.source.items.items (sym i.takes ∙ over))
   | inr far ↦ inr (settled_to (queue_of s), settled m s homes c told begun going i, not_less (settled_to (queue_of s)) ((k + 261) * turn_ns) far)
 ]
@@ -236,7 +217,7 @@ enough_by m (opens.Goes s homes) c seen k t i e =
 
 not_hungry : (opened lacking : Bool) → (if opened then lacking else true) ≡ false → lacking ≡ false
 not_hungry true lacking e = e
-not_hungry false lacking e = absurd (clash e)
+not_hungry false lacking e = absurd (true_false e)
 
 pub sated_is : (p : Planner) (seen : Seen) (k : ℕ) → IsPlannerOf p seen → hungry p k ≡ false → IsSated p.machine seen k
 sated_is p seen k h e = by p.course.source.end refl e

@@ -18,7 +18,7 @@ use Rattle.motion_work.specs.Puts.{IsPut, IsReadNews, Put, begun_notes}
 use Rattle.motion_work.specs.Seen.{AreStarted, Started, ready_after}
 use Rattle.motion_work.specs.Told.{Told, heard, told_at, told_of}
 use Rattle.motion_work.specs.Turns.{done_notes}
-use Rattle.motion_work.proofs.Putting.{started_last}
+use Rattle.motion_work.proofs.Putting.{started_last, begun_before}
 use Rattle.motion_work.proofs.Turning.{none_behind}
 use Rattle.motion_stream.specs.declared.course.Course.{Course}
 use Rattle.motion_stream.specs.Clear.{EndsOutside, IsClearTo, tells_sections}
@@ -32,12 +32,7 @@ use Rattle.motion_stream.proofs.Drawing.{whole_none}
 use Rattle.motion_stream.proofs.Laying.{answer_whole, heard_none, none_going, sooner_text, sooner_whole}
 use Rattle.motion_stream.proofs.Planning.{split_last, told_all}
 use Rattle.motion_stream.proofs.Wholing.{are_there}
-
-none_some : {X : Type 0} {x : X} → None ≡ Some x → ⊥
-none_some p = cc
-
-some_same : {X : Type 0} (x y : X) → Some x ≡ Some y → x ≡ y
-some_same x y p = cc
+use Rattle.plan_types.proofs.Facts.{some_same, none_is_some}
 
 -- a piece of the text
 pub text_clear : (m : Machine) (seen : Seen) (bytes : List ℕ) (end : Bool) (going : Option Going) (n : ℕ) → IsMore seen.going going → IsClearTo m seen n → IsClearTo m (read_on seen bytes end going) n
@@ -49,7 +44,7 @@ text_clear m seen bytes end going n more cl = record {
 
 -- lines that a word tells
 first_late : (next turn : ℕ) (o : Option (List Clocks)) (t : Told) → told_at (max next turn) o ≡ Some t → next + 260 ≤ t.first
-first_late next turn None t e = absurd (none_some e)
+first_late next turn None t e = absurd (none_is_some e)
 first_late next turn (Some clocks) t e = (let f : first_start (max next turn) ≡ t.first = ap (λ (x : Told). x.first) (some_same (record { first = first_start (max next turn); clocks = clocks }) t e) in omega (arith, f))
 
 lines_clear : (m : Machine) (c : Course) (seen : Seen) (w : WordMsg) (n : ℕ) (told : Option Told) → seen.told ≡ told → KnowsConnecting m c told seen.begun seen.going → IsClearTo m seen n → IsClearTo m (with_lines m seen w) n
@@ -102,7 +97,7 @@ told_first ns (Some u) t e = (u, refl, ap (λ (x : Told). x.first) (some_same (r
 
 told_none : (ns : List NoteNews) (o : Option Told) → told_on ns o ≡ None → o ≡ None
 told_none ns None e = refl
-told_none ns (Some u) e = absurd (none_some (sym e))
+told_none ns (Some u) e = absurd (none_is_some (sym e))
 
 -- no section is begun in a turn that is clear
 not_begun : (m : Machine) (c : Course) (seen next : Seen) (k n : ℕ) (ns : List NoteNews) → IsCourseOf m c next → IsSeenBehind m seen next k ns → IsClearTo m seen n → k < n → count_of next.begun next.going ≡ count_of seen.begun seen.going
@@ -167,16 +162,6 @@ no_done k n i (s ∷ all) lt h = elim (eqb_tells s.end k) [
   | inr p ↦ rw p.0 (no_done k n (i + 1) all lt (All-tail (EndsOutside k n) s all h))
 ]
 
-no_begun : (k i : ℕ) (all : List Started) → All (λ s. s.start < k + 260) all → begun_notes k i all ≡ []
-no_begun k i [] h = refl
-no_begun k i (s ∷ all) h =
-    let P : Started → Type 0 = λ x. x.start < k + 260 in
-    let own : s.start < k + 260 = All-head P s all h in
-    elim (eqb_tells s.start (k + 260)) [
-      | inl p ↦ absurd (let e = p.1 in omega (arith, own, e))
-      | inr p ↦ rw p.0 (no_begun k (i + 1) all (All-tail P s all h))
-    ]
-
 further_none : (k : ℕ) (ns : List NoteNews) → AreFurther k ns → tells_sections ns ≡ false
 further_none k [] h = refl
 further_none k (news.Line board line from ∷ ns) h = further_none k ns h.1
@@ -208,6 +193,6 @@ turn_clear p q seen ps k n batches note h put can makes cl lt =
     let ends : All (EndsOutside k n) all = subst (All (EndsOutside k n)) (sym same) (subst (λ x. All (EndsOutside x n) g.old) (sym at) (cl.ends g.old g.whole)) in
     let early : All (λ (s : Started). s.start < k + 260) all = subst (All (λ (s : Started). s.start < k + 260)) (sym same) (begun g.old g.whole) in
     let rest = one.read ++ one.further in
-    let is : note.news ≡ rest = one.news_are ∙ ap (λ x. x ++ (begun_notes k 0 all ++ rest)) (no_done k n 0 all lt ends) ∙ ap (λ x. x ++ rest) (no_begun k 0 all early) in
+    let is : note.news ≡ rest = one.news_are ∙ ap (λ x. x ++ (begun_notes k 0 all ++ rest)) (no_done k n 0 all lt ends) ∙ ap (λ x. x ++ rest) (begun_before k 0 all early) in
     ap tells_sections is ∙ read_none m next.text one.read one.further k one.is_read one.are_further) in
     (next, subst (λ x. IsCourseOf x q.course next) (sym makes.0) t.3, subst (λ x. IsClearTo x next n) (sym makes.0) cl', quiet)

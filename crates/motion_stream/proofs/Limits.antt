@@ -29,8 +29,9 @@ use Rattle.motion_stream.specs.Seen.{Going, Seen, items_read, sections_in}
 use Rattle.motion_stream.specs.Texts.{IsSourceOf}
 use Rattle.motion_stream.proofs.Keeping.{own_text}
 use Rattle.motion_stream.proofs.Wholing.{at_place, source_front}
+use Rattle.plan_types.proofs.Facts.{some_same, none_is_some}
 
-moves_join : (ms ns : List Move) → moves_in (ms ++ ns) ≡ moves_in ms ++ moves_in ns
+pub moves_join : (ms ns : List Move) → moves_in (ms ++ ns) ≡ moves_in ms ++ moves_in ns
 moves_join [] ns = refl
 moves_join (m ∷ ms) ns = ap (λ is. items.Move m ∷ is) (moves_join ms ns)
 
@@ -68,12 +69,6 @@ going_few m source text ended begun g true is goes valid h =
     let own : items_read begun (Some g) ≡ items_of (sections_in begun) ++ (items.Begin g.kind g.dwell ∷ moves_in g.moves) = ap (λ b. items_of (sections_in begun) ++ (items.Begin g.kind g.dwell ∷ (moves_in g.moves ++ ending (not b)))) is ∙ ap (λ x. items_of (sections_in begun) ++ (items.Begin g.kind g.dwell ∷ x)) (append-nil (moves_in g.moves)) in
     let e : items_of (program_sections m text) ≡ items_of (sections_in begun) ++ (items.Begin g.kind g.dwell ∷ (moves_in g.moves ++ (its ++ f.0))) = f.1 ∙ ap (λ x. x ++ (its ++ f.0)) own ∙ append_assoc (items_of (sections_in begun)) (items.Begin g.kind g.dwell ∷ moves_in g.moves) (its ++ f.0) in
     few_moves m text begun g.kind g.dwell g.moves its f.0 valid e
-
-some_same : {X : Type 0} (x y : X) → Some x ≡ Some y → x ≡ y
-some_same x y p = cc
-
-none_some : {X : Type 0} {x : X} → None ≡ Some x → ⊥
-none_some p = cc
 
 pub waiting_few : (m : Machine) (c : Course) (s : SectionStream) (homes : Bool) (seen : Seen) (source : Source) (text : List ℕ) (ended : Bool) → c.current ≡ opens.Goes s homes → IsCourseOf m c seen → IsSourceOf m source text ended (items_read seen.begun seen.going) → is_taking (queue_of s) ≡ true → count_in (queue_of s) + moves_ahead source.items.items ≤ 2_000_000
 waiting_few m c s homes seen source text ended open_is h from takes =

@@ -41,7 +41,7 @@ use Rattle.motion_stream.specs.declared.course.Course.{Course}
 use Rattle.motion_stream.specs.declared.course.Open.{Open}
 use Rattle.motion_stream.specs.declared.course.Open.TheVariants as opens
 use Rattle.motion_stream.specs.declared.source.Source.{Source}
-use Rattle.motion_stream.proofs.Drawing.{same_go, some_same, uptake_kept}
+use Rattle.motion_stream.proofs.Drawing.{same_go, uptake_kept}
 use Rattle.motion_stream.proofs.Laid.{laid_later}
 use Rattle.motion_stream.specs.Courses.{AreAhead, GoesAs, IsConnected, IsCourseBy, IsCourseOf, BeginsNoEarlier, IsGoing, IsIdle, IsLater, KnowsConnecting}
 use Rattle.motion_stream.specs.Gone.{HasOpened, TellsAs}
@@ -50,12 +50,7 @@ use Rattle.motion_stream.proofs.ByKind.{starts_late}
 use Rattle.motion_stream.specs.Steps.{AreBegun, IsBegun, IsSectionDue, IsNotDue}
 use Rattle.motion_stream.specs.Texts.{IsSourceOf}
 use Rattle.motion_stream.proofs.Sourcing.{waiting_good}
-
-clash : true ≡ false → ⊥
-clash p = cc
-
-none_some : {X : Type 0} (x : X) → None ≡ Some x → ⊥
-none_some x p = cc
+use Rattle.plan_types.proofs.Facts.{true_false, none_some, not_not, some_same}
 
 moves_home : (axis : ℕ) → Moves ≡ Home axis → ⊥
 moves_home axis p = cc
@@ -67,7 +62,7 @@ pub record IsLinked (m : Machine) (c : Course) (told : Option Told) (begun : Lis
   pub is : IsConnected m c t begun going
 
 pub linked : (m : Machine) (c : Course) (told : Option Told) (begun : List Started) (going : Option Going) → c.connected ≡ true → KnowsConnecting m c told begun going → IsLinked m c told begun going
-linked m c None begun going on h = absurd (clash (sym on ∙ h.0))
+linked m c None begun going on h = absurd (true_false (sym on ∙ h.0))
 linked m c (Some t) begun going on h = record { t = t; told_is = refl; is = h }
 
 -- the sections before are over
@@ -141,10 +136,6 @@ source_on m old new text ended told more reader end over opened same h = record 
   first = λ e fresh. sym same ∙ h.first (sym end ∙ e) (sym opened ∙ fresh);
   over = λ e is whole may. subst (λ (its : List Item). IsAll m whole e its) same (h.over e (sym end ∙ is) whole may);
 }
-
-not_not : (b : Bool) → not (not b) ≡ b
-not_not true = refl
-not_not false = refl
 
 -- a section that was begun: these moves were read
 abbrev pub fresh : SectionKind → ℕ → ℕ → List Move → Bool → ℕ → ℕ → Going

@@ -26,12 +26,7 @@ use Rattle.motion_stream.specs.Texts.{MayBecome}
 use Rattle.motion_stream.specs.Wholes.{AreOf, ArePlanned, AreSentIn, HasNoAnswer, IsToldOf, IsWholeLast}
 use Rattle.motion_stream.proofs.Clearing.{next_clear}
 use Rattle.motion_stream.proofs.Wholing.{are_there}
-
-some_same : {X : Type 0} (x y : X) → Some x ≡ Some y → x ≡ y
-some_same x y p = cc
-
-none_some : {X : Type 0} {x : X} → None ≡ Some x → ⊥
-none_some p = cc
+use Rattle.plan_types.proofs.Facts.{some_same, none_is_some}
 
 -- the section that goes on, whole
 last_started : (m : Machine) (s : SectionStream) (homes : Bool) (c : Course) (t : Told) (begun : List Started) (going : Option Going) (i : IsGoingOn m s homes c (Some t) begun going) (x : Started) → IsContinued m c.next i.g x → IsPlanned x.section.kind m t.clocks x → IsStarted m t.clocks (ready_after t.first begun) x
@@ -43,7 +38,7 @@ last_started m s homes c t begun going i x is plan =
 
 -- sections begun, and the one that goes on
 by_open : (m : Machine) (o : Open) (c : Course) (t : Told) (begun : List Started) (going : Option Going) (g : Going) (x : Started) → going ≡ Some g → IsGoing m o c (Some t) begun going → IsContinued m c.next g x → IsPlanned x.section.kind m t.clocks x → AreStarted m t.clocks t.first begun → AreStarted m t.clocks t.first (begun ++ x ∷ [])
-by_open m opens.Nothing c t begun going g x e i is plan all = absurd (none_some (sym i.none ∙ e))
+by_open m opens.Nothing c t begun going g x e i is plan all = absurd (none_is_some (sym i.none ∙ e))
 by_open m (opens.Goes s homes) c t begun going g x e i is plan all =
     started_more m t.clocks t.first begun x all (last_started m s homes c t begun going i x (subst (λ (h : Going). IsContinued m c.next h x) (some_same g i.g (sym e ∙ i.is)) is) plan)
 

@@ -10,9 +10,7 @@ use Rattle.gcode_program.specs.Reader.{IsAll}
 use Rattle.gcode_program.specs.Readers.{IsReaderOf, stop_of}
 use Rattle.motion_stream.specs.declared.source.Source.{Source}
 use Rattle.motion_stream.specs.Texts.{IsSourceOf, MayBecome, ended_after, text_after}
-
-clash : true ≡ false → ⊥
-clash p = cc
+use Rattle.plan_types.proofs.Facts.{true_false}
 
 no_end : {A : Type 0} (e : ReadEnd) → None ≡ Some e → A
 no_end e p = absurd cc
@@ -36,7 +34,7 @@ read_is m old new text bytes told none open_is opened end reads h =
       ended_is = open_is;
       goes = λ e. (refl, reader);
       reads = λ e. sym end ∙ e;
-      first = λ e fresh. absurd (clash (sym opened ∙ fresh));
+      first = λ e fresh. absurd (true_false (sym opened ∙ fresh));
       over = λ e is whole may. subst (λ (t : List ℕ). IsAll m t e (told ++ new.items.items)) (sym may.1) ((reader.read may.0).over e (sym end ∙ is));
     }
 
@@ -80,11 +78,11 @@ finished_is m old new text told e none some over ends h =
 -- a piece
 pub kept_piece : (m : Machine) (s : Source) (text bytes : List ℕ) (ended end : Bool) (told : List Item) → s.ended ≡ true → IsSourceOf m s text ended told → IsSourceOf m s (text_after text ended bytes) (ended_after ended end) told
 kept_piece m s text bytes true end told is h = h
-kept_piece m s text bytes false end told is h = absurd (clash (sym is ∙ h.ended_is))
+kept_piece m s text bytes false end told is h = absurd (true_false (sym is ∙ h.ended_is))
 
 pub took_piece : (m : Machine) (old new : Source) (text bytes : List ℕ) (ended end : Bool) (told : List Item) → old.ended ≡ false
     → (IsSourceOf m old text false told → IsSourceOf m new (text ++ bytes) end told) → IsSourceOf m old text ended told → IsSourceOf m new (text_after text ended bytes) (ended_after ended end) told
-took_piece m old new text bytes true end told is go h = absurd (clash (sym h.ended_is ∙ is))
+took_piece m old new text bytes true end told is go h = absurd (true_false (sym h.ended_is ∙ is))
 took_piece m old new text bytes false end told is go h = go h
 
 -- the same, of things that are read apart from those that wait
@@ -108,13 +106,13 @@ finished_by m old new text told empty more e none some over nil are ends h =
 pub more_else : (m : Machine) (old new : Source) (text bytes : List ℕ) (told : List Item) → true ≡ is_some old.end → new.end ≡ old.end → new.ended ≡ false → new.items.items ≡ old.items.items → IsSourceOf m old text false told → IsSourceOf m new (text ++ bytes) false told
 more_else m old new text bytes told some same open_is are h = by old.end refl some where
   by : (o : Option ReadEnd) → old.end ≡ o → true ≡ is_some o → IsSourceOf m new (text ++ bytes) false told
-  by None e n = absurd (clash n)
+  by None e n = absurd (true_false n)
   by (Some x) e n = more_is m old new text bytes told x e same open_is are h
 
 pub ended_else : (m : Machine) (old new : Source) (text : List ℕ) (told : List Item) → true ≡ is_some old.end → new.end ≡ old.end → new.ended ≡ true → new.items.items ≡ old.items.items → IsSourceOf m old text false told → IsSourceOf m new text true told
 ended_else m old new text told some same over are h = by old.end refl some where
   by : (o : Option ReadEnd) → old.end ≡ o → true ≡ is_some o → IsSourceOf m new text true told
-  by None e n = absurd (clash n)
+  by None e n = absurd (true_false n)
   by (Some x) e n = ended_is m old new text told x e same over are h
 
 -- what waits can be planned

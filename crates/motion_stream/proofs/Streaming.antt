@@ -42,16 +42,11 @@ use Rattle.motion_stream.specs.Motions.{started_until}
 use Rattle.motion_stream.specs.Seen.{AreWhole, EndsBy, Going, IsContinued, Seen, count_of, items_read, moves_end}
 use Rattle.motion_stream.proofs.ByKind.{all_of, answered_board, answered_items, continued_sooner, ends_late, ends_sooner, goes_by, moves_kind, whole_moves}
 use Rattle.motion_stream.specs.Steps.{IsPassed}
-use Rattle.motion_stream.proofs.Drawing.{IsKept, ahead_next, batches_are, behind, boards_in_all, course_on, front_units, later_easy, no_units, same_go, some_same, told_kept, units_snoc}
+use Rattle.motion_stream.proofs.Drawing.{IsKept, ahead_next, batches_are, behind, boards_in_all, course_on, front_units, later_easy, no_units, same_go, told_kept, units_snoc}
 use Rattle.motion_stream.proofs.Rowing.{no_row}
 use Rattle.motion_stream.proofs.Taking.{same_released, section_on}
 use Rattle.section_stream.specs.Steppers.{StepperKind}
-
-clash : true ≡ false → ⊥
-clash p = cc
-
-none_some : {X : Type 0} (x : X) → None ≡ Some x → ⊥
-none_some x p = cc
+use Rattle.plan_types.proofs.Facts.{true_false, none_some, some_same}
 
 -- whole sections of one that goes on
 pub record IsLast (m : Machine) (next : ℕ) (begun : List Started) (g : Going) (all : List Started) : Type 0 where

@@ -34,9 +34,7 @@ use Rattle.motion_stream.proofs.Drawing.{boards_in_all, units_snoc, uptake_kept}
 use Rattle.motion_stream.proofs.Leaving.{leaves_behind}
 use Rattle.motion_stream.proofs.Opening.{linked}
 use Rattle.motion_stream.proofs.Ending.{out_known, reading_told, tells_when, told_known}
-
-clash : true ≡ false → ⊥
-clash p = cc
+use Rattle.plan_types.proofs.Facts.{true_false}
 
 -- with how the text was read told
 read_on : (m : Machine) (old new : Course) (seen : Seen) (read : Bool) → new ≡ record old { read = read } → IsCourseOf m old seen → IsCourseOf m new (record { text = seen.text; ended = seen.ended; read = read; told = seen.told; fresh = seen.fresh; next = seen.next; begun = seen.begun; going = seen.going })

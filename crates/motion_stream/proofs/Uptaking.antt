@@ -53,12 +53,7 @@ use Rattle.motion_stream.proofs.Opening.{IsLinked, linked}
 use Rattle.motion_stream.proofs.Drawing.{fed_on}
 use Rattle.motion_stream.proofs.Hearing.{course_lined}
 use Rattle.motion_stream.proofs.Laid.{EndBy, EndsBy, end_by, laid_stay}
-
-none_some : {X : Type 0} (x : X) → None ≡ Some x → ⊥
-none_some x p = cc
-
-some_same : {X : Type 0} (x y : X) → Some x ≡ Some y → x ≡ y
-some_same x y p = cc
+use Rattle.plan_types.proofs.Facts.{some_same, none_some, none_long}
 
 -- the lines of all boards with one more
 first_line : (clocks : List Clocks) (b a turn : ℕ) (line : Line) → b < length clocks → (clocks_at (line_at clocks b turn line) a).first ≡ (clocks_at clocks a).first
@@ -327,13 +322,9 @@ course_emptied m c lines seen turn free each none h =
       held = subst (λ (cs : List Clocks). (b : ℕ) → b < length cs → AreHeldBy (free + 16) (clocks_at cs b).held) (sym (ap (λ v. v.items) each)) h.uptake.held;
     }) h
 
-no_items : {X : Type 0} (xs : List X) → length xs ≡ 0 → xs ≡ []
-no_items [] e = refl
-no_items (x ∷ xs) e = absurd (omega (arith, e))
-
 -- none waits before connecting ended
 none_waits : (m : Machine) (c : Course) (seen : Seen) (turn free : ℕ) (on : Bool) → c.connected ≡ on → IsCourseBy m c seen turn free → (c.connected ≡ true → length c.lines.waiting.items ≡ 0) → c.lines.waiting.items ≡ []
-none_waits m c seen turn free true on h none = no_items c.lines.waiting.items (none on)
+none_waits m c seen turn free true on h none = none_long c.lines.waiting.items (none on)
 none_waits m c seen turn free false off h none = h.uptake.waiting ∙ h.uptake.none off
 
 -- where none waits, none is taken up
@@ -358,7 +349,7 @@ none_lost m c seen turn free k ns t h is all =
     by (Some u) i e = i.lines ∙ ap (λ (x : Told). x.clocks) (some_same u t e)
 
 -- one line behind some others
-noted_both : (xs ys : List NoteNews) (clocks : List Clocks) → noted_lines (xs ++ ys) clocks ≡ noted_lines ys (noted_lines xs clocks)
+pub noted_both : (xs ys : List NoteNews) (clocks : List Clocks) → noted_lines (xs ++ ys) clocks ≡ noted_lines ys (noted_lines xs clocks)
 noted_both [] ys clocks = refl
 noted_both (news.Start section kind turn last moving ∷ xs) ys clocks = noted_both xs ys clocks
 noted_both (news.Done section turn ∷ xs) ys clocks = noted_both xs ys clocks

@@ -19,17 +19,7 @@ use Rattle.plan_types.specs.Valid.{IsValidLine}
 use Rattle.section_feed.proofs.Lasts.{one-lasts}
 use Rattle.motion_work.specs.Seen.{AreBoardClocks, AreClocks}
 use Rattle.motion_work.specs.Told.{are_fit, first_told, is_fit, word_limit, clocks_in_news, told_in, told_of}
-
-clash : false ≡ true → ⊥
-clash e = cc
-
-both_true : (a b : Bool) → (a && b) ≡ true → (a ≡ true) × (b ≡ true)
-both_true true b e = (refl, e)
-both_true false b e = absurd (clash e)
-
-and_false : (a : Bool) → (a && false) ≡ false
-and_false true = refl
-and_false false = refl
+use Rattle.plan_types.proofs.Facts.{both_parts, false_true, and_false}
 
 pub fit_lengths : (boards : List BoardDef) (turn : ℕ) (lines : List Line) → (length boards ≡ length lines → ⊥) → false ≡ are_fit boards turn lines
 fit_lengths [] turn [] ne = absurd (ne refl)
@@ -62,11 +52,11 @@ pub record IsFitLine (b : BoardDef) (turn : ℕ) (l : Line) : Type 0 where
 
 pub fit_is : (b : BoardDef) (turn : ℕ) (l : Line) → IsValidBoard b → turn < 2 ^ 61 → is_fit b turn l ≡ true → IsFitLine b turn l
 fit_is b turn l board small e =
-    let both = both_true (nat_eq l.freq b.freq && nat_le l.at (turn * turn_ns)) (nat_eq (l.at % 1_000_000) 0) e in
-    let one = both_true (nat_eq l.freq b.freq) (nat_le l.at (turn * turn_ns)) both.0 in
-    let freq : l.freq ≡ b.freq = elim (eqb_tells l.freq b.freq) [ inl p ↦ p.1 | inr p ↦ absurd (clash (sym p.0 ∙ one.0)) ] in
-    let before : l.at ≤ turn * turn_ns = elim (leb_tells l.at (turn * turn_ns)) [ inl p ↦ p.1 | inr p ↦ absurd (clash (sym p.0 ∙ one.1)) ] in
-    let whole : l.at % 1_000_000 ≡ 0 = elim (eqb_tells (l.at % 1_000_000) 0) [ inl p ↦ p.1 | inr p ↦ absurd (clash (sym p.0 ∙ both.1)) ] in
+    let both = both_parts (nat_eq l.freq b.freq && nat_le l.at (turn * turn_ns)) (nat_eq (l.at % 1_000_000) 0) e in
+    let one = both_parts (nat_eq l.freq b.freq) (nat_le l.at (turn * turn_ns)) both.0 in
+    let freq : l.freq ≡ b.freq = elim (eqb_tells l.freq b.freq) [ inl p ↦ p.1 | inr p ↦ absurd (false_true (sym p.0 ∙ one.0)) ] in
+    let before : l.at ≤ turn * turn_ns = elim (leb_tells l.at (turn * turn_ns)) [ inl p ↦ p.1 | inr p ↦ absurd (false_true (sym p.0 ∙ one.1)) ] in
+    let whole : l.at % 1_000_000 ≡ 0 = elim (eqb_tells (l.at % 1_000_000) 0) [ inl p ↦ p.1 | inr p ↦ absurd (false_true (sym p.0 ∙ both.1)) ] in
     let f = board.freq in
     record {
       valid = record {
@@ -82,10 +72,10 @@ fit_is b turn l board small e =
 
 pub fit_at : (boards : List BoardDef) (turn : ℕ) (lines : List Line) (d : BoardDef) (e : Line) → All IsValidBoard boards → turn < 2 ^ 61 → are_fit boards turn lines ≡ true → (length lines ≡ length boards) × ((b : ℕ) → b < length lines → IsFitLine (get_or boards b d) turn (get_or lines b e))
 fit_at [] turn [] d e valid small h = (refl, λ b lt. absurd (omega (arith, lt)))
-fit_at [] turn (l ∷ lines) d e valid small h = absurd (clash h)
-fit_at (b ∷ boards) turn [] d e valid small h = absurd (clash h)
+fit_at [] turn (l ∷ lines) d e valid small h = absurd (false_true h)
+fit_at (b ∷ boards) turn [] d e valid small h = absurd (false_true h)
 fit_at (b ∷ boards) turn (l ∷ lines) d e valid small h =
-    let both = both_true (is_fit b turn l) (are_fit boards turn lines) h in
+    let both = both_parts (is_fit b turn l) (are_fit boards turn lines) h in
     let here = fit_is b turn l (All-head IsValidBoard b boards valid) small both.0 in
     let later = fit_at boards turn lines d e (All-tail IsValidBoard b boards valid) small both.1 in
     (ap suc later.0, each here later.1)

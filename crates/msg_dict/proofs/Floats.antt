@@ -9,14 +9,7 @@ use Rattle.plan_types.specs.declared.machine.BoardDef.{BoardDef}
 use Rattle.msg_dict.specs.declared.row.Row.{Row}
 use Rattle.msg_dict.specs.Table.{format_text, own_id, command_rows, answer_rows}
 use Rattle.msg_dict.specs.Own.{whole, with_rows, with_pin, with_pins, reasons, enumerations, own_dictionary}
-
-both_false : (a b : Bool) → (a || b) ≡ false → (a ≡ false) × (b ≡ false)
-both_false true b e = cc
-both_false false b e = (refl, e)
-
-none_in : (a b : Bool) → a ≡ false → b ≡ false → (a || b) ≡ false
-none_in true b e f = cc
-none_in false b e f = f
+use Rattle.std.proofs.lemmas.Bool.{or_parts, or_from}
 
 by_order : (o : Ordering) (a b c : Members) → members_have_float a ≡ false → members_have_float b ≡ false → members_have_float c ≡ false
     → members_have_float (match_ordering o a b c) ≡ false
@@ -25,11 +18,11 @@ by_order Equal a b c e f g = f
 by_order Greater a b c e f g = g
 
 put_none : (k : List ℕ) (d : Data) (ms : Members) → has_float d ≡ false → members_have_float ms ≡ false → members_have_float (put k d ms) ≡ false
-put_none k d no_members e f = none_in (has_float d) false e refl
+put_none k d no_members e f = or_from (has_float d) false e refl
 put_none k d (member l x ms) e f =
-    let parts = both_false (has_float x) (members_have_float ms) f in
-    by_order (slice_cmp nat_cmp k l) (member k d (member l x ms)) (member l d ms) (member l x (put k d ms)) (none_in (has_float d) (members_have_float (member l x ms)) e f)
-    (none_in (has_float d) (members_have_float ms) e parts.1) (none_in (has_float x) (members_have_float (put k d ms)) parts.0 (put_none k d ms e parts.1))
+    let parts = or_parts (has_float x) (members_have_float ms) f in
+    by_order (slice_cmp nat_cmp k l) (member k d (member l x ms)) (member l d ms) (member l x (put k d ms)) (or_from (has_float d) (members_have_float (member l x ms)) e f)
+    (or_from (has_float d) (members_have_float ms) e parts.1) (or_from (has_float x) (members_have_float (put k d ms)) parts.0 (put_none k d ms e parts.1))
 
 rows_none : (rs : List Row) (ms : Members) → members_have_float ms ≡ false → members_have_float (with_rows rs ms) ≡ false
 rows_none [] ms e = e

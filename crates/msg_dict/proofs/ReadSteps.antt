@@ -4,6 +4,7 @@ use Rattle.msg_dict.specs.declared.format.Format.{Format}
 use Rattle.msg_dict.specs.Kept.{format_of}
 use Rattle.msg_dict.specs.Dictionary.{Named, has_number, numbers_differ}
 use Rattle.msg_dict.specs.Reading.{with_format}
+use Rattle.plan_types.proofs.Facts.{and_false}
 
 -- what was found, behind what was seen before
 abbrev pub prefixed : List Named → Option (List Named) → Option (List Named)
@@ -25,10 +26,6 @@ pub added : (xs ys : List Format) (f : Format) (e : Named) (old seen : List Name
 added xs ys f e old seen push same before =
     ap (λ (l : List Format). map format_of l) push ∙ map_added xs f ∙ ap (λ (l : List Named). l ++ format_of f ∷ []) before
     ∙ ap (λ (n : Named). (old ++ seen) ++ n ∷ []) same ∙ append_assoc old seen (e ∷ [])
-
-and_false : (b : Bool) → (b && false) ≡ false
-and_false true = refl
-and_false false = refl
 
 pub negated : (b c : Bool) → c ≡ not b → c ≡ false → b ≡ true
 negated true c e f = refl

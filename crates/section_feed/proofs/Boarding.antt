@@ -19,10 +19,9 @@ use Rattle.section_units.specs.Sections.{of_stepper}
 use Rattle.section_feed.specs.Boards.{AreUpTo, HasGiven, IsLasting, IsUpTo, most_ns}
 use Rattle.section_feed.specs.Changes.{GoOn, StepperGoesOn}
 use Rattle.section_feed.proofs.Lasts.{board-small, kept-lasting, last-soon, lines-small, tick-small}
-use Rattle.section_feed.proofs.Orders.{at-added, of-append, of-other, of-own}
-
-true≢false : true ≡ false → ⊥
-true≢false e = cc
+use Rattle.section_feed.proofs.Orders.{at-added}
+use Rattle.plan_types.proofs.Facts.{true_false}
+use Rattle.section_units.proofs.Merging.{of_append, of_other, of_one}
 
 -- a stepper that may be given a move
 pub record MayPush (clocks : Clocks) (begin end : ℕ) (s : StepperStream) : Type 0 where
@@ -55,7 +54,7 @@ pushed-on clocks begin end turn place more old new up known reaches caught lines
         clocks_are = lines ∙ up.clocks_are;
         known = λ e. subst (λ (k : Clocks). known_of new ≤ tick k.first end) up.clocks_are known;
         reaches = λ e. subst (λ (k : Clocks). tick k.first end ≤ known_of new) up.clocks_are (reaches (subst (λ (k : Clocks). tick k.first begin ≤ known_of old) (sym up.clocks_are) (up.reaches refl)));
-        over = λ e. absurd (true≢false e);
+        over = λ e. absurd (true_false e);
         caught_up = caught up.caught_up;
         packed = omega arith;
         number = ap (λ (k : StepperKind). k.oid) kind ∙ up.number;
@@ -166,7 +165,7 @@ pub gave-on : (clocks : Clocks) (goes : Bool) (time turn place : ℕ) (u : StepU
     → StepperGoesOn clocks goes time turn [] (u ∷ []) place old new
 gave-on clocks goes time turn place u old new up known caught lines same kind due own gave =
     let p = up.packed in
-    let mine = of-own place u [] (own ∙ up.number) in
+    let mine = of_one place u [] (own ∙ up.number) in
     record {
       up = record {
         clocks_are = lines ∙ up.clocks_are;
@@ -185,7 +184,7 @@ gave-on clocks goes time turn place u old new up known caught lines same kind du
 -- a stepper that gave nothing, as another gave a unit
 pub still-on : (clocks : Clocks) (goes : Bool) (time turn place : ℕ) (u : StepUnit) (s : StepperStream) → IsUpTo clocks goes time turn place s → (u.stepper ≡ place → ⊥) → StepperGoesOn clocks goes time turn [] (u ∷ []) place s s
 still-on clocks goes time turn place u s up other =
-    let none = of-other place u [] other in
+    let none = of_other place u [] other in
     record {
       up = up;
       kind = refl;
@@ -202,7 +201,7 @@ goes-on-twice clocks goes time turn place one two a b c p q = record {
   on = λ base parts given h. (
       let r = p.on base parts given h in
       let s = q.on base (parts ++ []) (given ++ of_stepper place one) r in
-      let e : (given ++ of_stepper place one) ++ of_stepper place two ≡ given ++ of_stepper place (one ++ two) = append_assoc given (of_stepper place one) (of_stepper place two) ∙ ap (λ us. given ++ us) (sym (of-append place one two)) in
+      let e : (given ++ of_stepper place one) ++ of_stepper place two ≡ given ++ of_stepper place (one ++ two) = append_assoc given (of_stepper place one) (of_stepper place two) ∙ ap (λ us. given ++ us) (sym (of_append place one two)) in
       subst (λ us. HasGiven c base (parts ++ []) us) e (subst (λ ps. HasGiven c base ps ((given ++ of_stepper place one) ++ of_stepper place two)) (append-nil (parts ++ [])) s));
 }
 
@@ -233,4 +232,4 @@ up-added clocks goes time turn old new s up here is = rw is (record { each = λ 
 pub new-up : (clocks : Clocks) (goes : Bool) (time turn place : ℕ) (s : StepperStream) → goes ≡ true → time ≡ turn * turn_ns → stepper_clocks s ≡ clocks → planned_turn s ≡ turn → known_of s ≡ tick clocks.first (turn * turn_ns) → IsCaughtUp turn s → (kind_of s).oid ≡ place → IsUpTo clocks goes time turn place s
 new-up clocks goes time turn place s going begins lines same end caught number =
     let e : known_of s ≡ tick clocks.first time = end ∙ ap (λ t. tick clocks.first t) (sym begins) in
-    record { clocks_are = lines; known = λ g. omega arith; reaches = λ g. omega arith; over = λ g. absurd (true≢false (sym going ∙ g)); caught_up = caught; packed = omega arith; number = number }
+    record { clocks_are = lines; known = λ g. omega arith; reaches = λ g. omega arith; over = λ g. absurd (true_false (sym going ∙ g)); caught_up = caught; packed = omega arith; number = number }

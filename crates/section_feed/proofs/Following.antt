@@ -31,6 +31,7 @@ use Rattle.section_feed.specs.AllBoards.{ArePast, AreReleased, latest_packed}
 use Rattle.section_feed.specs.Fronts.{IsBoardFront, front_parts}
 use Rattle.section_feed.specs.Kinds.{board_kinds, steppers_on}
 use Rattle.section_feed.specs.On.{IsSectionOn}
+use Rattle.section_feed.specs.Ordering as feed
 use Rattle.section_feed.specs.Queues.{IsDrawn, drawn_to, is_taking}
 use Rattle.section_feed.specs.Sections.{boards_in, queue_of, sets_of}
 use Rattle.section_feed.specs.Sets.{BoardSet, start_set}
@@ -110,7 +111,7 @@ own-below count (u ∷ us) none =
     feed-other : (oid : ℕ) → (u.stepper ≡ oid → ⊥) → of_stepper oid (u ∷ us) ≡ of_stepper oid us
     feed-other oid other = elim (eqb_tells u.stepper oid) [ inl p ↦ absurd (other p.1) | inr p ↦ rw p.0 refl ]
 
-behind-order : (u : StepUnit) (low : ℕ) (us : List StepUnit) → feed.order_of u ≤ low → u.stepper < 256 → All (λ (v : StepUnit). v.stepper < 256) us → feed.AreInOrder low us → AreBehind u us
+behind-order : (u : StepUnit) (low : ℕ) (us : List StepUnit) → feed.order_of u ≤ low → u.stepper < 256 → All (λ (v : StepUnit). v.stepper < 256) us → feed.AreInOrderFrom low us → AreBehind u us
 behind-order u low [] h byte all order = tt
 behind-order u low (v ∷ vs) h byte all order =
     let P : StepUnit → Type 0 = λ w. w.stepper < 256 in
@@ -119,7 +120,7 @@ behind-order u low (v ∷ vs) h byte all order =
     let here : Precedes u v = elim (cases_lt u.first v.first) as (λ _. Precedes u v) [ inl less ↦ inl less | inr over ↦ inr (omega (arith, h, byte, own, up, over), omega (arith, h, byte, own, up, over)) ] in
     (here, behind-order u (feed.order_of v) vs (omega (arith, h, up)) byte (All-tail P v vs all) order.1)
 
-pub order-pairs : (low : ℕ) (us : List StepUnit) → All (λ (v : StepUnit). v.stepper < 256) us → feed.AreInOrder low us → AreInOrder us
+pub order-pairs : (low : ℕ) (us : List StepUnit) → All (λ (v : StepUnit). v.stepper < 256) us → feed.AreInOrderFrom low us → AreInOrder us
 order-pairs low [] all order = tt
 order-pairs low (u ∷ us) all order =
     let P : StepUnit → Type 0 = λ w. w.stepper < 256 in

@@ -48,8 +48,8 @@ use Rattle.section_feed.specs.Sections.{IsSectionOf, boards_in, boards_of, queue
 use Rattle.section_feed.specs.Sets.{BoardSet, goes_of, set_of}
 use Rattle.section_feed.specs.Wholes.{IsReleased, IsSetTo, sent_plan}
 use Rattle.section_feed.proofs.Lasts.{kept-lasting}
-use Rattle.section_feed.proofs.Orders.{of-append}
 use Rattle.section_feed.proofs.Sectioning.{at-mapped}
+use Rattle.section_units.proofs.Merging.{of_append}
 
 -- of no units none are the first ones
 pub none-front : (xs ys : List StepUnit) → xs ++ ys ≡ [] → xs ≡ []
@@ -105,7 +105,7 @@ one-longest homing clocks goes time turn steppers feed order freq kinds base par
     (subst AreKept (sym here.clocks_are) kept) here.caught_up given.in_turns (omega (arith, packed, past)) in
     let a = subst (λ (k : Clocks). AreLongestOf k freq base (sent_plan (kind_of one) k base all) units) here.clocks_are r in
     let b = subst (λ (k : StepperKind). AreLongestOf clocks freq base (sent_plan k clocks base all) units) kind a in
-    let split : units ≡ of_stepper oid (units_of released) ++ of_stepper oid feed.waiting.items = ap (of_stepper oid) f.fed.pushed_is ∙ of-append oid (units_of released) feed.waiting.items in
+    let split : units ≡ of_stepper oid (units_of released) ++ of_stepper oid feed.waiting.items = ap (of_stepper oid) f.fed.pushed_is ∙ of_append oid (units_of released) feed.waiting.items in
     let plan = sent_plan (kinds oid) clocks base all in
     longest_front clocks base (open_windows (max_error freq) base plan) plan (of_stepper oid (units_of released)) (of_stepper oid feed.waiting.items) (subst (λ us. AreLongestOf clocks freq base plan us) split b)
 
@@ -136,14 +136,14 @@ one-front homing clocks goes time turn steppers feed order freq kinds base parts
     let all = parts ++ more in
     let units = of_stepper oid f.units in
     let c = one-pushed homing clocks goes time turn steppers feed order freq kinds base parts more released d oid h up none after set f in
-    let split : units ≡ of_stepper oid (units_of released) ++ of_stepper oid feed.waiting.items = ap (of_stepper oid) f.fed.pushed_is ∙ of-append oid (units_of released) feed.waiting.items in
+    let split : units ≡ of_stepper oid (units_of released) ++ of_stepper oid feed.waiting.items = ap (of_stepper oid) f.fed.pushed_is ∙ of_append oid (units_of released) feed.waiting.items in
     first_front homing clocks freq oid base (sent_plan (kinds oid) clocks base all) (of_stepper oid (units_of released)) (of_stepper oid feed.waiting.items) (subst (λ us. AreFirstOfBy homing clocks freq oid base (sent_plan (kinds oid) clocks base all) us) split c)
 
 fed-front : (homing : Bool) (clocks : Clocks) (goes : Bool) (time turn : ℕ) (steppers : List StepperStream) (feed : FeedStream) (order freq : ℕ) (kinds : ℕ → StepperKind) (base : ℕ) (parts more : List TimedPart) (released : List Release) → AreUpTo clocks goes time turn steppers → (goes ≡ false → more ≡ []) → All (λ t. time ≤ t.begin) more
     → ((k : ℕ) → k < length steppers → IsSetTo homing freq base (kinds k)) → AreKept clocks → AreFeeding steppers feed clocks order kinds base parts released → IsBoardFront homing clocks freq (slots_of feed) (stream_start feed) base kinds (length steppers) (parts ++ more) released
 fed-front homing clocks goes time turn steppers feed order freq kinds base parts more released up none after set kept f = record {
   units = λ oid h. each steppers oid h refl;
-  others = λ oid h. none-front (of_stepper oid (units_of released)) (of_stepper oid feed.waiting.items) (sym (ap (of_stepper oid) f.fed.pushed_is ∙ of-append oid (units_of released) feed.waiting.items) ∙ f.given.others oid h);
+  others = λ oid h. none-front (of_stepper oid (units_of released)) (of_stepper oid feed.waiting.items) (sym (ap (of_stepper oid) f.fed.pushed_is ∙ of_append oid (units_of released) feed.waiting.items) ∙ f.given.others oid h);
   in_order = order-front 0 (units_of released) feed.waiting.items (subst (AreInOrderFrom 0) f.fed.pushed_is f.in_order);
   longest = λ oid h. long steppers oid h refl;
   paced = f.fed.paced;

@@ -2,10 +2,7 @@
 use Rattle.std.proofs.Common.{◌≡◌, ℕ, zero, suc, ◌+◌, ◌<◌, ◌≤◌, max, List, [], ◌∷◌, ◌++◌, length, map, take, get_or, arith, ap, sym, ◌∙◌}
 use Rattle.std.proofs.lemmas.List.{map-append, take_more}
 use Rattle.plan_types.specs.Sections.{latest}
-
-latest-push : (xs : List ℕ) (x : ℕ) → latest (xs ++ x ∷ []) ≡ max (latest xs) x
-latest-push [] x = omega arith
-latest-push (y ∷ xs) x = let later = latest-push xs x in omega arith
+use Rattle.section_plan.proofs.Latest.{latest-push}
 
 -- one more of them
 pub latest-more : {A : Type 0} (f : A → ℕ) (xs : List A) (i : ℕ) (x : A) → i < length xs → x ≡ get_or xs i x → latest (map f (take (i + 1) xs)) ≡ max (latest (map f (take i xs))) (f x)

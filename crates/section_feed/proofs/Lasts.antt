@@ -14,10 +14,11 @@ use Rattle.plan_types.specs.Lines.{AreHeld, Clocks, IsFit, board_over, come, las
 use Rattle.plan_types.specs.Valid.{IsValidLine}
 use Rattle.clock_line.specs.Kept.{AreKept, added}
 use Rattle.clock_line.proofs.Boards.{board-mono}
-use Rattle.clock_line.proofs.Holding.{chosen, passed, tick-mono}
+use Rattle.clock_line.proofs.Holding.{chosen, passed, tick-mono, come-fit}
 use Rattle.section_plan.proofs.Boards.{alone-board}
-use Rattle.section_stream.proofs.Adding.{apart-added, board-from, come-fit, kept-added, one-apart}
+use Rattle.section_stream.proofs.Adding.{apart-added, board-from, kept-added, one-apart}
 use Rattle.section_feed.specs.Boards.{IsLasting, MayTake}
+use Rattle.clock_line.proofs.Turns.{tick_over-least, clock-least}
 
 -- lines are kept in one way
 held-prop : (first line : Line) (from most : ℕ) (held : List Held) (x y : AreHeld first line from most held) → x ≡ y
@@ -65,29 +66,8 @@ lines-small clocks time is small =
     let f = board-from clocks time (tick clocks.first time) (kept-lasting clocks is) (omega arith) in
     omega arith
 
--- no tick is before the first line's clock
-over-least : (line : Line) (most : ℕ) (held : List Held) (time : ℕ) → most ≤ tick_over line most held time
-over-least line most [] time = omega arith
-over-least line most (h ∷ held) time =
-    let l = over-least h.line (max most (tick line h.from)) held time in
-    least (nat_le h.from time) _ _ most (omega arith) (omega arith)
-  where
-    least : (b : Bool) (x y m : ℕ) → m ≤ x → m ≤ y → m ≤ cond b x y
-    least true x y m h k = h
-    least false x y m h k = k
-
-clock-from : (line : Line) (most : ℕ) (held : List Held) (time : ℕ) → line.clock ≤ tick_over line most held time
-clock-from line most [] time = omega arith
-clock-from line most (h ∷ held) time =
-    let l = over-least h.line (max most (tick line h.from)) held time in
-    least (nat_le h.from time) _ _ line.clock (omega arith) (omega arith)
-  where
-    least : (b : Bool) (x y m : ℕ) → m ≤ x → m ≤ y → m ≤ cond b x y
-    least true x y m h k = h
-    least false x y m h k = k
-
 pub lines-from : (clocks : Clocks) (time : ℕ) → clocks.first.clock ≤ lines_tick clocks time
-lines-from clocks time = clock-from clocks.first 0 clocks.held time
+lines-from clocks time = clock-least clocks.first 0 clocks.held time
 
 -- the time from which the last line holds
 last-either : (a bound : ℕ) (held : List Held) → a < bound → last_from 0 held < bound → last_from a held < bound

@@ -17,8 +17,9 @@ use Rattle.section_feed.specs.Ordering.{AreInOrderFrom, last_order}
 use Rattle.section_feed.specs.Boards.{AreUpTo, HasGiven, HaveGiven, HaveKinds}
 use Rattle.section_feed.specs.Changes.{GoOn}
 use Rattle.section_feed.specs.Feeding.{AreFeeding}
-use Rattle.section_feed.proofs.Orders.{at-added, last-order-append, of-append, of-none, order-append}
+use Rattle.section_feed.proofs.Orders.{at-added, last-order-append, of-none, order-append}
 use Rattle.section_feed.proofs.Boarding.{up-after}
+use Rattle.section_units.proofs.Merging.{of_append}
 
 -- no stepper is up to anything
 pub up-none : (clocks : Clocks) (goes : Bool) (time turn : ℕ) (steppers : List StepperStream) → steppers ≡ [] → ∥ AreUpTo clocks goes time turn steppers ∥₁
@@ -36,8 +37,8 @@ given-on : (clocks : Clocks) (goes : Bool) (time turn : ℕ) (more : List TimedP
 given-on clocks goes time turn more units old new base parts given on own have =
     let l = on.same in
     record {
-      each = λ k d h. subst (λ us. HasGiven (get_or new k d) base (parts ++ more) us) (sym (of-append k given units)) ((on.each k d (omega arith)).on base parts (of_stepper k given) (have.each k d (omega arith)));
-      others = λ k h. of-append k given units ∙ ap (λ us. us ++ of_stepper k units) (have.others k (omega arith)) ∙ of-none (length old) k units own (omega arith);
+      each = λ k d h. subst (λ us. HasGiven (get_or new k d) base (parts ++ more) us) (sym (of_append k given units)) ((on.each k d (omega arith)).on base parts (of_stepper k given) (have.each k d (omega arith)));
+      others = λ k h. of_append k given units ∙ ap (λ us. us ++ of_stepper k units) (have.others k (omega arith)) ∙ of-none (length old) k units own (omega arith);
     }
 
 none-own : (count : ℕ) → All (λ (u : StepUnit). u.stepper < count) []

@@ -29,7 +29,6 @@ use Rattle.section_units.proofs.Completing.{completed}
 use Rattle.section_stream.specs.declared.stepper.StepperStream.{StepperStream}
 use Rattle.section_stream.specs.Looking.{IsFuture}
 use Rattle.step_ticks.specs.Streaming.{last_step_tick}
-use Rattle.section_stream.proofs.Later.{turn-from}
 use Rattle.section_stream.proofs.Stretches.{spaced-above}
 use Rattle.section_feed.specs.declared.board.BoardStream.{BoardStream}
 use Rattle.section_feed.specs.declared.section.SectionStream.{SectionStream}
@@ -48,6 +47,7 @@ use Rattle.section_feed.proofs.Ending.{spaced-last}
 use Rattle.section_feed.proofs.Ends.{end-most, has-number, last-some, plan-is, section-parts, set-of}
 use Rattle.section_feed.proofs.Following.{base-on, kinds-on, one-plan, other-plan, plan-on, plan-spaced, set-to, section-sent}
 use Rattle.section_feed.proofs.Fronting.{one-pushed, one-rested, queue-left}
+use Rattle.section_units.proofs.Lateness.{turn_from}
 
 -- the steps of a plan that ends in a turn
 pub sent-turn : (clocks : Clocks) (inverted : Bool) (steps : List Planned) → last_turn clocks (as_sent inverted steps) ≡ last_turn clocks steps
@@ -184,7 +184,7 @@ section-begun homing m clocks all turn b valid late lasting h =
     let slots = (valid.boards b no_board h).slots_low in
     let due : (oid : ℕ) → All (λ (q : Planned). turn - 250 + lead ≤ lines_turn own q.tick) (plan-on m clocks all turn b oid) = λ oid k d l. (
     let above = spaced-above base base (plan-on m clocks all turn b oid) (omega arith) (plan-spaced m clocks all turn b oid) k d l in
-    let from = turn-from own turn _ kept above in
+    let from = turn_from own turn _ kept above in
     omega (arith, from)) in
     can-complete homing m clocks all turn b (board_at m b).slots (turn - 250) (turn - 250) (length (steppers_on b m.steppers)) [] [] refl refl (record {
       slots_some = omega arith;

@@ -10,23 +10,10 @@ use Rattle.step_feed.specs.Pacing.{Release}
 use Rattle.step_feed.specs.Streams.{IsFedOf}
 use Rattle.step_feed.specs.declared.stream.FeedStream.{FeedStream}
 use Rattle.section_feed.specs.Ordering.{AreInOrderFrom, last_order, order_of}
+use Rattle.section_units.proofs.Merging.{of_one, of_other, of_append}
 
 pub ne-eqb : (a b : ℕ) → (a ≡ b → ⊥) → eqb a b ≡ false
 ne-eqb a b h = grind (arith, nat_tests)
-
-pub of-own : (place : ℕ) (u : StepUnit) (us : List StepUnit) → u.stepper ≡ place → of_stepper place (u ∷ us) ≡ u ∷ of_stepper place us
-of-own place u us own = let e : eqb u.stepper place ≡ true = eq-eqb u.stepper place own in rw e refl
-
-pub of-other : (place : ℕ) (u : StepUnit) (us : List StepUnit) → (u.stepper ≡ place → ⊥) → of_stepper place (u ∷ us) ≡ of_stepper place us
-of-other place u us other = let e : eqb u.stepper place ≡ false = ne-eqb u.stepper place other in rw e refl
-
-pub of-append : (place : ℕ) (xs ys : List StepUnit) → of_stepper place (xs ++ ys) ≡ of_stepper place xs ++ of_stepper place ys
-of-append place [] ys = refl
-of-append place (x ∷ xs) ys = by-test (eqb x.stepper place) (of-append place xs ys)
-  where
-    by-test : (b : Bool) → of_stepper place (xs ++ ys) ≡ of_stepper place xs ++ of_stepper place ys → cond b (x ∷ of_stepper place (xs ++ ys)) (of_stepper place (xs ++ ys)) ≡ cond b (x ∷ of_stepper place xs) (of_stepper place xs) ++ of_stepper place ys
-    by-test true e = ap (λ zs. x ∷ zs) e
-    by-test false e = e
 
 -- what holds of all elements and of one more behind them
 pub at-added : {A : Type 0} (P : ℕ → A → Type 0) (xs : List A) (x : A) → ((k : ℕ) (d : A) → k < length xs → P k (get_or xs k d)) → P (length xs) x → (k : ℕ) (d : A) → k < length (xs ++ x ∷ []) → P k (get_or (xs ++ x ∷ []) k d)
@@ -49,7 +36,7 @@ pub of-none : (count place : ℕ) (us : List StepUnit) → All (λ u. u.stepper 
 of-none count place [] all h = refl
 of-none count place (u ∷ us) all h =
     let here = all 0 u (omega arith) in
-    of-other place u us (λ e. absurd (omega arith)) ∙ of-none count place us (λ k d l. all (suc k) d (omega arith)) h
+    of_other place u us (λ e. absurd (omega arith)) ∙ of-none count place us (λ k d l. all (suc k) d (omega arith)) h
 
 abbrev pub no_unit : StepUnit
 no_unit = record { stepper = 0; first = 0; last = 0; due = 0; triple = record { interval = 0; count = 0; add = pos 0 }; up = None; reset = None }

@@ -37,8 +37,8 @@ use Rattle.section_feed.specs.Wholes.{IsSetTo}
 use Rattle.section_feed.proofs.Ends.{set-of}
 use Rattle.section_feed.proofs.Following.{set-to}
 use Rattle.section_feed.proofs.Fronting.{none-front}
-use Rattle.section_feed.proofs.Orders.{of-append}
 use Rattle.section_feed.proofs.Staying.{IsEarly, IsReleaseEarly, begun-early, fits-before, of-each, releases-early}
+use Rattle.section_units.proofs.Merging.{of_append}
 
 -- of a stepper that is packed up to a turn
 stepper-early : (homing : Bool) (clocks : Clocks) (goes : Bool) (time turn : ℕ) (steppers : List StepperStream) (feed : FeedStream) (order freq : ℕ) (kinds : ℕ → StepperKind) (base : ℕ) (parts : List TimedPart) (released : List Release) (d : StepperStream) (oid : ℕ) → oid < length steppers → AreUpTo clocks goes time turn steppers → ((k : ℕ) → k < length steppers → IsSetTo homing freq base (kinds k))
@@ -58,7 +58,7 @@ stepper-early homing clocks goes time turn steppers fed order freq kinds base pa
     let before : All (λ q. q.tick < bound) steps = subst (λ n. All (λ (q : Planned). q.tick < lines_tick clocks (n * turn_ns)) steps) here.packed by in
     let spaced = (spaced-split base steps _ (subst (AreSpaced base) packed.split packed.spaced)).0 in
     let all = made-first homing (stream_lines one.steps) one.pack.oid freq base one.pack.reset one.pack.max_error steps [] [] steps given.pieces (of_stepper oid f.units) one.pack.units.items (ap (λ (k : StepperKind). k.reset) kind ∙ is.reset) (ap (λ (k : StepperKind). k.early) kind ∙ is.early) spaced packed.packed (sym (append-nil steps)) (sym (append-nil steps)) packed.units_are in
-    let split : of_stepper oid f.units ≡ units ++ waiting = ap (of_stepper oid) f.fed.pushed_is ∙ of-append oid (units_of released) fed.waiting.items in
+    let split : of_stepper oid f.units ≡ units ++ waiting = ap (of_stepper oid) f.fed.pushed_is ∙ of_append oid (units_of released) fed.waiting.items in
     let first = first_front homing (stream_lines one.steps) freq one.pack.oid base steps units waiting (subst (AreFirstOfBy homing (stream_lines one.steps) freq one.pack.oid base steps) split all) in
     begun-early homing (stream_lines one.steps) base bound one.pack.oid units first.begun (fits-before freq base bound (steps_said one.pack.oid false units) steps first.fits before)
 
@@ -67,7 +67,7 @@ steppers-early : (homing : Bool) (clocks : Clocks) (goes : Bool) (time turn : �
 steppers-early homing clocks goes time turn steppers fed order freq kinds base parts released up set f =
     let bound = lines_tick clocks (turn * turn_ns) in
     releases-early bound released (of-each (IsEarly bound) (units_of released) (λ oid. elim (leb_tells (length steppers) oid) as (λ _. All (IsEarly bound) (of_stepper oid (units_of released))) [
-      | inl p ↦ (let none = none-front (of_stepper oid (units_of released)) (of_stepper oid fed.waiting.items) (sym (ap (of_stepper oid) f.fed.pushed_is ∙ of-append oid (units_of released) fed.waiting.items) ∙ f.given.others oid p.1) in subst (All (IsEarly bound)) (sym none) (All-nil (IsEarly bound)))
+      | inl p ↦ (let none = none-front (of_stepper oid (units_of released)) (of_stepper oid fed.waiting.items) (sym (ap (of_stepper oid) f.fed.pushed_is ∙ of_append oid (units_of released) fed.waiting.items) ∙ f.given.others oid p.1) in subst (All (IsEarly bound)) (sym none) (All-nil (IsEarly bound)))
       | inr p ↦ (let h = p.1 in here steppers oid (omega (arith, h)) refl)
     ]))
   where

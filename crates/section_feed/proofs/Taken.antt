@@ -20,13 +20,13 @@ use Rattle.clock_line.proofs.Boards.{board-added}
 use Rattle.clock_line.proofs.Turns.{tick_over-mono, turn-below}
 use Rattle.step_ticks.proofs.Lists.{spaced-AreSpaced}
 use Rattle.section_stream.proofs.Adding.{added-before, added-least, board-from, kept-added}
-use Rattle.section_stream.proofs.Later.{turn-from}
 use Rattle.section_feed.specs.Boards.{IsLasting, MayTake}
 use Rattle.section_feed.specs.Lined.{ArePlannedBefore, line_at}
 use Rattle.section_feed.proofs.Ends.{end-most}
 use Rattle.section_feed.proofs.Lasts.{kept-lasting}
 use Rattle.section_feed.proofs.Opening.{steps-within}
 use Rattle.section_feed.proofs.Staying.{here-line, other-line, plan-by}
+use Rattle.section_units.proofs.Lateness.{turn_from}
 
 -- all steps of a section whose last one is in a turn before another are before that one
 pub steps-before : (m : Machine) (clocks : List Clocks) (moves : List Move) (start b turn : ℕ) → AreKept (clocks_at clocks b) → latest (for_each_stepper m (stepper_end m clocks moves start)) < turn → ArePlannedBefore m clocks moves start b turn
@@ -94,7 +94,7 @@ turn-kept clocks turn (suc k) t line ok may low h =
       | inr over ↦
           let one : (k + 1) * turn_ns ≡ suc k * turn_ns = omega arith in
           let e = ap (lines_tick clocks) one in
-          turn-from (added clocks from line) (suc k) t (kept-added clocks from line ok may.after may.fit) (omega (arith, same, over, e))
+          turn_from (added clocks from line) (suc k) t (kept-added clocks from line ok may.after may.fit) (omega (arith, same, over, e))
     ]
 
 last-kept : (clocks : Clocks) (turn j : ℕ) (line : Line) (steps : List Planned) → AreKept clocks → MayTake clocks turn line → j < turn → j ≤ last_turn clocks steps → j ≤ last_turn (added clocks (turn * turn_ns) line) steps
@@ -104,7 +104,7 @@ last-kept clocks turn j line (s ∷ t ∷ steps) ok may low h = last-kept clocks
 
 last-ends : (clocks : Clocks) (j low : ℕ) (steps : List Planned) → AreKept clocks → lines_tick clocks (j * turn_ns) ≤ low → EndsFrom low steps → j ≤ last_turn clocks steps
 last-ends clocks j low [] ok h ends = absurd ends
-last-ends clocks j low (s ∷ []) ok h ends = turn-from clocks j s.tick ok (omega (arith, h, ends))
+last-ends clocks j low (s ∷ []) ok h ends = turn_from clocks j s.tick ok (omega (arith, h, ends))
 last-ends clocks j low (s ∷ t ∷ steps) ok h ends = last-ends clocks j low (t ∷ steps) ok h ends
 
 plan-late : (gear : Gear) (clocks : Clocks) (turn j : ℕ) (line : Line) (segments : List Segment) (base : ℕ) → AreKept clocks → MayTake clocks turn line → j < turn → j ≤ last_turn clocks (planned_steps gear clocks segments base)

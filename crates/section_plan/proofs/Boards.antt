@@ -20,9 +20,9 @@ use Rattle.plan_types.specs.Sections.{IsReadyLine, clocks_at, last_turn, turns_o
 use Rattle.plan_types.specs.Steps.{counts_passed, raw_steps, segment_steps}
 use Rattle.plan_types.specs.Valid.{IsValidLine}
 use Rattle.clock_line.specs.Kept.{AreKept}
-use Rattle.clock_line.proofs.Boards.{board-mono}
-use Rattle.clock_line.proofs.Holding.{chosen, come-first, come-is, passed, tick-mono, tick-zero}
-use Rattle.clock_line.proofs.Turns.{tick_over-mono, turn-below, turn_within}
+use Rattle.clock_line.proofs.Boards.{board-mono, least_cond}
+use Rattle.clock_line.proofs.Holding.{chosen, come-first, come-is, passed, tick-mono, tick-zero, come-fit}
+use Rattle.clock_line.proofs.Turns.{tick_over-mono, turn-below, turn_within, tick_over-least, clock-least}
 use Rattle.step_ticks.proofs.Lists.{filtered-All}
 use Rattle.step_ticks.proofs.Within.{IsWithin, steps-within}
 use Rattle.section_plan.specs.Runs.{IsGoodSegment, IsOnTime, IsReadyAt, IsReadyBoard, move_ns, steps_of_move}
@@ -33,38 +33,6 @@ alone-tick clocks time alone = rw alone (omega arith)
 
 pub alone-board : (clocks : Clocks) (n : ℕ) → clocks.held ≡ [] → clocks.first.clock ≤ n → lines_board clocks n ≡ n
 alone-board clocks n alone from = let z = tick-zero clocks.first in rw alone (omega arith)
-
--- With several lines no tick falls below one that was kept, nor below the first line's clock.
-least : (b : Bool) (x y m : ℕ) → m ≤ x → m ≤ y → m ≤ cond b x y
-least true x y m h k = h
-least false x y m h k = k
-
-tick-least : (line : Line) (most : ℕ) (held : List Held) (t : ℕ) → most ≤ tick_over line most held t
-tick-least line most [] t = omega arith
-tick-least line most (h ∷ held) t =
-    let l = tick-least h.line (max most (tick line h.from)) held t in
-    least (nat_le h.from t) _ _ most (omega (arith, l)) (omega arith)
-
-pub clock-least : (line : Line) (most : ℕ) (held : List Held) (t : ℕ) → line.clock ≤ tick_over line most held t
-clock-least line most [] t = let z = tick-zero line in let m = tick-mono line 0 t (omega arith) in omega (arith, z, m)
-clock-least line most (h ∷ held) t =
-    let z = tick-zero line in
-    let m = tick-mono line 0 t (omega arith) in
-    let n = tick-mono line 0 h.from (omega arith) in
-    let l = tick-least h.line (max most (tick line h.from)) held t in
-    least (nat_le h.from t) _ _ line.clock (omega (arith, z, n, l)) (omega (arith, z, m))
-
--- a line that may hold comes from its time on as far as its own ticks
-come-fit : (first line : Line) (from t : ℕ) → IsFit first line from → from ≤ t → come first line from (tick first t) ≡ tick line t
-come-fit first line from t fit order =
-    let a = div-add-mod first.at 1_000_000 in
-    let b = div-add-mod line.at 1_000_000 in
-    let q = div-add-mod first.freq 1_000 in
-    let wa = fit.whole_start in
-    let wb = fit.whole_turn in
-    let wq = fit.whole_freq in
-    let same = fit.same_freq in
-    come-is first line (first.at / 1_000_000) (line.at / 1_000_000) (first.freq / 1_000) from t (omega (arith, a, wa)) (omega (arith, b, wb)) (omega (arith, q, wq)) (omega (arith, q, wq, same)) fit.first_before fit.before order
 
 -- The board's tick of a plan tick is no later than that of a time by whose plan tick it is, and by which all lines hold that
 -- hold by the plan tick.
@@ -83,7 +51,7 @@ board-below first line from most (h ∷ held) n t are comes begun by early =
                 omega (arith, e, f, d, by)
             | inr late ↦
                 let f : tick_over line most (h ∷ held) t ≡ tick_over h.line (max most (tick line h.from)) held t = chosen (nat_le h.from t) _ _ (grind (arith, nat_tests)) in
-                let l = tick-least h.line (max most (tick line h.from)) held t in
+                let l = tick_over-least h.line (max most (tick line h.from)) held t in
                 omega (arith, e, f, l, c, before)
           ]
       | inr later ↦
@@ -99,7 +67,7 @@ board-below first line from most (h ∷ held) n t are comes begun by early =
     ]
 
 -- a turn has some ticks, and few
-next-turn : (x f : ℕ) → 1_000_000 ≤ f → x * f / 1_000_000_000 < (x + 1_000_000) * f / 1_000_000_000
+pub next-turn : (x f : ℕ) → 1_000_000 ≤ f → x * f / 1_000_000_000 < (x + 1_000_000) * f / 1_000_000_000
 next-turn x f low = omega arith
 
 next-few : (x f : ℕ) → f ≤ 200_000_000 → (x + 1_000_000) * f / 1_000_000_000 ≤ x * f / 1_000_000_000 + 200_001
@@ -137,11 +105,11 @@ raw-within line top g f (s ∷ segments) good =
     (raw-within line top g f segments (λ k d h. good (suc k) d (omega arith)))
 
 -- filtering keeps some
-shorter : (b : Bool) (xs ys : List Planned) (n : ℕ) → length xs ≤ n → length ys ≤ n → length (cond b xs ys) ≤ n
+pub shorter : (b : Bool) (xs ys : List Planned) (n : ℕ) → length xs ≤ n → length ys ≤ n → length (cond b xs ys) ≤ n
 shorter true xs ys n h k = h
 shorter false xs ys n h k = k
 
-filtered-shorter : (r : ℕ) (xs : List Planned) → length (filtered r xs) ≤ length xs
+pub filtered-shorter : (r : ℕ) (xs : List Planned) → length (filtered r xs) ≤ length xs
 filtered-shorter r [] = omega arith
 filtered-shorter r (a ∷ []) = omega arith
 filtered-shorter r (a ∷ b ∷ xs) =
@@ -194,7 +162,7 @@ room-for line turn n valid before some =
     rw (one, two) (omega arith)
 
 -- the turn of a step that comes no later than a turn
-turn-within : (clocks : Clocks) (turn t : ℕ) → IsValidLine clocks.first → clocks.held ≡ [] → clocks.first.at ≤ turn * turn_ns → t ≤ tick clocks.first (turn * turn_ns) → lines_turn clocks t ≤ turn
+pub turn-within : (clocks : Clocks) (turn t : ℕ) → IsValidLine clocks.first → clocks.held ≡ [] → clocks.first.at ≤ turn * turn_ns → t ≤ tick clocks.first (turn * turn_ns) → lines_turn clocks t ≤ turn
 turn-within clocks turn t valid alone before by =
     let e = alone-tick clocks ((turn + 1) * turn_ns) alone in
     let next = (tick-next clocks.first (turn * turn_ns) valid before).0 in

@@ -18,6 +18,7 @@ use Rattle.plan_types.specs.Valid.{IsValidGear, IsValidMove}
 use Rattle.step_ticks.proofs.Marks.{passed-up, passed-down}
 use Rattle.section_plan.proofs.Places.{change-small}
 use Rattle.section_plan.specs.Runs.{part_at, steps_of_move}
+use Rattle.lookahead.proofs.Vectors.{some_product}
 
 -- what is left of a number in a division that rounds down
 pub record HasRest (z : ℤ) (d : ℕ) : Type 0 where
@@ -57,15 +58,12 @@ slope-small dp steps distance y h k l =
 cancelled : (k c n y : ℕ) → 0 < k → c * (k * n) ≤ k * n + k * y → c * n ≤ y + n
 cancelled k c n y above h = let times : k * (c * n) ≤ k * (y + n) = omega arith in le_of_mul-le-mul_left times above
 
-positive : (a b : ℕ) → 0 < a → 0 < b → 0 < a * b
-positive a b h k = let m = mul-le-mul h k in omega arith
-
 pub count-small : (g : Gear) (s : Segment) (y : ℕ) → IsValidGear g → 0 < s.len → unsigned_abs s.dp ≤ 3_000_000_000 → counts_passed g s s.before (s.before + y) * s.len ≤ 3_072_000_000 * y + s.len
 count-small g s y gear some small =
     let k = 2 * g.distance in
     let low = gear.distance_low in
     let above : 0 < k = omega arith in
-    let whole = positive k s.len above some in
+    let whole = some_product k s.len above some in
     let q = count-quotient g s y (2 * g.distance * s.len) (unsigned_abs s.dp * (2 * g.steps)) whole refl refl in
     let slope = slope-small (unsigned_abs s.dp) g.steps g.distance y small gear.steps_high low in
     cancelled k (counts_passed g s s.before (s.before + y)) s.len (3_072_000_000 * y) above (omega arith)

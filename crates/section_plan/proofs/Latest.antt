@@ -4,7 +4,7 @@ use Rattle.std.specs.List.{range_with_len}
 use Rattle.plan_types.specs.Sections.{latest}
 use Rattle.step_ticks.proofs.Lists.{map-range-more}
 
-latest-push : (xs : List ℕ) (x : ℕ) → latest (xs ++ x ∷ []) ≡ max (latest xs) x
+pub latest-push : (xs : List ℕ) (x : ℕ) → latest (xs ++ x ∷ []) ≡ max (latest xs) x
 latest-push [] x = omega arith
 latest-push (y ∷ xs) x = let later = latest-push xs x in omega arith
 

@@ -20,10 +20,11 @@ use Rattle.step_ticks.specs.Due.{is_due}
 use Rattle.step_ticks.specs.Streaming.{due_steps}
 use Rattle.plan_types.specs.Valid.{IsValidLine}
 use Rattle.clock_line.specs.Kept.{AreKept, added}
-use Rattle.clock_line.proofs.Boards.{board-added, board-mono}
-use Rattle.clock_line.proofs.Holding.{are-added, chosen, come-first, come-is, passed, tick-mono, tick-zero}
+use Rattle.clock_line.proofs.Boards.{board-added, board-mono, board-least}
+use Rattle.clock_line.proofs.Holding.{are-added, chosen, come-first, come-is, passed, tick-mono, tick-zero, come-fit}
 use Rattle.clock_line.proofs.Turns.{last_from-above, last_from-each, tick_over-mono, turn-after, turn-below}
 use Rattle.section_stream.specs.Apart.{AreTurnsApart, IsNearby}
+use Rattle.step_ticks.proofs.Giving.{same-on-board}
 
 -- the line that is added, with what it keeps of those before it
 abbrev one_more : Clocks → ℕ → Line → Held
@@ -109,28 +110,6 @@ begin-over first (h ∷ held) time are before =
 
 pub begin-tick : (clocks : Clocks) (time : ℕ) → AreKept clocks → time < clocks.first.at → lines_tick clocks time ≡ clocks.first.clock
 begin-tick clocks time kept before = begin-over clocks.first clocks.held time kept.held before
-
--- the board's tick of the plan tick of a time is not before the tick of that time
-board-least : (first line : Line) (from most : ℕ) (held : List Held) (n : ℕ) → most ≤ board_over first line from most held n
-board-least first line from most [] n = omega arith
-board-least first line from most (h ∷ held) n =
-    let l = board-least first h.line h.from (max most (come first line from (tick first h.from))) held n in
-    least (nat_le (tick first h.from) n) _ _ most (omega arith) (omega arith)
-  where
-    least : (b : Bool) (x y m : ℕ) → m ≤ x → m ≤ y → m ≤ cond b x y
-    least true x y m h k = h
-    least false x y m h k = k
-
-pub come-fit : (first line : Line) (from t : ℕ) → IsFit first line from → from ≤ t → come first line from (tick first t) ≡ tick line t
-come-fit first line from t fit order =
-    let a = div-add-mod first.at 1_000_000 in
-    let b = div-add-mod line.at 1_000_000 in
-    let q = div-add-mod first.freq 1_000 in
-    let wa = fit.whole_start in
-    let wb = fit.whole_turn in
-    let wq = fit.whole_freq in
-    let same = fit.same_freq in
-    come-is first line (first.at / 1_000_000) (line.at / 1_000_000) (first.freq / 1_000) from t (omega arith) (omega arith) (omega arith) (omega arith) fit.first_before fit.before order
 
 over-from : (first line : Line) (from most : ℕ) (held : List Held) (time : ℕ) → AreHeld first line from most held → ((t : ℕ) → from ≤ t → come first line from (tick first t) ≡ tick line t) → from ≤ time → tick_over line most held time ≤ board_over first line from most held (tick first time)
 over-from first line from most [] time are comes order = let c = comes time order in omega arith
@@ -223,14 +202,6 @@ apart-added clocks turn line kept apart after fit near = record {
             ])
       ]);
 }
-
--- the steps that are planned before the line's time are where they were
-same-on-board : (clocks : Clocks) (from : ℕ) (line : Line) (kept : List Planned) → All (λ k. k.tick < tick clocks.first from) kept → map (on_board (added clocks from line)) kept ≡ map (on_board clocks) kept
-same-on-board clocks from line [] h = refl
-same-on-board clocks from line (a ∷ kept) h =
-    let e = board-added clocks from line a.tick (h 0 a (omega arith)) in
-    let r = same-on-board clocks from line kept (λ k d l. h (suc k) d (omega arith)) in
-    ap (λ n. record { tick = n; up = a.up } ∷ map (on_board (added clocks from line)) kept) e ∙ ap (λ ks. on_board clocks a ∷ ks) r
 
 before-until : (reach until end bound : ℕ) (steps : List Planned) → until ≤ bound → All (λ k. k.tick < bound) (take_while (is_due reach until end) steps)
 before-until reach until end bound [] h = All-nil (λ (k : Planned). k.tick < bound)

@@ -29,11 +29,13 @@ use Rattle.section_stream.specs.Pieces.{AreInTurns, ArePieces, Piece, pieces_tur
 use Rattle.section_stream.specs.Plans.{stream_lines, segments_for}
 use Rattle.section_stream.specs.Steppers.{IsCaughtUp, IsStepperOf, StepperKind, stepper_clocks, kind_of, known_of}
 use Rattle.section_stream.proofs.Adding.{added-before, board-from}
-use Rattle.section_stream.proofs.Later.{sent-all, turn-from}
+use Rattle.section_stream.proofs.Later.{sent-all}
 use Rattle.section_stream.proofs.Leaving.{behind-alike}
 use Rattle.section_stream.proofs.Making.{end-is, sent-append}
 use Rattle.section_stream.proofs.Packed.{pieces-on, steps-more, units-more}
 use Rattle.section_stream.proofs.Staying.{parts-front}
+use Rattle.section_units.proofs.Completing.{drop-done}
+use Rattle.section_units.proofs.Lateness.{turn_from}
 
 ticks-up : (clocks : Clocks) (j k : ℕ) → j ≤ k → lines_tick clocks (j * turn_ns) ≤ lines_tick clocks (k * turn_ns)
 ticks-up clocks j k h = tick_over-mono clocks.first 0 clocks.held (j * turn_ns) (k * turn_ns) (omega arith)
@@ -95,10 +97,6 @@ windows-behind : (e b : ℕ) (xs ys : List Planned) → drop (length xs) (open_w
 windows-behind e b [] ys = refl
 windows-behind e b (x ∷ xs) ys = windows-behind e x.tick xs ys
 
-steps-behind : (xs ys : List Planned) → drop (length xs) (xs ++ ys) ≡ ys
-steps-behind [] ys = refl
-steps-behind (x ∷ xs) ys = steps-behind xs ys
-
 -- the triples of pieces of a plan, of which the rest is in later turns
 pub pieces-longest : (clocks : Clocks) (oid : ℕ) (reset : Option ℕ) (up : Option Bool) (e behind from turn : ℕ) (ps : List Piece) (rest : List Planned) → AreKept clocks → ArePieces e behind ps → AreInTurns clocks from ps → pieces_turn from ps ≤ turn
     → All (λ (q : Planned). lines_tick clocks (turn * turn_ns) ≤ q.tick) rest → AreLongest clocks behind (open_windows e behind (steps_in ps ++ rest)) (steps_in ps ++ rest) (units_on clocks oid reset up (steps_in ps) (placed_in ps))
@@ -113,7 +111,7 @@ pieces-longest clocks oid reset up e behind from turn (p ∷ ps) rest kept are t
     let later : All Late more = All-append Late (steps_in ps) rest (pieces-from clocks p.turn ps turns.3) (λ k d l. (let a = late k d l in omega arith)) in
     let cut : All (λ (s : Planned). All (λ (q : Planned). lines_turn clocks s.tick < lines_turn clocks q.tick) more) p.steps = λ k d l i c m. (
     let one = turn-before clocks from p.turn (get_or p.steps k d).tick (turns.1 k d l) (turns.2 k d l) in
-    let two = turn-from clocks p.turn (get_or more i c).tick kept (later i c m) in
+    let two = turn_from clocks p.turn (get_or more i c).tick kept (later i c m) in
     omega (arith, one, two)) in
     let us = units_on clocks oid reset up p.steps p.placed in
     let one = piece_longest clocks oid reset up behind ws (open_windows e behind plan) p.steps more p.placed (piece_of e behind p.steps more) (length-windows e behind p.steps) are.0 cut in
@@ -123,7 +121,7 @@ pieces-longest clocks oid reset up e behind from turn (p ∷ ps) rest kept are t
     let end : end_of_units behind us ≡ next = piece_end clocks oid e behind reset up p.steps p.placed are.0 ∙ end-is behind p.steps in
     let n : count_in us ≡ length p.steps = counts clocks oid behind reset up ws p.steps p.placed are.0 ∙ length-windows e behind p.steps in
     let w : drop (count_in us) (open_windows e behind plan) ≡ open_windows e next more = ap (λ k. drop k (open_windows e behind plan)) n ∙ windows-behind e behind p.steps more in
-    let s : drop (count_in us) plan ≡ more = ap (λ k. drop k plan) n ∙ steps-behind p.steps more in
+    let s : drop (count_in us) plan ≡ more = ap (λ k. drop k plan) n ∙ drop-done p.steps more in
     let here : AreLongest clocks (end_of_units behind us) (drop (count_in us) (open_windows e behind plan)) (drop (count_in us) plan) vs =
     subst (λ x. AreLongest clocks (end_of_units behind us) (drop (count_in us) (open_windows e behind plan)) x vs) (sym s) (subst (λ x. AreLongest clocks (end_of_units behind us) x more vs) (sym w) (subst (λ x. AreLongest clocks x (open_windows e next more) more vs) (sym end) two)) in
     let joined = longest_join clocks behind (open_windows e behind plan) plan us vs one here in

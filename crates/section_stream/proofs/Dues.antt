@@ -27,10 +27,11 @@ use Rattle.section_stream.specs.Packs.{held_of}
 use Rattle.section_stream.specs.Steppers.{IsCaughtUp, StartFrom, stepper_clocks, kind_of, known_of, packed_to, parts_end, units_of}
 use Rattle.section_stream.proofs.Adding.{board-from}
 use Rattle.section_stream.proofs.Leaving.{left-sooner}
-use Rattle.section_stream.proofs.Later.{sent-all, turn-from}
+use Rattle.section_stream.proofs.Later.{sent-all}
 use Rattle.section_stream.proofs.Rowing.{row-after}
 use Rattle.section_stream.proofs.Staying.{steps-front}
 use Rattle.section_stream.proofs.Stepped.{Takes, caught-on}
+use Rattle.section_units.proofs.Lateness.{turn_from}
 
 -- who has caught up with a turn has caught up with each one before it
 pub caught-sooner : (clocks : Clocks) (turn later : ℕ) (steps : StepStream) (held : List Planned) → turn ≤ later → AreCaughtUp clocks later steps held → AreCaughtUp clocks turn steps held
@@ -112,7 +113,7 @@ pub added-start : (clocks : Clocks) (low end last : ℕ) (old new added : List S
 added-start clocks low end last [] new [] kept row from is start = subst (StartFrom low) (sym is) tt
 added-start clocks low end last [] new (v ∷ added) kept row from is start =
     let due = row.0.due in
-    let turn = turn-from clocks low v.first kept (from 0 v (omega arith)) in
+    let turn = turn_from clocks low v.first kept (from 0 v (omega arith)) in
     let late : low ≤ v.due = omega arith in
     subst (StartFrom low) (sym is) late
 added-start clocks low end last (u ∷ old) new added kept row from is start = subst (StartFrom low) (sym is) start

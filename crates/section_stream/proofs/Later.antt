@@ -32,6 +32,8 @@ use Rattle.section_stream.proofs.Leaving.{behind-alike}
 use Rattle.section_stream.proofs.Staying.{AreBehind, held-left, held-some, parts-front, steps-front, steps-left, steps-whole}
 use Rattle.section_stream.proofs.Stretches.{last-after, spaced-above, spaced-sent, spaced-split}
 use Rattle.step_ticks.proofs.Lists.{spaced-AreSpaced}
+use Rattle.lookahead.proofs.Pushes.{drop-before}
+use Rattle.section_units.proofs.Lateness.{turn_from}
 
 -- ticks that rise are at least the first one
 rise-above : (x : ℕ) (ts : List ℕ) → TicksRise (x ∷ ts) → All (λ t. x ≤ t) (x ∷ ts)
@@ -145,26 +147,11 @@ fits-later freq b P [] (q ∷ qs) (s ∷ plan) up fits whole late =
     let R : Pulse → Type 0 = λ p. P p.tick in
     All-cons (λ (t : Planned). P t.tick) s plan (up q.tick s.tick fits.0.not_late (All-head R q qs late)) (fits-later freq s.tick P [] qs plan up fits.1 (omega arith) (All-tail R q qs late))
 
-drop-front : {A : Type 0} (n : ℕ) (xs ys : List A) → n ≤ length xs → drop n (xs ++ ys) ≡ drop n xs ++ ys
-drop-front zero xs ys h = refl
-drop-front (suc n) [] ys h = absurd (omega arith)
-drop-front (suc n) (x ∷ xs) ys h = drop-front n xs ys (omega arith)
-
 pub sent-all : (P : ℕ → Type 0) (inverted : Bool) (steps : List Planned) → All (λ (s : Planned). P s.tick) steps → All (λ (s : Planned). P s.tick) (as_sent inverted steps)
 sent-all P inverted [] h = All-nil (λ (s : Planned). P s.tick)
 sent-all P inverted (s ∷ steps) h =
     let Q : Planned → Type 0 = λ q. P q.tick in
     All-cons Q (record { tick = s.tick; up = sent inverted s.up }) (as_sent inverted steps) (All-head Q s steps h) (sent-all P inverted steps (All-tail Q s steps h))
-
--- a tick from a turn on is in it or a later one
-pub turn-from : (clocks : Clocks) (turn t : ℕ) → AreKept clocks → lines_tick clocks (turn * turn_ns) ≤ t → turn ≤ lines_turn clocks t
-turn-from clocks turn t kept h = elim (cases_lt (lines_turn clocks t) turn) as (λ _. turn ≤ lines_turn clocks t) [
-  | inl less ↦ (
-      let after = turn-after clocks t (lines_turn clocks t) kept (omega arith) in
-      let up = tick_over-mono clocks.first 0 clocks.held ((lines_turn clocks t + 1) * turn_ns) (turn * turn_ns) (omega arith) in
-      absurd (omega arith))
-  | inr over ↦ over
-]
 
 -- The steps of a stepper's plan that its units do not say yet are due in a turn or later, where those are that it still has,
 -- and it has caught up with a later turn.
@@ -181,7 +168,7 @@ rest-later homing s freq base turn low parts more out pieces given reset early a
     let P : ℕ → Type 0 = λ t. low ≤ lines_turn clocks t in
     let up : (a b : ℕ) → a ≤ b → P a → P b = λ a b le h. (let m = turn-mono clocks a b kept le in omega arith) in
     let cut = lines_tick clocks (turn * turn_ns) in
-    let cut-late : (t : ℕ) → cut ≤ t → P t = λ t le. (let f = turn-from clocks turn t kept le in omega arith) in
+    let cut-late : (t : ℕ) → cut ≤ t → P t = λ t le. (let f = turn_from clocks turn t kept le in omega arith) in
     let steps = steps_in pieces in
     let one : ArePieces (max_error freq) base pieces = subst (λ x. ArePieces x base pieces) early packed.packed in
     let two : AreSpaced base steps = (spaced-split base steps (held_of s.pack) (subst (AreSpaced base) packed.split packed.spaced)).0 in
@@ -199,7 +186,7 @@ rest-later homing s freq base turn low parts more out pieces given reset early a
     let rests : All (λ (q : Planned). P q.tick) (as_sent inverted r.rest) = sent-all P inverted r.rest (λ k d l. cut-late _ (rest k d l)) in
     let plan : as_sent inverted (plan_of s base (parts ++ more)) ≡ steps ++ (held_of s.pack ++ as_sent inverted r.rest) = ap (as_sent inverted) r.whole ∙ sent-append inverted out r.rest ∙ ap (λ xs. xs ++ as_sent inverted r.rest) packed.split ∙ append_assoc steps (held_of s.pack) (as_sent inverted r.rest) in
     let n = length-append said left in
-    let split : drop (length said) (as_sent inverted (plan_of s base (parts ++ more))) ≡ drop (length said) steps ++ (held_of s.pack ++ as_sent inverted r.rest) = ap (drop (length said)) plan ∙ drop-front (length said) steps (held_of s.pack ++ as_sent inverted r.rest) (omega arith) in
+    let split : drop (length said) (as_sent inverted (plan_of s base (parts ++ more))) ≡ drop (length said) steps ++ (held_of s.pack ++ as_sent inverted r.rest) = ap (drop (length said)) plan ∙ drop-before (length said) steps (held_of s.pack ++ as_sent inverted r.rest) (omega arith) in
     let Q : Planned → Type 0 = λ q. P q.tick in
     subst (All Q) (sym split) (All-append Q (drop (length said) steps) (held_of s.pack ++ as_sent inverted r.rest) first (All-append Q (held_of s.pack) (as_sent inverted r.rest) held rests))
 
@@ -251,7 +238,7 @@ left-late s base turn parts out pieces given are kept caught left =
     let P : Planned → Type 0 = λ q. cut ≤ q.tick in
     let all : All P (held ++ as_sent inverted r.rest) = All-append P held (as_sent inverted r.rest) caught.held_are (sent-all (λ (t : ℕ). cut ≤ t) inverted r.rest rest) in
     let here : All P (l.step ∷ l.rest) = subst (λ (xs : List Planned). All P xs) (sym same) all in
-    subst (λ (ks : List Planned). turn ≤ last_turn clocks ks) (sym l.are) (last-from-late clocks turn steps l.step l.rest (λ k d lt. turn-from clocks turn _ kept (here k d lt)))
+    subst (λ (ks : List Planned). turn ≤ last_turn clocks ks) (sym l.are) (last-from-late clocks turn steps l.step l.rest (λ k d lt. turn_from clocks turn _ kept (here k d lt)))
 
 -- steps of which the last one of a front is in a turn or later, and behind a tick, end in that turn or later
 last-from-front : (clocks : Clocks) (low b : ℕ) (xs ys : List Planned) → AreKept clocks → AreSpaced b (xs ++ ys) → b < last_step_tick b xs → low ≤ lines_turn clocks (last_step_tick b xs) → low ≤ last_turn clocks (xs ++ ys)
@@ -278,5 +265,5 @@ packed-late s base turn parts out pieces given are kept some late =
     let plan : as_sent inverted (plan_of s base parts) ≡ steps ++ (held ++ as_sent inverted r.rest) = ap (as_sent inverted) whole ∙ sent-append inverted out r.rest ∙ ap (λ xs. xs ++ as_sent inverted r.rest) are.packed.split ∙ append_assoc steps held (as_sent inverted r.rest) in
     let spaced = subst (AreSpaced base) plan (spaced-sent inverted base (plan_of s base parts) (spaced-AreSpaced base _)) in
     let last : packed_to s ≡ last_step_tick base steps = are.packed.last_is in
-    let at = turn-from clocks turn (packed_to s) kept late in
+    let at = turn_from clocks turn (packed_to s) kept late in
     subst (λ (ks : List Planned). turn ≤ last_turn clocks ks) (sym plan) (last-from-front clocks turn base steps (held ++ as_sent inverted r.rest) kept spaced (omega (arith, some, last)) (subst (λ t. turn ≤ lines_turn clocks t) last at))

@@ -14,6 +14,7 @@ use Rattle.step_pack.specs.declared.Placed.{Placed}
 use Rattle.step_pack.specs.Placing.{PacksPlaced}
 use Rattle.step_pack.proofs.Piecewise.{length-windows}
 use Rattle.section_units.specs.Units.{first_up, set_in, told_direction, unit_of, units_on, up_after}
+use Rattle.step_pack.proofs.Expanding.{first_tick}
 
 -- a window behind a tick, and below the limit of ticks
 pub record IsWithin (clock : ℕ) (w : Window) : Type 0 where
@@ -54,10 +55,6 @@ left-all e last clock steps placed packs spaced small from = record {
   within = windows-within e last clock steps from spaced small;
 }
 
-pub first-tick : (first interval : ℕ) (add : ℤ) → tick_at first interval add 0 ≡ first
-first-tick first interval (pos a) = omega arith
-first-tick first interval (negsuc a) = omega arith
-
 -- what is known of the first of them
 pub record IsNext (clock : ℕ) (steps : List Planned) (p : Placed) (placed : List Placed) : Type 0 where
   pub some : 0 < length steps
@@ -75,7 +72,7 @@ next-of clock steps p placed left =
     let after = covers.after in
     let from = left.from in
     let late = covers.not_late 0 some in
-    let first = first-tick p.first p.triple.interval p.triple.add in
+    let first = first_tick p.first p.triple.interval p.triple.add in
     let here = left.within 0 (record { low = 0; high = 0; up = false }) (omega arith) in
     let small = here.small in
     let end = left.within (p.triple.count - 1) (record { low = 0; high = 0; up = false }) (omega arith) in

@@ -12,7 +12,8 @@ use Rattle.step_ticks.specs.declared.stream.StepStream.{StepStream}
 use Rattle.step_ticks.specs.Streaming.{IsPast, IsStepsOf, known_end, reach_of, waiting_steps}
 use Rattle.step_ticks.proofs.Lists.{filtered-All}
 use Rattle.section_stream.specs.Stepping.{IsLeftFrom}
-use Rattle.section_stream.proofs.Staying.{raw-after, raw-append}
+use Rattle.section_stream.proofs.Staying.{raw-after}
+use Rattle.section_plan.proofs.Counts.{raw_steps-append}
 
 -- what is past a tick is left from it on
 pub past-left : (t : ℕ) (s : StepStream) → IsPast t s → IsLeftFrom t s
@@ -56,7 +57,7 @@ left-on old new base segments later asked asked' out t was is gear first after g
       let two = is.kept_is.whole more late in
       let reach : reach_of new ≡ reach_of old = is.reach_is ∙ ap (λ (l : Line). cancel_reach l.freq) first ∙ sym was.reach_is in
       let steps : raw_steps new.gear new.lines.first.freq (segments ++ later) ++ more ≡ raw ++ (here ++ more) =
-      ap (λ (x : Gear). raw_steps x new.lines.first.freq (segments ++ later) ++ more) gear ∙ ap (λ (l : Line). raw_steps g l.freq (segments ++ later) ++ more) first ∙ ap (λ (xs : List Planned). xs ++ more) (raw-append g f segments later) ∙ append_assoc raw here more in
+      ap (λ (x : Gear). raw_steps x new.lines.first.freq (segments ++ later) ++ more) gear ∙ ap (λ (l : Line). raw_steps g l.freq (segments ++ later) ++ more) first ∙ ap (λ (xs : List Planned). xs ++ more) (raw_steps-append g f segments later) ∙ append_assoc raw here more in
       let both : is.kept ++ filtered (reach_of new) (waiting_steps new ++ more) ≡ was.kept ++ filtered (reach_of old) (waiting_steps old ++ (here ++ more)) =
       sym two ∙ ap (λ r. filtered r (raw_steps new.gear new.lines.first.freq (segments ++ later) ++ more)) reach ∙ ap (filtered (reach_of old)) steps ∙ one in
       let n1 : length out ≡ length was.kept = ap (λ (xs : List Planned). length xs) was.out_is ∙ spaced-length base (map (on_board old.lines) was.kept) ∙ length-map was.kept (on_board old.lines) in

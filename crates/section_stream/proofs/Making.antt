@@ -12,7 +12,7 @@ use Rattle.section_units.specs.Packed.{ArePackedBy, dir_behind, dir_told, end_of
 use Rattle.section_units.specs.Sections.{dir_after, set_to}
 use Rattle.section_units.specs.Units.{as_sent, first_up, sent, set_in, told_direction, unit_of, units_on, up_after}
 use Rattle.section_units.proofs.Fronting.{first_front, first_longer, first_packed}
-use Rattle.section_units.proofs.Packing.{next_packed, none_packed}
+use Rattle.section_units.proofs.Packing.{next_packed, none_packed, told_is}
 use Rattle.section_stream.specs.Pieces.{ArePieces, Piece, placed_in, steps_in}
 use Rattle.section_stream.proofs.Packed.{AreOn, pieces-on, units-more}
 use Rattle.section_stream.proofs.Stretches.{last-append, spaced-split}
@@ -25,18 +25,12 @@ behind-append : (b : Bool) (xs : List StepUnit) (u : StepUnit) → dir_behind b 
 behind-append b [] u = refl
 behind-append b (x ∷ xs) u = behind-append (dir_after b x.up) xs u
 
-told-after : (d now : Bool) → dir_after d (told_direction (Some d) now) ≡ now
-told-after true true = refl
-told-after true false = refl
-told-after false true = refl
-told-after false false = refl
-
 -- the direction behind one more unit
 one-told : (us : List StepUnit) (u : StepUnit) (up : Option Bool) (now : Bool) → dir_told us ≡ up → u.up ≡ told_direction up now → dir_told (us ++ u ∷ []) ≡ Some now
 one-told [] u up now is own = ap (λ d. Some (dir_after false d)) (own ∙ ap (λ o. told_direction o now) (sym is))
 one-told (v ∷ vs) u up now is own =
     let d = dir_behind false (v ∷ vs) in
-    ap (λ b. Some b) (behind-append false (v ∷ vs) u ∙ ap (dir_after d) (own ∙ ap (λ o. told_direction o now) (sym is)) ∙ told-after d now)
+    ap (λ b. Some b) (behind-append false (v ∷ vs) u ∙ ap (dir_after d) (own ∙ ap (λ o. told_direction o now) (sym is)) ∙ told_is d now)
 
 units-told : (clocks : Clocks) (oid : ℕ) (reset : Option ℕ) (us : List StepUnit) (up : Option Bool) (steps : List Planned) (placed : List Placed) → dir_told us ≡ up → dir_told (us ++ units_on clocks oid reset up steps placed) ≡ up_after up steps placed
 units-told clocks oid reset us up steps [] is = ap dir_told (append-nil us) ∙ is

@@ -20,8 +20,9 @@ use Rattle.section_stream.specs.declared.pack.PackStream.{PackStream}
 use Rattle.section_stream.specs.Packs.{last_packed, waiting_of}
 use Rattle.step_ticks.specs.Streaming.{last_step_tick}
 use Rattle.section_stream.specs.Rows.{AreInRow}
-use Rattle.section_stream.proofs.Laying.{HasUnits, first-tick, rest-of}
+use Rattle.section_stream.proofs.Laying.{HasUnits, rest-of}
 use Rattle.section_stream.proofs.Stretches.{last-after}
+use Rattle.step_pack.proofs.Expanding.{first_tick}
 
 pub row-none : (clocks : Clocks) (end : ℕ) (us : List StepUnit) → us ≡ [] → AreInRow clocks 0 end us
 row-none clocks end us none = rw none (omega arith)
@@ -99,7 +100,7 @@ units-row clocks oid reset up b end ws steps (p ∷ placed) run packs by h =
     let to = here.by in
     let small = here.small in
     let rise = rise-up (tick_at p.first t.interval t.add) t.count (t.count - 1) (λ i more. (covered_rise b p.first t.interval t.count t.add ws run covers i (omega arith)).1 more) (omega arith) in
-    let first = first-tick p.first t.interval t.add in
+    let first = first_tick p.first t.interval t.add in
     let last : p.last ≡ tick_at p.first t.interval t.add (t.count - 1) = packs.1 in (
       record { after = covers.after; ends = omega arith; small = omega arith; due = refl },
       units-row clocks oid reset (Some (first_up steps)) p.last end (drop t.count ws) (drop t.count steps) placed (run_drop b p.last t.count ws run some inside late) packs.3 (All-drop (IsBy end) t.count ws by) (omega arith),
@@ -117,7 +118,7 @@ units-from clocks oid reset up b t ws steps (p ∷ placed) packs from =
     let inside = covers.within in
     let low = from 0 (record { low = 0; high = 0; up = false }) (omega arith) in
     let early = covers.not_early 0 some in
-    let first = first-tick p.first p.triple.interval p.triple.add in
+    let first = first_tick p.first p.triple.interval p.triple.add in
     All-cons (λ (u : StepUnit). t ≤ u.first) (unit_of clocks oid p (told_direction up (first_up steps)) (set_in up reset)) (units_on clocks oid reset (Some (first_up steps)) (drop p.triple.count steps) placed) (omega arith)
     (units-from clocks oid reset (Some (first_up steps)) p.last t (drop p.triple.count ws) (drop p.triple.count steps) placed packs.3 (All-drop (λ (w : Window). t ≤ w.low) p.triple.count ws from))
 
@@ -158,7 +159,7 @@ placed-before b t ws (p ∷ placed) packs early =
     let inside = covers.within in
     let high = early 0 (record { low = 0; high = 0; up = false }) (omega arith) in
     let late = covers.not_late 0 some in
-    let first = first-tick p.first p.triple.interval p.triple.add in
+    let first = first_tick p.first p.triple.interval p.triple.add in
     All-cons (λ (q : Placed). q.first < t) p placed (omega arith) (placed-before p.last t (drop p.triple.count ws) placed packs.3 (All-drop (λ (w : Window). w.high < t) p.triple.count ws early))
 
 pub piece-before : (e last t : ℕ) (steps : List Planned) (placed : List Placed) → PacksPlaced last (windows_of e last steps) placed → All (λ s. s.tick < t) steps → All (λ p. p.first < t) placed

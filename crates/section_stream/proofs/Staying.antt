@@ -27,11 +27,7 @@ use Rattle.step_pack.proofs.Piecewise.{within_open}
 use Rattle.section_plan.specs.declared.drive.Drive.{Drive}
 use Rattle.section_stream.specs.Pieces.{ArePieces, Piece, placed_in, steps_in}
 use Rattle.section_stream.specs.Plans.{segments_for}
-
--- later steps behind others
-pub raw-append : (g : Gear) (f : ℕ) (xs ys : List Segment) → raw_steps g f (xs ++ ys) ≡ raw_steps g f xs ++ raw_steps g f ys
-raw-append g f [] ys = refl
-raw-append g f (x ∷ xs) ys = ap (λ rs. segment_steps g f x ++ rs) (raw-append g f xs ys) ∙ sym (append_assoc (segment_steps g f x) (raw_steps g f xs) (raw_steps g f ys))
+use Rattle.section_plan.proofs.Counts.{raw_steps-append}
 
 rest-of : {X : Type 0} (P : X → Type 0) (x : X) (xs : List X) → All P (x ∷ xs) → All P xs
 rest-of P x xs h = λ k d l. h (suc k) d (omega arith)
@@ -75,7 +71,7 @@ steps-front gear clocks reach end last_end last waiting base segments more asked
     let left = filtered reach (waiting ++ new) in
     let after = raw-after gear f end more later in
     let e = are.kept_is.whole new after in
-    let all : filtered (cancel_reach f) (raw_steps gear f (segments ++ more)) ≡ are.kept ++ left = ap (filtered (cancel_reach f)) (raw-append gear f segments more) ∙ ap (λ r. filtered r (raw ++ new)) (sym are.reach_is) ∙ e in
+    let all : filtered (cancel_reach f) (raw_steps gear f (segments ++ more)) ≡ are.kept ++ left = ap (filtered (cancel_reach f)) (raw_steps-append gear f segments more) ∙ ap (λ r. filtered r (raw ++ new)) (sym are.reach_is) ∙ e in
     let front = spaced base (map (on_board clocks) are.kept) in
     let tail = spaced (last_step_tick base front) (map (on_board clocks) left) in
     record {

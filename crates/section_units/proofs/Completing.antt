@@ -205,7 +205,7 @@ spaced-behind : (b : ℕ) (xs ys : List Planned) → AreSpaced b (xs ++ ys) → 
 spaced-behind b [] ys h = h
 spaced-behind b (x ∷ xs) ys h = spaced-behind x.tick xs ys h.1
 
-drop-done : (xs ys : List Planned) → drop (length xs) (xs ++ ys) ≡ ys
+pub drop-done : (xs ys : List Planned) → drop (length xs) (xs ++ ys) ≡ ys
 drop-done [] ys = refl
 drop-done (x ∷ xs) ys = drop-done xs ys
 
@@ -303,7 +303,7 @@ all-whole homing clocks freq base from (suc n) plan us each =
     let e : n + 1 ≡ suc n = omega arith in
     subst (λ k. AreWholeTo homing clocks freq base from k plan us) e (one-whole homing clocks freq base from n plan us (all-whole homing clocks freq base from n plan us each) (each n))
 
-none-said : (freq b : ℕ) (ps : List Pulse) → Fits freq b ps [] → length ps ≡ 0
+pub none-said : (freq b : ℕ) (ps : List Pulse) → Fits freq b ps [] → length ps ≡ 0
 none-said freq b [] h = refl
 none-said freq b (p ∷ ps) h = absurd h
 

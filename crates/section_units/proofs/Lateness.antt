@@ -125,7 +125,7 @@ one_by_one clocks slots some kept from low at before (r ∷ rs) paced past rows 
     (omega (arith, here, near, up, due), λ early. one_by_one clocks slots some kept r.turn u.first (lasts at u) (r ∷ before) rs paced.1 (All-cons (λ (q : Release). q.turn ≤ r.turn) r before (omega arith) (λ i d l. (let a = past i d l in omega (arith, a, after)))) next ended rise.1 (omega (arith, early, due)))
 
 -- a tick from a turn on is in it or a later one
-turn_from : (clocks : Clocks) (turn t : ℕ) → AreKept clocks → lines_tick clocks (turn * turn_ns) ≤ t → turn ≤ lines_turn clocks t
+pub turn_from : (clocks : Clocks) (turn t : ℕ) → AreKept clocks → lines_tick clocks (turn * turn_ns) ≤ t → turn ≤ lines_turn clocks t
 turn_from clocks turn t kept h = elim (cases_lt (lines_turn clocks t) turn) as (λ _. turn ≤ lines_turn clocks t) [
   | inl less ↦ (
       let after = turn-after clocks t (lines_turn clocks t) kept (omega arith) in

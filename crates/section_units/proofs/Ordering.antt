@@ -14,7 +14,7 @@ ticks_up t x (u ∷ ts) rise =
     let later = ticks_up u t ts tail in
     omega (arith, here, later)
 
-ends_up : (ts : List ℕ) → TicksRise ts → 0 < length ts → slice_index ts 0 ≤ last_of 0 ts
+pub ends_up : (ts : List ℕ) → TicksRise ts → 0 < length ts → slice_index ts 0 ≤ last_of 0 ts
 ends_up [] rise some = absurd (omega (arith, some))
 ends_up (t ∷ ts) rise some = ticks_up t 0 ts rise
 

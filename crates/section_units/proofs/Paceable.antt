@@ -2,7 +2,7 @@
 use Rattle.std.proofs.Common.{◌≡◌, ℕ, zero, suc, ◌+◌, ◌-◌, ◌≤◌, Bool, true, false, cond, max, eqb, Option, Some, None, List, [], ◌∷◌, ◌++◌, All, arith, refl, ap, subst, inl, inr}
 use Rattle.std.specs.Prelude.{nat_le, nat_lt, ◌&&◌, ◌%◌, ◌^◌, slice_index_or}
 use Rattle.std.specs.Int.{cast_unsigned, w32}
-use Rattle.std.proofs.lemmas.Bool.{cases_Bool, le-leb, leb-true, le-ltb, lt-ltb, ltb-true, ne_eqb}
+use Rattle.std.proofs.lemmas.Bool.{cases_Bool, le-leb, leb-true, le-ltb, lt-ltb, ltb-true, ne_eqb, and_from}
 use Rattle.std.proofs.lemmas.List.Elements.{All-cons, All-head, All-nil}
 use Rattle.plan_types.specs.Lines.{Clocks}
 use Rattle.plan_types.specs.Numbers.{first_from}
@@ -11,12 +11,13 @@ use Rattle.step_feed.specs.Fed.{IsNoSooner, releases_behind, last_release}
 use Rattle.step_feed.specs.Pacing.{ArePaced, HasRoom, IsReleased, Release, bytes_in, lead, one_pending, over_turn, pending, turn_bytes, units_of}
 use Rattle.step_feed.specs.Units.{StepUnit, dir_bytes, queue_bytes, reset_bytes, unit_bytes}
 use Rattle.step_feed.proofs.Counts.{count_bounds}
+use Rattle.plan_types.proofs.Facts.{first_of_both, second_of_both}
 
-dir-small : (stepper : ℕ) (up : Option Bool) → dir_bytes stepper up ≤ 7
+pub dir-small : (stepper : ℕ) (up : Option Bool) → dir_bytes stepper up ≤ 7
 dir-small stepper None = omega arith
 dir-small stepper (Some up) = let b = count_bounds stepper in omega arith
 
-reset-small : (stepper : ℕ) (reset : Option ℕ) → reset_bytes stepper reset ≤ 11
+pub reset-small : (stepper : ℕ) (reset : Option ℕ) → reset_bytes stepper reset ≤ 11
 reset-small stepper None = omega arith
 reset-small stepper (Some clock) = let b = count_bounds stepper in let c = count_bounds (clock % 2 ^ 32) in omega arith
 
@@ -35,31 +36,16 @@ unit-small u =
 abbrev room-test : Clocks → ℕ → List Release → StepUnit → ℕ → Bool
 room-test clocks slots before u k = nat_le u.due (k + lead) && (nat_le (bytes_in k before + unit_bytes u) turn_bytes && nat_lt (pending clocks u.stepper k before) slots)
 
-and-first : (a b : Bool) → (a && b) ≡ true → a ≡ true
-and-first true b h = refl
-and-first false b h = h
-
-and-second : (a b : Bool) → (a && b) ≡ true → b ≡ true
-and-second true b h = h
-and-second false b h = absurd (clash h)
-  where
-    clash : false ≡ true → ⊥
-    clash e = cc
-
-and-both : (a b : Bool) → a ≡ true → b ≡ true → (a && b) ≡ true
-and-both true b h k = k
-and-both false b h k = h
-
 test-room : (clocks : Clocks) (slots : ℕ) (before : List Release) (u : StepUnit) (k : ℕ) → room-test clocks slots before u k ≡ true → HasRoom clocks slots before u k
 test-room clocks slots before u k h =
     let one = nat_le u.due (k + lead) in
     let two = nat_le (bytes_in k before + unit_bytes u) turn_bytes in
     let three = nat_lt (pending clocks u.stepper k before) slots in
-    let rest = and-second one (two && three) h in
+    let rest = second_of_both one (two && three) h in
     record {
-      due = leb-true u.due (k + lead) (and-first one (two && three) h);
-      bytes = leb-true (bytes_in k before + unit_bytes u) turn_bytes (and-first two three rest);
-      steps = ltb-true (pending clocks u.stepper k before) slots (and-second two three rest);
+      due = leb-true u.due (k + lead) (first_of_both one (two && three) h);
+      bytes = leb-true (bytes_in k before + unit_bytes u) turn_bytes (first_of_both two three rest);
+      steps = ltb-true (pending clocks u.stepper k before) slots (second_of_both two three rest);
     }
 
 room-tested : (clocks : Clocks) (slots : ℕ) (before : List Release) (u : StepUnit) (k : ℕ) → HasRoom clocks slots before u k → room-test clocks slots before u k ≡ true
@@ -67,7 +53,7 @@ room-tested clocks slots before u k h =
     let one = nat_le u.due (k + lead) in
     let two = nat_le (bytes_in k before + unit_bytes u) turn_bytes in
     let three = nat_lt (pending clocks u.stepper k before) slots in
-    and-both one (two && three) (le-leb u.due (k + lead) h.due) (and-both two three (le-leb (bytes_in k before + unit_bytes u) turn_bytes h.bytes) (lt-ltb (pending clocks u.stepper k before) slots h.steps))
+    and_from one (two && three) (le-leb u.due (k + lead) h.due) (and_from two three (le-leb (bytes_in k before + unit_bytes u) turn_bytes h.bytes) (lt-ltb (pending clocks u.stepper k before) slots h.steps))
 
 -- a turn from which on nothing of some releases counts
 far : Clocks → List Release → ℕ

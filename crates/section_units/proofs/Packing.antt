@@ -15,7 +15,7 @@ use Rattle.plan_types.specs.Packing.{window_at, windows_of, RunOn, tick_at, tick
 use Rattle.plan_types.specs.Plan.{AreSpaced, Fits, max_error, pulse_of}
 use Rattle.step_pack.specs.declared.Placed.{Placed}
 use Rattle.step_pack.specs.Placing.{PacksPlaced, placed_ticks}
-use Rattle.step_pack.proofs.Expanding.{triple_expands, placed_within}
+use Rattle.step_pack.proofs.Expanding.{triple_expands, placed_within, first_tick, last_mapped, last_counted}
 use Rattle.step_pack.proofs.Fitting.{as_many, ending, fitting}
 use Rattle.step_pack.proofs.Rows.{run_drop, spaced_run}
 use Rattle.step_pack.proofs.Signed.{covered_rise}
@@ -23,20 +23,10 @@ use Rattle.step_feed.specs.Units.{StepUnit}
 use Rattle.section_units.specs.Sections.{dir_after, steps_said, ticks_meant, IsUnit, AreChained, AreBegunBy, set_to}
 use Rattle.section_units.specs.Units.{unit_of, told_direction, first_up, units_on}
 use Rattle.section_units.specs.Packed.{ArePackedBy, dir_behind, end_of_plan, end_of_units, units_from, units_next}
-
-first_tick : (first interval : ℕ) (add : ℤ) → tick_at first interval add 0 ≡ first
-first_tick first interval (pos a) = omega arith
-first_tick first interval (negsuc a) = omega arith
+use Rattle.step_pack.proofs.Joining.{last_appended}
 
 tick_in : (first : ℕ) (t : Triple) (i : ℕ) → i < t.count → slice_index (ticks_of first t) i ≡ tick_at first t.interval t.add i
 tick_in first t i below = get_or-map-range_with_len (tick_at first t.interval t.add) 0 t.count i i 0 below (omega arith)
-
-last_mapped : (f : ℕ → ℕ) (d a n : ℕ) → last_of d (map f (range_with_len a (suc n))) ≡ f (a + n)
-last_mapped f d a zero = let e : a + 0 ≡ a = omega arith in rw e refl
-last_mapped f d a (suc n) = let e : a + 1 + n ≡ a + suc n = omega arith in rw e at (last_mapped f (f a) (a + 1) n)
-
-last_counted : (f : ℕ → ℕ) (d n p : ℕ) → n ≡ suc p → last_of d (map f (range_with_len 0 n)) ≡ f p
-last_counted f d n p e = let same : 0 + p ≡ p = omega arith in rw e (rw same at (last_mapped f d 0 p))
 
 -- a triple's unit
 one_unit : (clocks : Clocks) (oid behind : ℕ) (p : Placed) (ws : List Window) (up : Option Bool) (reset : Option ℕ) → RunOn behind ws → Covers behind p.first p.triple.interval p.triple.count p.triple.add ws
@@ -91,13 +81,13 @@ begun homing clocks oid base ws steps (p ∷ placed) run packs small =
     )
 
 -- the direction that is told
-told_is : (up now : Bool) → dir_after up (told_direction (Some up) now) ≡ now
+pub told_is : (up now : Bool) → dir_after up (told_direction (Some up) now) ≡ now
 told_is true true = refl
 told_is true false = refl
 told_is false true = refl
 told_is false false = refl
 
-ticks_said : (oid : ℕ) (up : Bool) (ts : List ℕ) → map (λ (p : Pulse). p.tick) (map (pulse_of oid) (steps_of up ts)) ≡ ts
+pub ticks_said : (oid : ℕ) (up : Bool) (ts : List ℕ) → map (λ (p : Pulse). p.tick) (map (pulse_of oid) (steps_of up ts)) ≡ ts
 ticks_said oid up [] = refl
 ticks_said oid up (t ∷ ts) = ap (λ x. t ∷ x) (ticks_said oid up ts)
 
@@ -239,11 +229,6 @@ units_whole homing clocks freq oid base plan placed spaced packs =
     let said = steps_said oid false (units_from homing clocks oid base plan placed) in
     sym (length-map said (λ (q : Pulse). q.tick)) ∙ ap length (ticks_from homing clocks oid base plan placed) ∙ as_many (max_error freq) base plan (placed_ticks placed) (placed_within base ws placed packs)
 
--- Pieces.
-last_append : (x : ℕ) (ts us : List ℕ) → last_of x (ts ++ us) ≡ last_of (last_of x ts) us
-last_append x [] us = refl
-last_append x (t ∷ ts) us = last_append t ts us
-
 units_end : (clocks : Clocks) (oid behind : ℕ) (reset : Option ℕ) (up : Bool) (ws : List Window) (steps : List Planned) (placed : List Placed) → PacksPlaced behind ws placed
     → end_of_units behind (units_on clocks oid reset (Some up) steps placed) ≡ last_of behind (placed_ticks placed)
 units_end clocks oid behind reset up ws steps [] packs = refl
@@ -252,7 +237,7 @@ units_end clocks oid behind reset up ws steps (p ∷ placed) packs =
     let some = packs.0.some in
     let here : last_of behind (ticks_of p.first t) ≡ p.last = last_counted (tick_at p.first t.interval t.add) behind t.count (t.count - 1) (omega (arith, some)) ∙ sym packs.1 in
     units_end clocks oid p.last reset (first_up steps) (drop t.count ws) (drop t.count steps) placed packs.3 ∙ ap (λ x. last_of x (placed_ticks placed)) (sym here)
-    ∙ sym (last_append behind (ticks_of p.first t) (placed_ticks placed))
+    ∙ sym (last_appended behind (ticks_of p.first t) (placed_ticks placed))
 
 from_end : (homing : Bool) (clocks : Clocks) (oid base : ℕ) (ws : List Window) (steps : List Planned) (placed : List Placed) → PacksPlaced base ws placed
     → end_of_units base (units_from homing clocks oid base steps placed) ≡ last_of base (placed_ticks placed)
@@ -262,7 +247,7 @@ from_end homing clocks oid base ws steps (p ∷ placed) packs =
     let some = packs.0.some in
     let here : last_of base (ticks_of p.first t) ≡ p.last = last_counted (tick_at p.first t.interval t.add) base t.count (t.count - 1) (omega (arith, some)) ∙ sym packs.1 in
     units_end clocks oid p.last (set_to homing base) (first_up steps) (drop t.count ws) (drop t.count steps) placed packs.3 ∙ ap (λ x. last_of x (placed_ticks placed)) (sym here)
-    ∙ sym (last_append base (ticks_of p.first t) (placed_ticks placed))
+    ∙ sym (last_appended base (ticks_of p.first t) (placed_ticks placed))
 
 -- so end the units of a piece
 any_end : (clocks : Clocks) (oid behind : ℕ) (reset : Option ℕ) (up : Option Bool) (ws : List Window) (steps : List Planned) (placed : List Placed) → PacksPlaced behind ws placed
@@ -273,7 +258,7 @@ any_end clocks oid behind reset up ws steps (p ∷ placed) packs =
     let some = packs.0.some in
     let here : last_of behind (ticks_of p.first t) ≡ p.last = last_counted (tick_at p.first t.interval t.add) behind t.count (t.count - 1) (omega (arith, some)) ∙ sym packs.1 in
     units_end clocks oid p.last reset (first_up steps) (drop t.count ws) (drop t.count steps) placed packs.3 ∙ ap (λ x. last_of x (placed_ticks placed)) (sym here)
-    ∙ sym (last_append behind (ticks_of p.first t) (placed_ticks placed))
+    ∙ sym (last_appended behind (ticks_of p.first t) (placed_ticks placed))
 
 pub piece_end : (clocks : Clocks) (oid e behind : ℕ) (reset : Option ℕ) (up : Option Bool) (steps : List Planned) (placed : List Placed) → PacksPlaced behind (windows_of e behind steps) placed
     → end_of_units behind (units_on clocks oid reset up steps placed) ≡ end_of_plan behind steps
@@ -307,7 +292,7 @@ no_plan [] e = refl
 no_plan (s ∷ plan) e = absurd (omega (arith, e))
 
 pub plan_ends : (base : ℕ) (plan more : List Planned) → end_of_plan base (plan ++ more) ≡ end_of_plan (end_of_plan base plan) more
-plan_ends base plan more = ap (last_of base) (map-append (λ (s : Planned). s.tick) plan more) ∙ last_append base (map (λ (s : Planned). s.tick) plan) (map (λ (s : Planned). s.tick) more)
+plan_ends base plan more = ap (last_of base) (map-append (λ (s : Planned). s.tick) plan more) ∙ last_appended base (map (λ (s : Planned). s.tick) plan) (map (λ (s : Planned). s.tick) more)
 
 pub none_packed : (homing : Bool) (clocks : Clocks) (freq oid base : ℕ) → ArePackedBy homing clocks freq oid base [] []
 none_packed homing clocks freq oid base = record { begun = tt; fits = tt; whole = refl; ends = refl }

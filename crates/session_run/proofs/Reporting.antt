@@ -45,11 +45,11 @@ run-for f o m s name files out kept t files' mid kept' fresh r =
     (ends-for f o _ 0 (head_at (first_run m s.switches) q.4) q.1 q.2 t.cause _ met.2 met.3 met.1 (ap (λ (k : Kept). k.unwritten) same ∙ fresh.unwritten, ap (λ (k : Kept). k.unread) same ∙ fresh.unread))
 
 -- behind a write that failed
-failure_is : (t : Cause) → (with_failure t ≡ cause.Memory) ⊎ (with_failure t ≡ cause.WriteFault)
+pub failure_is : (t : Cause) → (with_failure t ≡ cause.Memory) ⊎ (with_failure t ≡ cause.WriteFault)
 failure_is cause.Memory = inl refl
 failure_is _ = inr refl
 
-failed_as : (t c : Cause) → c ≡ with_failure t → (c ≡ cause.Memory) ⊎ (c ≡ cause.WriteFault)
+pub failed_as : (t c : Cause) → c ≡ with_failure t → (c ≡ cause.Memory) ⊎ (c ≡ cause.WriteFault)
 failed_as t c e = ⊎_elim (λ x. inl (e ∙ x)) (λ x. inr (e ∙ x)) (failure_is t)
 
 pub given_plain : (own c : Cause) → GivenFor own c → (c ≡ own) ⊎ ((c ≡ cause.Memory) ⊎ (c ≡ cause.WriteFault))

@@ -26,9 +26,9 @@ use Rattle.session_work.specs.Reactors.{IsReactorAt, IsServing}
 use Rattle.session_work.specs.Leads.{still_control, still_word}
 use Rattle.session_work.proofs.Leads.{first_said}
 use Rattle.session_work.proofs.Goes.{put_more, next_taken}
-use Rattle.session_work.proofs.Homes.{nothing_yet}
 use Rattle.session_work.proofs.Columns.{can_take, row_none, row_put}
 use Rattle.session_work.proofs.Reactors.{length_item, Takes, renewed, on_with}
+use Rattle.plan_types.proofs.Facts.{none_long}
 
 -- a row was taken of lanes whose next message was number k
 pub took_row : {T : Type 0} (k : ℕ) (ls : List (Lane T)) (old new : List (TakePass T)) (xs : List T) → CanTake k ls old → RowTaken ls old new xs → length xs ≡ length old → CanTake (k + 1) ls new
@@ -57,7 +57,7 @@ module _ {A O : Type 0} (a : Reactor A) (o : Out O) (lanes : Lanes) where
   pub first_found : (s : Head A O) (d : ReactorDone A O) (f : Found) → f.states.items ≡ [] → f.note ≡ None → IsReactorAt a o lanes 0 s d → d.next ≡ 0
       → IsFound a o lanes 0 s f d
   first_found s d f none bare h next =
-      let w = h.4.3 in let no = nothing_yet h.0 h.1 in (
+      let w = h.4.3 in let no = none_long h.0 h.1 in (
         d.note_pass,
         d.state_passes,
         h,

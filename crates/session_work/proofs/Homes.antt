@@ -17,6 +17,7 @@ use Rattle.session_work.specs.Motions.{Hearing, Feeding, MotionStep, seated}
 use Rattle.session_work.specs.Rows.{gather}
 use Rattle.session_work.specs.Seats.{needs, hungers, is_wanted, WordStep, MakeStep}
 use Rattle.session_work.specs.Turns.{Goes}
+use Rattle.plan_types.proofs.Facts.{none_long}
 
 first_ends : List Control → Bool
 first_ends [] = false
@@ -28,10 +29,6 @@ first_halts (w ∷ ws) = w.end
 
 not_both : {P : Type 0} (b : Bool) → b ≡ true → b ≡ false → P
 not_both b t f = absurd (true≢false (sym t ∙ f))
-
-pub nothing_yet : {A : Type 0} (xs : List A) → length xs ≡ 0 → xs ≡ []
-nothing_yet [] e = refl
-nothing_yet (x ∷ xs) e = absurd (omega (arith, e))
 
 module _ {L : Type 0} (turns : L → ℕ → Control → Batch → State → L → Type 0) where
   pub link_untouched : (s : L) (us : List LinkTurn) (last : List Control) (e : L × Bool) → Goes (LinkStep turns) 0 (s, false) us e → IsPrefix (gather (λ u. u.control ∷ []) us ++ last) (bare_control 0 true ∷ []) → e.0 ≡ s

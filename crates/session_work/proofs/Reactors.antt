@@ -29,9 +29,9 @@ use Rattle.session_work.specs.Bares.{bare_control, bare_word, stop_piece}
 use Rattle.session_work.specs.Leads.{each_turn, still_control, still_word, HasEnded, HasSaid, HasLed}
 use Rattle.session_work.proofs.Leads.{length_each, first_said, still_said, more_said, last_said, put_as, put_same, rows_put, copies_put}
 use Rattle.session_work.proofs.Goes.{goes_on, gather_on, gather_ones, gather_each, put_more, taken_more, next_of_put, next_taken}
-use Rattle.session_work.proofs.Homes.{nothing_yet}
 use Rattle.session_work.proofs.Each.{item_at, item_copies, length-copies}
 use Rattle.session_work.proofs.Columns.{can_put, can_take, row_put, row_taken}
+use Rattle.plan_types.proofs.Facts.{none_long}
 
 pub length_item : {B : Type 0} (bs : List B) (i : ℕ) → i < length bs → length (item i bs) ≡ 1
 length_item [] i h = absurd (omega (arith, h))
@@ -120,7 +120,7 @@ module _ {A O : Type 0} (a : Reactor A) (o : Out O) where
 
     -- nothing is put yet
     pub at_first : (s : Head A O) (d : ReactorDone A O) → At 0 s d → d.next ≡ 0 → HavePut (λ j. []) lanes.controls.now d.control_passes.items × HasPut [] lanes.words.now d.word_pass
-    at_first s d h next = let n = h.4.0 in let at = h.4.1 in let none : n ≡ 0 = omega (arith, next, at) in let no_turn = nothing_yet h.0 h.1 in (
+    at_first s d h next = let n = h.4.0 in let at = h.4.1 in let none : n ≡ 0 = omega (arith, next, at) in let no_turn = none_long h.0 h.1 in (
       put_as _ _ lanes.controls.now _ h.4.3.0 (λ j low. (λ i. gather (λ (t : ReactorTurn). item j t.controls) (no_turn i) ++ each_turn still_control 0 (none i))),
       put_same _ _ lanes.words.now _ h.4.3.2 (λ i. gather (λ (t : ReactorTurn). t.word ∷ []) (no_turn i) ++ each_turn still_word 0 (none i)),
     )

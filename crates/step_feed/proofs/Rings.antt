@@ -137,7 +137,7 @@ full-free clocks slots first (e ∷ es) are up full some is = λ k.
 pub room-free : (clocks : Clocks) (slots : ℕ) (es : List ℕ) → length es < slots → (k : ℕ) → (not_over clocks k es < slots → 0 ≤ k) × (0 ≤ k → not_over clocks k es < slots)
 room-free clocks slots es few = λ k. let m = most clocks k es in ((λ r. omega arith), (λ r. omega arith))
 
-count-append : (x : ℕ) (xs ys : List ℕ) → count_from x (xs ++ ys) ≡ count_from x xs + count_from x ys
+pub count-append : (x : ℕ) (xs ys : List ℕ) → count_from x (xs ++ ys) ≡ count_from x xs + count_from x ys
 count-append x [] ys = omega arith
 count-append x (e ∷ es) ys = let r = count-append x es ys in omega arith
 
@@ -168,10 +168,10 @@ pending-bound clocks k e are before = elim (cases_lt k 5) [
       ]))
 ]
 
-one-before : (x e : ℕ) → e < x → one_from x e ≡ 0
+pub one-before : (x e : ℕ) → e < x → one_from x e ≡ 0
 one-before x e less = let f = lt-leb x e less in rw f refl
 
-one-behind : (x e : ℕ) → x ≤ e → one_from x e ≡ 1
+pub one-behind : (x e : ℕ) → x ≤ e → one_from x e ≡ 1
 one-behind x e order = let f = le-leb x e order in rw f refl
 
 pub one-same : (clocks : Clocks) (k e : ℕ) → AreKept clocks → one_pending clocks k e ≡ one_from (made_before clocks k) e

@@ -27,7 +27,7 @@ within_all : (f : ℕ → ℕ) (n : ℕ) (ws : List Window) (rest : List ℕ) �
 within_all f n ws rest within low high h =
     within_more f 0 n ws rest within (λ i below. let e : 0 + i ≡ i = omega arith in rw e (low i below)) (λ i below. let e : 0 + i ≡ i = omega arith in rw e (high i below)) h
 
-first_tick : (first interval : ℕ) (add : ℤ) → tick_at first interval add 0 ≡ first
+pub first_tick : (first interval : ℕ) (add : ℤ) → tick_at first interval add 0 ≡ first
 first_tick first interval (pos a) = omega arith
 first_tick first interval (negsuc a) = omega arith
 
@@ -48,11 +48,11 @@ triple_expands behind first t ws run covers =
       continues = rw start covers.continues;
     }
 
-last_mapped : (f : ℕ → ℕ) (d a n : ℕ) → last_of d (map f (range_with_len a (suc n))) ≡ f (a + n)
+pub last_mapped : (f : ℕ → ℕ) (d a n : ℕ) → last_of d (map f (range_with_len a (suc n))) ≡ f (a + n)
 last_mapped f d a zero = rw add-zero refl
 last_mapped f d a (suc n) = let e : a + 1 + n ≡ a + suc n = omega arith in rw e at (last_mapped f (f a) (a + 1) n)
 
-last_counted : (f : ℕ → ℕ) (d n p : ℕ) → n ≡ suc p → last_of d (map f (range_with_len 0 n)) ≡ f p
+pub last_counted : (f : ℕ → ℕ) (d n p : ℕ) → n ≡ suc p → last_of d (map f (range_with_len 0 n)) ≡ f p
 last_counted f d n p e = let same : 0 + p ≡ p = omega arith in rw e (rw same at (last_mapped f d 0 p))
 
 last_expanded : (behind first : ℕ) (t : Triple) → 0 < t.count → last_of behind (ticks_of first t) ≡ last_tick first t

@@ -14,7 +14,7 @@ use Rattle.step_pack.proofs.Piecewise.{IsPiece, piece_of, piece_drop, covers_all
 abbrev pub end_of : ℕ → List Planned → ℕ
 end_of last steps = last_of last (map (λ s. s.tick) steps)
 
-last_appended : (d : ℕ) (xs ys : List ℕ) → last_of d (xs ++ ys) ≡ last_of (last_of d xs) ys
+pub last_appended : (d : ℕ) (xs ys : List ℕ) → last_of d (xs ++ ys) ≡ last_of (last_of d xs) ys
 last_appended d [] ys = refl
 last_appended d (x ∷ xs) ys = last_appended x xs ys
 

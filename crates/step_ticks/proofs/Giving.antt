@@ -212,7 +212,7 @@ exactly gear clocks reach end last_end last next all base segments until out s l
     s.out_is ∙ ap (λ ks. spaced base (map (on_board clocks) ks)) (sym is)
 
 -- a line is added behind all that was asked for
-same-on-board : (clocks : Clocks) (from : ℕ) (line : Line) (kept : List Planned) → All (λ k. k.tick < tick clocks.first from) kept → map (on_board (added clocks from line)) kept ≡ map (on_board clocks) kept
+pub same-on-board : (clocks : Clocks) (from : ℕ) (line : Line) (kept : List Planned) → All (λ k. k.tick < tick clocks.first from) kept → map (on_board (added clocks from line)) kept ≡ map (on_board clocks) kept
 same-on-board clocks from line [] h = refl
 same-on-board clocks from line (a ∷ kept) h =
     let e = board-added clocks from line a.tick (h 0 a (omega arith)) in

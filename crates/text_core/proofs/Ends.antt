@@ -18,7 +18,7 @@ trimmed_end-kept [] b h = rw h refl
 trimmed_end-kept (x ∷ xs) b h = rw (trimmed_end-kept xs b h) (not_empty x xs b)
 
 -- a text is its front and its last byte
-split_last : (xs : List ℕ) → 1 ≤ length xs → take (length xs - 1) xs ++ get_or xs (length xs - 1) 0 ∷ [] ≡ xs
+pub split_last : (xs : List ℕ) → 1 ≤ length xs → take (length xs - 1) xs ++ get_or xs (length xs - 1) 0 ∷ [] ≡ xs
 split_last xs some = let below : length xs - 1 < length xs = omega arith in let whole : length xs - 1 + 1 ≡ length xs = omega arith in
     sym (take_more xs (length xs - 1) 0 below) ∙ rw whole (take-length xs)
 

@@ -16,7 +16,7 @@ first_of b (c ∷ cs) = elim (cases_Bool (b == 10)) [
   | inr h ↦ rw h (ap (with_first b) (first_of c cs))
 ]
 
-whole_take : (text : List ℕ) (m : ℕ) → m ≤ length text → take (length text - m) (drop m text) ≡ drop m text
+pub whole_take : (text : List ℕ) (m : ℕ) → m ≤ length text → take (length text - m) (drop m text) ≡ drop m text
 whole_take text m h = let e : length text - m ≡ length (drop m text) = sym (length-drop m text) in rw e (take-length (drop m text))
 
 pub rest_is : (text : List ℕ) (n m : ℕ) → n ≤ length text → m ≡ min (n + 1) (length text) → take (length text - m) (drop m text) ≡ drop (suc n) text

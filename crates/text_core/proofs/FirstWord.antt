@@ -7,6 +7,7 @@ use Rattle.std.proofs.Math.Seq.{take-length}
 use Rattle.text_core.specs.Bytes.{is_blank, front, behind, begins}
 use Rattle.text_core.specs.Lines.{with_first}
 use Rattle.text_core.specs.Words.{is_inside, words_of}
+use Rattle.text_core.proofs.FirstLine.{whole_take}
 
 same_front : (b : ℕ) (bs : List ℕ) → is_blank b ≡ false → behind is_blank (b ∷ bs) ≡ b ∷ bs
 same_front b bs h = rw h refl
@@ -43,9 +44,6 @@ first_of b (c ∷ cs) h = elim (cases_Bool (is_blank c)) [
   | inr inside ↦ first_joined b (c ∷ cs) (words_of (c ∷ cs)) h (rw inside refl) refl ∙ ap (with_first b) (first_of c cs inside) ∙ (let some : front is_inside (c ∷ cs) ≡ c ∷ front is_inside cs = rw inside refl in rw some refl)
 ]
 
-rest_of : (text : List ℕ) (n : ℕ) → n ≤ length text → take (length text - n) (drop n text) ≡ drop n text
-rest_of text n h = let e : length text - n ≡ length (drop n text) = sym (length-drop n text) in rw e (take-length (drop n text))
-
 pub next-none : (text words : List ℕ) → words ≡ behind is_blank text → length words ≡ 0 → words_of text ≡ []
 next-none text [] is none = sym (past_blanks text) ∙ ap words_of (sym is)
 next-none text (b ∷ bs) is none = absurd (omega (arith, none))
@@ -56,7 +54,7 @@ next-some text [] n is some count short = absurd (omega arith)
 next-some text (b ∷ bs) n is some count short = let inside : is_blank b ≡ false = begins_inside text b bs (sym is) in
     let whole : front is_inside (b ∷ bs) ≡ b ∷ front is_inside bs = rw inside refl in
     let first : take n (b ∷ bs) ≡ b ∷ front is_inside bs = rw count (taken (b ∷ bs)) ∙ whole in
-    let rest : take (length (b ∷ bs) - n) (drop n (b ∷ bs)) ≡ drop (length (front is_inside bs)) bs = rest_of (b ∷ bs) n short ∙ rw (count, whole) refl in
+    let rest : take (length (b ∷ bs) - n) (drop n (b ∷ bs)) ≡ drop (length (front is_inside bs)) bs = whole_take (b ∷ bs) n short ∙ rw (count, whole) refl in
     sym (past_blanks text) ∙ ap words_of (sym is) ∙ first_of b bs inside ∙ rw (first, rest) refl
 
 behind_short : (text : List ℕ) → length (behind is_blank text) ≤ length text
@@ -73,7 +71,7 @@ next-shorter text (b ∷ bs) n is some count short =
     let inside : is_blank b ≡ false = begins_inside text b bs (sym is) in
     let whole : front is_inside (b ∷ bs) ≡ b ∷ front is_inside bs = rw inside refl in
     let some_count : length (front is_inside (b ∷ bs)) ≡ length (front is_inside bs) + 1 = ap length whole ∙ omega arith in
-    let same : length (take (length (b ∷ bs) - n) (drop n (b ∷ bs))) ≡ length (drop n (b ∷ bs)) = ap length (rest_of (b ∷ bs) n short) in
+    let same : length (take (length (b ∷ bs) - n) (drop n (b ∷ bs))) ≡ length (drop n (b ∷ bs)) = ap length (whole_take (b ∷ bs) n short) in
     let left = length-drop n (b ∷ bs) in
     let all : length (b ∷ bs) ≡ length (behind is_blank text) = ap length is in
     let most = behind_short text in

@@ -2,40 +2,17 @@
 use Rattle.std.proofs.Common.{◌≡◌, ℕ, zero, suc, ℤ, pos, negsuc, ◌+◌, ◌-◌, ◌*◌, ◌%◌, ◌<◌, ◌≤◌, ◌⊎◌, inl, inr, Bool, true, false, cond, not, List, [], ◌∷◌, ◌++◌, length, Option, Some, None, refl, ap, sym, ◌∙◌, subst, arith}
 use Rattle.std.specs.Prelude.{◌==◌, ◌&&◌, nat_le, nat_lt}
 use Rattle.std.proofs.lemmas.Bool.{lt-leb, ltb-false, ltb-true}
-use Rattle.std.proofs.lemmas.Bool.Decides.{eqb_tells, leb_tells}
-use Rattle.plan_types.specs.declared.cause.Cause.{Cause}
+use Rattle.laws_board.proofs.Names.{eqb_tells, leb_tells, Cause, Level, Machine, Line, clock_of, Clocks, IsValidMachine, board_at, Cmd, Note, State, Control, ReportLine, Entry, Switch, first_state, Asking, ready, listen_all, asks_now, drifts, stale, waits_in, configuration, homing_turn, Known, Phase, Connecting, Stopping, is_out as note_out, news_of, noted, by_phase, homing_commands, reacts, unless_ended, unless_stale, first_lines, first_cause, Came, known_by, last_reacted}
 use Rattle.plan_types.specs.declared.cause.Cause.TheVariants as cause
-use Rattle.plan_types.specs.declared.levels.Level.{Level}
-use Rattle.plan_types.specs.declared.machine.Machine.{Machine}
-use Rattle.plan_types.specs.declared.plan.Line.{Line}
-use Rattle.plan_types.specs.Clock.{clock_of}
-use Rattle.plan_types.specs.Lines.{Clocks}
-use Rattle.plan_types.specs.Machines.{IsValidMachine, board_at}
 use Rattle.plan_types.specs.Sections as section
-use Rattle.msg_code.specs.declared.cmd.Cmd.{Cmd}
-use Rattle.msg_code.specs.declared.talk.Note.{Note}
-use Rattle.msg_code.specs.declared.talk.State.{State}
 use Rattle.msg_code.specs.declared.talk.WordNews.{WordNews}
 use Rattle.msg_code.specs.declared.talk.WordNews.TheVariants as word
-use Rattle.msg_code.specs.declared.unit.Control.{Control}
-use Rattle.report_text.specs.declared.line.ReportLine.{ReportLine}
-use Rattle.wire_scene.specs.declared.scene.Entry.{Entry}
-use Rattle.wire_scene.specs.declared.scene.Switch.{Switch}
-use Rattle.link_work.specs.Stands.{first_state}
-use Rattle.board_asking.specs.declared.asking.Asking.{Asking}
-use Rattle.board_asking.specs.Asking.{is_in_time, is_out, more, new_asking, ready}
-use Rattle.board_asking.specs.Connecting.{board_line, listen_all}
-use Rattle.board_asking.specs.Drift.{after_question, asks_now, bytes_of, drifts, gives_up, is_asked_now, is_unanswered, new_line, new_lines, stale, waits_in}
-use Rattle.board_asking.specs.Machine.{configuration, control_bytes}
-use Rattle.axis_homing.specs.Homing.{homing_turn}
-use Rattle.host_reactor.specs.declared.ordered.Known.{Known}
-use Rattle.host_reactor.specs.declared.ordered.Phase.{Phase}
-use Rattle.host_reactor.specs.declared.ordered.Phase.TheVariants.{Connecting, Running, Stopping}
-use Rattle.host_reactor.specs.Notes.{is_out as note_out, news_of, noted}
-use Rattle.host_reactor.specs.Reactor.{by_phase, homed, homing_commands, reacts, unless_ended, unless_stale}
-use Rattle.host_reactor.specs.Report.{first_lines}
-use Rattle.host_reactor.specs.Running.{first_cause}
-use Rattle.host_reactor.specs.Runs.{Came, known_by, last_reacted}
+use Rattle.board_asking.specs.Asking.{is_in_time, is_out, more, new_asking}
+use Rattle.board_asking.specs.Connecting.{board_line}
+use Rattle.board_asking.specs.Drift.{after_question, bytes_of, gives_up, is_asked_now, is_unanswered, new_line, new_lines}
+use Rattle.board_asking.specs.Machine.{control_bytes}
+use Rattle.host_reactor.specs.declared.ordered.Phase.TheVariants.{Running}
+use Rattle.host_reactor.specs.Reactor.{homed}
 use Rattle.laws_board.specs.turns.Turns.{BoardTurn, latest_state}
 use Rattle.laws_board.specs.clocks.Runs.{IsInRun}
 use Rattle.laws_board.specs.clocks.Samples.{further_lines}
@@ -45,9 +22,11 @@ use Rattle.laws_board.proofs.clocks.Turning.{Asks, BoardRuns, BoardTurned, Ends,
 use Rattle.laws_board.specs.causes.Causes.{came_by_turn}
 use Rattle.host_reactor.specs.Room.{HasOrderRoom, HaveRoom}
 use Rattle.laws_board.specs.causes.Again.{TellsLineFrom}
-use Rattle.laws_board.proofs.causes.Chain.{in_time_none, late_state, none_asked, not_four, one_of, running_not, still_running, unanswered_four, waits_four, waits_out}
+use Rattle.laws_board.proofs.causes.Chain.{in_time_none, late_state, none_asked, not_four, unanswered_four, waits_four, waits_out}
 use Rattle.laws_board.proofs.causes.Running.{IsSettled, Rests, Stays, heard_either, heard_late, heard_waits, settled_asks, settled_now, settled_ready}
 use Rattle.laws_board.proofs.causes.Turns.{came_all, came_less}
+use Rattle.laws_board.proofs.causes.Told.{one_of, still_running}
+use Rattle.host_reactor.proofs.Connects.{not-running}
 
 -- the latest of these turns, so many, left no room
 abbrev Dry : Machine → List Switch → ℕ → ℕ → List Came → Type 0
@@ -342,7 +321,7 @@ not_stale m switches r k states note e h =
     let s = noted m note r in
     ended_open (first_cause (note_out note) s.stopped states) m switches s k states (first_lines m s k (news_of note) states) e h
 
-open_if : (g : Bool) (c : Cause) (rest : Option Cause) → cond g (Some c) rest ≡ None → (g ≡ false) × (rest ≡ None)
+pub open_if : (g : Bool) (c : Cause) (rest : Option Cause) → cond g (Some c) rest ≡ None → (g ≡ false) × (rest ≡ None)
 open_if true c rest h = cc
 open_if false c rest h = (refl, h)
 
@@ -452,8 +431,8 @@ again_turn m switches b from due c before t turns z a y x (inl old) at (Ends p g
     let low = x.low in
     let ready_a = settled_ready setups a (subst IsSettled (sym x.hears) (settled_now z (latest_state turns) old.1)) in
     let idle : IdleTo due (suc (length before)) (ready setups a) = record { rests = ready_a.rests g.connected; waits = ready_a.waits; early = omega arith } in
-    inr (running_not _ g.phase, inr (inl (subst (λ (v : Asking). IdleTo due (suc (length before)) v) (one_of _ y (sym g.asking ∙ at)) idle)))
-again_turn m switches b from due c before t turns z a y x (inl old) at (Runs p g) = absurd (running_not _ p (noted_phase m c.note (known_by m switches before) ∙ old.0))
+    inr (not-running _ g.phase, inr (inl (subst (λ (v : Asking). IdleTo due (suc (length before)) v) (one_of _ y (sym g.asking ∙ at)) idle)))
+again_turn m switches b from due c before t turns z a y x (inl old) at (Runs p g) = absurd (not-running _ p (noted_phase m c.note (known_by m switches before) ∙ old.0))
 again_turn m switches b from due c before t turns z a y x (inr old) at (Asks p g) = absurd (old.0 (sym (noted_phase m c.note (known_by m switches before)) ∙ p))
 again_turn m switches b from due c before t turns z a y x (inr old) at (Ends p g) = absurd (old.0 (sym (noted_phase m c.note (known_by m switches before)) ∙ p))
 again_turn m switches b from due c before t turns z a y x (inr old) at (Runs p g) =

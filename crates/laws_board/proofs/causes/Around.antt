@@ -1,37 +1,21 @@
 -- Where something waits at the end of a turn, the link was disturbed before it, or something waited already.
 use Rattle.std.proofs.Common.{◌≡◌, ℕ, ◌+◌, ◌-◌, ◌≤◌, inl, inr, true, List, [], ◌∷◌, length, ap, sym, ◌∙◌, subst, arith}
-use Rattle.std.proofs.lemmas.Bool.Decides.{leb_tells}
-use Rattle.plan_types.specs.declared.clock.BoardClock.{BoardClock}
-use Rattle.plan_types.specs.declared.levels.Level.{Level}
-use Rattle.plan_types.specs.declared.machine.Machine.{Machine}
-use Rattle.plan_types.specs.Clock.{clock_of}
-use Rattle.plan_types.specs.Machines.{IsValidMachine, board_at}
-use Rattle.msg_code.specs.declared.talk.State.{State}
-use Rattle.msg_code.specs.declared.unit.Control.{Control}
-use Rattle.wire_scene.specs.declared.scene.Entry.{Entry}
-use Rattle.wire_scene.specs.declared.scene.Switch.{Switch}
+use Rattle.laws_board.proofs.Names.{leb_tells, BoardClock, Level, Machine, clock_of, IsValidMachine, board_at, State, Control, Entry, Switch, AllKeepLimits, first_state, orders, IsTurn, LinkState, Orders, after_board, after_host, Asking, Known, Phase, Connecting, Stopping, noted, Reacted, Came, known_by, last_reacted}
 use Rattle.wire_scene.specs.Wire.{IsQuiet, Line}
 use Rattle.link_core.specs.Core.{sent}
 use Rattle.link_work.specs.Answers.{IsClear}
 use Rattle.link_work.specs.Ends.{is_idle}
-use Rattle.link_work.specs.Limits.{AllKeepLimits, KeepsLimits}
-use Rattle.link_work.specs.Stands.{first_state, orders}
-use Rattle.link_work.specs.Turn.{IsTurn, LinkState, Orders, after_board, after_host, after_replies}
+use Rattle.link_work.specs.Limits.{KeepsLimits}
+use Rattle.link_work.specs.Turn.{after_replies}
 use Rattle.link_work.proofs.Answered.{sends_all}
 use Rattle.link_work.proofs.Bounds.{is_idle_where}
 use Rattle.link_work.proofs.Draining.{IsSound, drained, parts_of}
 use Rattle.link_work.proofs.Late.{limits_split}
-use Rattle.board_asking.specs.declared.asking.Asking.{Asking}
-use Rattle.host_reactor.specs.declared.ordered.Known.{Known}
-use Rattle.host_reactor.specs.declared.ordered.Phase.{Phase}
-use Rattle.host_reactor.specs.declared.ordered.Phase.TheVariants.{Connecting, Running, Stopping}
-use Rattle.host_reactor.specs.Notes.{noted}
-use Rattle.host_reactor.specs.Reactor.{Reacted}
-use Rattle.host_reactor.specs.Runs.{Came, known_by, last_reacted}
+use Rattle.host_reactor.specs.declared.ordered.Phase.TheVariants.{Running}
 use Rattle.laws_board.specs.turns.Turns.{AreBoardTurns, BoardTurn, stands_after}
 use Rattle.laws_board.specs.clocks.Runs.{IsInRun, UnitsFit, orders_in}
 use Rattle.laws_board.proofs.clocks.Lines.{noted_phase, run_before, turn_of}
-use Rattle.laws_board.proofs.clocks.Orders.{all_limits}
+use Rattle.laws_board.proofs.clocks.Orders.{all_limits, not_stopped, not_stopping, goes_before}
 use Rattle.laws_board.proofs.clocks.Turning.{Asks, BoardTurned, Ends, Runs}
 use Rattle.laws_board.specs.causes.Causes.{IsDisturbed, IsDisturbedAround, IsHindered, IsTouched, before_turn, link_at}
 use Rattle.laws_board.proofs.causes.Configured.{begins_at}
@@ -56,17 +40,6 @@ latest_limits : (turns : List BoardTurn) → AllKeepLimits (orders_in turns) →
 latest_limits [] a = tt
 latest_limits (t ∷ turns) a = (limits_split (orders_in turns) (orders t.control t.batch ∷ []) a).1.0
 
-connecting_goes : (p : Phase) (line : ℕ) → p ≡ Connecting → p ≡ Stopping line → ⊥
-connecting_goes p line e f = let g : Connecting ≡ Stopping line = sym e ∙ f in cc
-
-running_goes : (p : Phase) (line : ℕ) → p ≡ Running → p ≡ Stopping line → ⊥
-running_goes p line e f = let g : Running ≡ Stopping line = sym e ∙ f in cc
-
-goes_on : (m : Machine) (r : Known) (b k : ℕ) (states : List State) (a : Asking) (x : Reacted) (c : Control) → BoardTurned m r b k states a x c → (line : ℕ) → r.phase ≡ Stopping line → ⊥
-goes_on m r b k states a x c (Asks p g) line e = connecting_goes r.phase line p e
-goes_on m r b k states a x c (Ends p g) line e = connecting_goes r.phase line p e
-goes_on m r b k states a x c (Runs p g) line e = running_goes r.phase line p e
-
 limits_at : (m : Machine) (switches : List Switch) (pins : List (List Level)) (entries : List Entry) (b : ℕ) (came : List Came) (turns : List BoardTurn) (k : ℕ) → IsValidMachine m
     → IsInRun m switches pins entries b came turns → UnitsFit turns → k + 2 ≤ length turns → LimitsIn (before_turn (k + 1) turns)
 limits_at m switches pins entries b came [] k v r u h = tt
@@ -80,7 +53,7 @@ limits_at m switches pins entries b (c ∷ before) (t ∷ turns) k v r u h =
           let x = turn_of m switches pins entries b c before t turns r in
           let known = noted m c.note (known_by m switches before) in
           let not = λ (line : ℕ). λ (e : (known_by m switches before).phase ≡ Stopping line).
-          goes_on m known b (length before) c.states x.a (last_reacted m switches c before) t.control x.turned line (noted_phase m c.note (known_by m switches before) ∙ e) in
+          goes_before m known b (length before) c.states x.a (last_reacted m switches c before) t.control x.turned line (noted_phase m c.note (known_by m switches before) ∙ e) in
           subst LimitsIn (sym (before_less (k + 1) t turns (omega arith) ∙ before_all (k + 1) turns (omega arith)))
           (latest_limits turns (all_limits m switches pins entries b before turns v rest not u.1))
     ]

@@ -1,42 +1,27 @@
 -- The askings in a row of a board that drifts, which are unanswered.
 use Rattle.std.proofs.Common.{◌≡◌, ℕ, suc, ◌+◌, ◌-◌, ◌%◌, ◌^◌, ◌<◌, ◌≤◌, ◌⊎◌, inl, inr, Bool, true, false, cond, not, List, [], ◌∷◌, ◌++◌, length, Option, Some, None, refl, ap, sym, ◌∙◌, subst, arith}
 use Rattle.std.specs.Prelude.{◌==◌, ◌&&◌, nat_lt}
-use Rattle.std.proofs.lemmas.Bool.{eqb-true, lt-leb}
-use Rattle.std.proofs.lemmas.Bool.Decides.{eqb_tells, leb_tells}
-use Rattle.plan_types.specs.declared.levels.Level.{Level}
-use Rattle.plan_types.specs.declared.machine.Machine.{Machine}
-use Rattle.plan_types.specs.Clock.{clock_of}
-use Rattle.plan_types.specs.Machines.{axis_at, board_at}
-use Rattle.msg_code.specs.declared.cmd.Cmd.{Cmd}
+use Rattle.laws_board.proofs.Names.{eqb-true, eqb_tells, leb_tells, Level, Machine, clock_of, axis_at, board_at, Cmd, State, Control, Entry, Switch, Asking, ready, asks_now, clock_question, drifts, waits_in, configuration, homing_turn, Known, Connecting, Stopping, noted, Reacted, homing_commands, stop_command, stops, Came, known_by, last_reacted, BoardClock, first_state, LinkState, Phase}
+use Rattle.std.proofs.lemmas.Bool.{lt-leb}
 use Rattle.msg_code.specs.declared.cmd.Cmd.TheVariants as cmd
-use Rattle.msg_code.specs.declared.talk.State.{State}
-use Rattle.msg_code.specs.declared.unit.Control.{Control}
-use Rattle.wire_scene.specs.declared.scene.Entry.{Entry}
-use Rattle.wire_scene.specs.declared.scene.Switch.{Switch}
-use Rattle.board_asking.specs.declared.asking.Asking.{Asking}
-use Rattle.board_asking.specs.Asking.{is_connected, is_in_time, is_out, more, new_asking, ready}
-use Rattle.board_asking.specs.Drift.{after_question, asks_now, bytes_of, clock_question, drifts, is_asked_now, is_unanswered, waits_in}
-use Rattle.board_asking.specs.Machine.{configuration, control_bytes}
-use Rattle.axis_homing.specs.Homing.{homing_turn}
-use Rattle.host_reactor.specs.declared.ordered.Known.{Known}
-use Rattle.host_reactor.specs.declared.ordered.Phase.TheVariants.{Connecting, Running, Stopping}
+use Rattle.board_asking.specs.Asking.{is_connected, is_in_time, is_out, more, new_asking}
+use Rattle.board_asking.specs.Drift.{after_question, bytes_of, is_asked_now, is_unanswered}
+use Rattle.board_asking.specs.Machine.{control_bytes}
+use Rattle.host_reactor.specs.declared.ordered.Phase.TheVariants.{Running}
 use Rattle.host_reactor.specs.Laws.{uptimes}
-use Rattle.host_reactor.specs.Notes.{noted}
-use Rattle.host_reactor.specs.Reactor.{Reacted, homing_commands, phase_after, stop_command, stops}
-use Rattle.host_reactor.specs.Runs.{Came, known_by, last_reacted}
+use Rattle.host_reactor.specs.Reactor.{phase_after}
 use Rattle.host_reactor.proofs.Uptimes.{append as uptimes_append, commands-none}
-use Rattle.plan_types.specs.declared.clock.BoardClock.{BoardClock}
-use Rattle.link_work.specs.Stands.{first_state}
-use Rattle.link_work.specs.Turn.{LinkState}
-use Rattle.host_reactor.specs.declared.ordered.Phase.{Phase}
 use Rattle.laws_board.specs.turns.Turns.{AreBoardTurns, BoardTurn, IsBoardOf, latest_state}
 use Rattle.laws_board.specs.clocks.Runs.{IsInRun}
 use Rattle.laws_board.proofs.clocks.Lines.{as_long, noted_phase, run_before, turn_of}
 use Rattle.laws_board.proofs.clocks.Turning.{Asks, BoardRuns, BoardTurned, Ends, Runs, asking_at, heard_now, new_at}
 use Rattle.laws_board.specs.causes.Causes.{AreInRow, AsksNone, AsksNoneBetween, before_turn, came_by_turn}
-use Rattle.laws_board.proofs.causes.Owes.{stop_open}
 use Rattle.laws_board.proofs.causes.Running.{IsSettled, Rests, Stays, heard_either, heard_late, heard_waits, settled_asks, settled_now, settled_ready}
 use Rattle.laws_board.proofs.causes.Turns.{before_all, before_less, came_behind}
+use Rattle.plan_types.proofs.Facts.{first_of_both}
+use Rattle.laws_board.proofs.causes.Told.{one_of, still_running}
+use Rattle.host_reactor.proofs.Connects.{not-running}
+use Rattle.host_reactor.proofs.Once.{stop-none}
 
 -- a board behind some turns of a run
 pub record Behind (m : Machine) (switches : List Switch) (pins : List (List Level)) (entries : List Entry) (b : ℕ) (all : List Came) (turns : List BoardTurn) (y : Asking) : Type 0 where
@@ -215,9 +200,6 @@ pub record Turn (m : Machine) (b k : ℕ) (a y : Asking) (commands : List Cmd) :
   pub homing : List Cmd
   pub does : AsksNow k (waits_in (drifts (board_at m b).drift) k a) y commands
       ⊎ ((asks_now homing (waits_in (drifts (board_at m b).drift) k a) ≡ false) × AsksNot (waits_in (drifts (board_at m b).drift) k a) y commands)
-
-pub one_of : (x a : Asking) → x ∷ [] ≡ a ∷ [] → x ≡ a
-one_of x a e = cc
 
 -- what waits behind a turn's states
 idle_if : (u n : Bool) (x y a : Asking) → u ≡ false → Rests y → Rests a → Rests (cond u x (cond n y a))
@@ -501,18 +483,13 @@ from_waits m switches pins entries b all t turns z a y stays o x =
           }))
     ]
 
--- what a running turn does
-both_first : (p q : Bool) → (p && q) ≡ true → p ≡ true
-both_first true q e = refl
-both_first false q e = cc
-
 runs_so : (m : Machine) (r : Known) (b k : ℕ) (states : List State) (a : Asking) (x : Reacted) (c : Control) (y : Asking) → BoardRuns m r b k states a x c → asking_at b x.known.askings.items ≡ y ∷ [] → Turn m b k a y c.commands
 runs_so m r b k states a x c y g at =
     let w = waits_in (drifts (board_at m b).drift) k a in
     let turn = homing_turn r.clocks k states r.homing in
     let homing = homing_commands m turn g.own b in
     let stop = stop_command (stops g.stop) in
-    let done = asked_by (asks_now homing w) k homing stop w (both_first w.waits (nat_lt (bytes_of homing) control_bytes)) (commands-none m g.own b turn.start (axis_at m turn.axis) turn.ctls.items) (stop_open (stops g.stop)) in
+    let done = asked_by (asks_now homing w) k homing stop w (first_of_both w.waits (nat_lt (bytes_of homing) control_bytes)) (commands-none m g.own b turn.start (axis_at m turn.axis) turn.ctls.items) (stop-none (stops g.stop)) in
     let whole : after_question k homing w ≡ y = one_of _ y (sym g.asking ∙ at) in
     let commands : homing ++ (clock_question homing w ++ stop) ≡ c.commands = ap (λ (z : Control). z.commands) (sym g.control_is) in
     record {
@@ -561,13 +538,6 @@ abbrev pub Stands : Machine → List Switch → List (List Level) → List Entry
 Stands m switches pins entries b all came turns y =
     (((known_by m switches came).phase ≡ Connecting) × IsSettled y) ⊎ (((known_by m switches came).phase ≡ Connecting → ⊥) × Chain m switches pins entries b all turns y)
 
-pub running_not : (p : Phase) → p ≡ Running → p ≡ Connecting → ⊥
-running_not p e f = let g : Running ≡ Connecting = sym e ∙ f in cc
-
-pub still_running : (stop : Option ℕ) (p : Phase) → p ≡ phase_after stop → p ≡ Connecting → ⊥
-still_running None p e f = running_not p e f
-still_running (Some line) p e f = let g : Stopping line ≡ Connecting = sym e ∙ f in cc
-
 not_first : (m : Machine) (switches : List Switch) (b : ℕ) (came : List Came) (turns : List BoardTurn) → IsBoardOf m switches b came turns → ((known_by m switches came).phase ≡ Connecting → ⊥) → 1 ≤ length turns
 not_first m switches b [] turns is n = absurd (n refl)
 not_first m switches b (c ∷ before) [] is n = absurd is
@@ -590,9 +560,9 @@ stands_turn m switches pins entries b all c before t turns z a y k e small both 
     let rest = (settled_ready setups a heard).rests g.connected in
     let ready_a = settled_ready setups a heard in
     let idle : IdleSo (t ∷ turns) (ready setups a) = record { rests = rest; early = λ e. let never : true ≡ false = sym e ∙ ready_a.waits in cc } in
-    inr (running_not _ g.phase, inl (subst (λ (v : Asking). IdleSo (t ∷ turns) v) (one_of _ y (sym g.asking ∙ at)) idle))
+    inr (not-running _ g.phase, inl (subst (λ (v : Asking). IdleSo (t ∷ turns) v) (one_of _ y (sym g.asking ∙ at)) idle))
 stands_turn m switches pins entries b all c before t turns z a y k e small both behind is (inl old) at (Runs p g) =
-    absurd (running_not _ p (noted_phase m c.note (known_by m switches before) ∙ old.0))
+    absurd (not-running _ p (noted_phase m c.note (known_by m switches before) ∙ old.0))
 stands_turn m switches pins entries b all c before t turns z a y k e small both behind is (inr old) at (Asks p g) = absurd (old.0 (sym (noted_phase m c.note (known_by m switches before)) ∙ p))
 stands_turn m switches pins entries b all c before t turns z a y k e small both behind is (inr old) at (Ends p g) = absurd (old.0 (sym (noted_phase m c.note (known_by m switches before)) ∙ p))
 stands_turn m switches pins entries b all c before t turns z a y k e small both behind is (inr old) at (Runs p g) =

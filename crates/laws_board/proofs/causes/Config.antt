@@ -1,40 +1,29 @@
 -- A board that took the end of its configuration says so where it is asked.
 use Rattle.std.proofs.Common.{◌≡◌, ℕ, ◌+◌, ◌^◌, ◌<◌, ◌≤◌, inl, inr, Bool, true, false, List, [], ◌∷◌, ◌++◌, length, map, take, drop, Some, refl, ap, sym, ◌∙◌, subst, arith, append_assoc, append-nil, length-append}
 use Rattle.std.specs.Prelude.{◌%◌, slice_index_or, nat_le, if◌then◌else◌}
-use Rattle.std.proofs.lemmas.Bool.Decides.{eqb_tells, leb_tells}
-use Rattle.std.proofs.lemmas.List.{length-map, take-append-drop}
-use Rattle.plan_types.specs.declared.clock.BoardClock.{BoardClock}
-use Rattle.plan_types.specs.Clock.{board_tick}
-use Rattle.msg_dict.specs.Own.{own_formats}
-use Rattle.msg_code.specs.Text.{IsText}
-use Rattle.msg_code.specs.declared.cmd.Cmd.{Cmd}
+use Rattle.laws_board.proofs.Names.{eqb_tells, leb_tells, length-map, take-append-drop, BoardClock, board_tick, own_formats, IsText, Cmd, News, Reply, Down, Up, Meant, commands_of, Rig, takes, takes_all, plain, IsOrdered, Core, Step, Do, Turn, world_after, does, run_world, wire_text, come, run_append}
 use Rattle.msg_code.specs.declared.cmd.Cmd.TheVariants as cmd
-use Rattle.msg_code.specs.declared.talk.News.{News}
-use Rattle.link_core.specs.Core.{AreNear, Command, InStep, Link, Reply, numbered, sent}
+use Rattle.link_core.specs.Core.{AreNear, Command, InStep, Link, numbered, sent}
 use Rattle.link_core.specs.Core as link
-use Rattle.wire_scene.specs.declared.scene.Way.TheVariants.{Down, Up}
 use Rattle.wire_scene.specs.declared.wire.Fate.{Fate}
 use Rattle.wire_scene.specs.declared.wire.Fate.TheVariants.{Lost, Last, Stays, Garbled}
 use Rattle.wire_scene.specs.Wire.{Copy}
-use Rattle.board_sim.specs.Fair.{Meant, commands_of}
-use Rattle.board_sim.specs.Rig.{Rig, takes, takes_all}
 use Rattle.board_world.specs.declared.event.Event.TheVariants as event
-use Rattle.board_world.specs.Orders.{plain}
-use Rattle.board_world.specs.Stands.{IsOrdered}
-use Rattle.board_world.specs.World.{Core, Step, Do, Turn, world_after, block_of, does, on_wire, run_world, wire_text}
+use Rattle.board_world.specs.World.{block_of, on_wire}
 use Rattle.board_world.proofs.Runs.{all_orders, ordered, wired}
 use Rattle.link_work.specs.Answers.{IsAmong}
 use Rattle.link_work.specs.Told.{AreNews, heard_in, news_of}
-use Rattle.link_work.specs.Turn.{board_steps, come, comes}
+use Rattle.link_work.specs.Turn.{board_steps, comes}
 use Rattle.link_work.proofs.Hearing.{heard_append}
 use Rattle.link_work.proofs.Reaching.{heard_as}
 use Rattle.link_work.proofs.OnLines.{AllLast}
 use Rattle.link_work.proofs.Saying.{among_left, among_right}
-use Rattle.link_work.proofs.Sending.{run_append}
 use Rattle.link_work.proofs.Steps.{AllOf, all_come}
 use Rattle.link_work.specs.Turn.{still}
 use Rattle.laws_board.proofs.causes.Made.{AllMay, Ready, config_by, finished, may_first, may_rest, ready_all, ready_passes}
 use Rattle.laws_board.proofs.causes.Splits.{split_behind, split_in}
+use Rattle.link_work.proofs.Answered.{due_if, heard_both}
+use Rattle.link_work.proofs.Lines.{lost_up}
 
 -- a board's answer to a get_config
 abbrev pub configured : ℕ → Cmd
@@ -120,10 +109,6 @@ repeats h front rest (n ∷ ns) o w =
       })
       | inr p ↦ rw p.0 (record { more = record { number = l.accepted; answer = [] } ∷ []; up = refl; says = λ low high. absurd (omega arith) })
     ]
-
-lost_up : (l : Link) (ds : List ℕ) → (link.lose l ds).up ≡ l.up
-lost_up l [] = refl
-lost_up l (n ∷ ns) = refl
 
 garbled_up : (l : Link) (ds : List ℕ) (told : Bool) → (more : List Reply) × ((link.garble l ds told).up ≡ l.up ++ more)
 garbled_up l [] told = ([], sym (append-nil l.up))
@@ -253,21 +238,11 @@ board_comes clock turn copies h front rest o w =
       says = λ low high. says_left c.more last (c.says low (omega (arith, length-append g.taken [])));
     })
 
--- what is due is heard
-due_if : (b : Bool) (c : Copy) (cs rest : List Copy) → (if b then rest else c ∷ cs) ≡ [] → (b ≡ true) × (rest ≡ [])
-due_if true c cs rest e = (refl, e)
-due_if false c cs rest e = absurd (omega (arith, ap length e))
-
 first_heard : (fate : Fate) (r : Reply) (rs : List Reply) (h : Core) → fate ≡ Last → h.link.up ≡ r ∷ rs → IsAmong r (heard_in (comes Up fate) h)
 first_heard Last r rs h f e = subst (λ (us : List Reply). IsAmong r (take 1 us ++ [])) (sym e) (inl refl)
 first_heard Lost r rs h f e = cc
 first_heard Stays r rs h f e = cc
 first_heard Garbled r rs h f e = cc
-
-heard_both : (turn : ℕ) (c : Copy) (cs : List Copy) (h : Core) → nat_le c.due turn ≡ true
-    → heard_in (come Up turn (c ∷ cs)) h ≡ heard_in (comes Up c.fate) h ++ heard_in (come Up turn cs) (run_world (comes Up c.fate) h)
-heard_both turn c cs h due =
-    ap (λ (b : Bool). heard_in (if b then comes Up c.fate ++ come Up turn cs else []) h) due ∙ heard_append (comes Up c.fate) (come Up turn cs) h
 
 heard_here : (turn : ℕ) (ds : List Copy) (h : Core) (more : List Reply) (r : Reply) → h.link.up ≡ more → length more ≡ length ds → AllLast ds → still turn ds ≡ [] → IsAmong r more
     → IsAmong r (heard_in (come Up turn ds) h)

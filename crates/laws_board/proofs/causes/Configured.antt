@@ -1,49 +1,28 @@
 -- A get_config of a row is answered that it is complete, where its four turns are clear.
 use Rattle.std.proofs.Common.{◌≡◌, ℕ, zero, suc, ◌+◌, ◌<◌, ◌≤◌, ◌⊎◌, inl, inr, Bool, true, false, cond, List, [], ◌∷◌, ◌++◌, length, map, take, drop, Some, None, refl, ap, sym, ◌∙◌, subst, arith, append-nil, length-append}
 use Rattle.std.specs.Prelude.{◌||◌}
-use Rattle.std.specs.List.{filter, flat_map}
-use Rattle.std.proofs.lemmas.Bool.Decides.{leb_tells}
-use Rattle.std.proofs.lemmas.List.{length-map, length-take, map-append}
-use Rattle.plan_types.specs.declared.clock.BoardClock.{BoardClock}
-use Rattle.plan_types.specs.declared.levels.Level.{Level}
-use Rattle.plan_types.specs.declared.machine.BoardDef.{BoardDef}
-use Rattle.plan_types.specs.declared.machine.Machine.{Machine}
-use Rattle.plan_types.specs.Clock.{clock_of}
-use Rattle.plan_types.specs.Machines.{IsValidMachine, board_at}
-use Rattle.msg_code.specs.declared.cmd.Cmd.{Cmd}
+use Rattle.laws_board.proofs.Names.{flat_map, leb_tells, length-map, map-append, BoardClock, Level, BoardDef, Machine, clock_of, IsValidMachine, board_at, Cmd, News, State, Unit as StepUnit, Entry, Switch, Down, Up, Reply, Meant, plain, units_orders, IsOrdered, Core, run_world, new_world, wire_text, first_state, orders, IsTurn, LinkState, Orders, after_board, after_host, come, turns_are_steps, Asking, Stage, Identify, Uptime, Configure, Config, Connected, Setup, is_question_due, configuration, trigger_of}
+use Rattle.std.specs.List.{filter}
+use Rattle.std.proofs.lemmas.List.{length-take}
 use Rattle.msg_code.specs.declared.cmd.Cmd.TheVariants as cmd
-use Rattle.msg_code.specs.declared.talk.News.{News}
-use Rattle.msg_code.specs.declared.talk.State.{State}
-use Rattle.msg_code.specs.declared.unit.Unit.{Unit as StepUnit}
-use Rattle.wire_scene.specs.declared.scene.Entry.{Entry}
-use Rattle.wire_scene.specs.declared.scene.Switch.{Switch}
-use Rattle.wire_scene.specs.declared.scene.Way.TheVariants.{Down, Up}
 use Rattle.wire_scene.specs.Wire.{Copy}
-use Rattle.link_core.specs.Core.{Command, Reply, sent}
+use Rattle.link_core.specs.Core.{Command, sent}
 use Rattle.board_sim.specs.Board.{new_controller}
-use Rattle.board_sim.specs.Fair.{Meant}
-use Rattle.board_world.specs.Orders.{plain, units_orders}
-use Rattle.board_world.specs.Stands.{IsOrdered}
-use Rattle.board_world.specs.World.{Core, on_wire, run_world, new_world, wire_text}
+use Rattle.board_world.specs.World.{on_wire}
 use Rattle.board_world.proofs.Runs.{all_orders, ordered, wired}
 use Rattle.link_work.specs.Answers.{IsAmong, IsCalm, IsClear}
 use Rattle.link_work.specs.Limits.{bytes_in, carried}
-use Rattle.link_work.specs.Stands.{first_state, orders}
 use Rattle.link_work.specs.Told.{AreNews, IsTold, heard_in}
-use Rattle.link_work.specs.Turn.{IsTurn, LinkState, Orders, after_board, after_host, after_replies, board_steps, come, host_steps, still}
-use Rattle.link_work.proofs.Answered.{Begins, begins, drained_late}
+use Rattle.link_work.specs.Turn.{after_replies, board_steps, host_steps, still}
+use Rattle.link_work.proofs.Answered.{Begins, begins, drained_late, replies_queue_none, board_queues_none, many_by}
 use Rattle.link_work.proofs.Draining.{IsSound, Parts, parts_of}
 use Rattle.link_work.proofs.Blocks.{commands, count_first}
 use Rattle.link_work.proofs.Late.{queued_length}
 use Rattle.link_work.proofs.Steps.{all_append, all_come}
-use Rattle.link_work.proofs.Turns.{QueuesNone, comes_queue_none, none_queued, turns_are_steps}
-use Rattle.board_asking.specs.declared.asking.Asking.{Asking}
-use Rattle.board_asking.specs.declared.asking.Stage.{Stage}
-use Rattle.board_asking.specs.declared.asking.Stage.TheVariants.{Identify, Uptime, Configure, Config, Connected}
-use Rattle.board_asking.specs.declared.setup.Setup.{Setup}
+use Rattle.link_work.proofs.Turns.{QueuesNone, comes_queue_none, none_queued}
 use Rattle.board_asking.specs.declared.setup.Setup.TheVariants.{Oids, Stepper, Trsync, Endstop, Finish}
-use Rattle.board_asking.specs.Asking.{asks, is_question_due, question}
-use Rattle.board_asking.specs.Machine.{configuration, control_bytes, endstop_pins, fitting, setup_command, setup_endstops, setup_stepper, trigger_of}
+use Rattle.board_asking.specs.Asking.{asks, question}
+use Rattle.board_asking.specs.Machine.{control_bytes, endstop_pins, fitting, setup_command, setup_endstops, setup_stepper}
 use Rattle.laws_board.specs.turns.Turns.{AreBoardTurns, BoardTurn, latest_state, stands_after}
 use Rattle.laws_board.specs.clocks.Ordered.{commands_in, configures}
 use Rattle.laws_board.specs.clocks.Runs.{UnitsFit, orders_in}
@@ -63,23 +42,9 @@ use Rattle.laws_board.proofs.causes.Said.{config_text}
 abbrev SaysIn : List News → Type 0
 SaysIn news = (number moves : ℕ) × IsAmong (record { number = number; answer = configured moves }) news
 
--- nothing is queued while blocks come
-replies_queue_none : (turn : ℕ) (copies : List Copy) (h : Core) → (run_world (come Up turn copies) h).queued ≡ h.queued
-replies_queue_none turn copies h =
-    all_orders (come Up turn copies) h ∙ ap (λ x. h.queued ++ x) (none_queued (come Up turn copies) (all_come QueuesNone Up (λ fate. comes_queue_none Up fate) turn copies)) ∙ append-nil h.queued
-
-board_queues_none : (clock : BoardClock) (turn : ℕ) (copies : List Copy) (h : Core) → (run_world (board_steps clock turn copies) h).queued ≡ h.queued
-board_queues_none clock turn copies h =
-    let steps = board_steps clock turn copies in
-    all_orders steps h ∙ ap (λ x. h.queued ++ x) (none_queued steps (all_append QueuesNone (come Down turn copies) _ (all_come QueuesNone Down (λ fate. comes_queue_none Down fate) turn copies) (refl, tt)))
-    ∙ append-nil h.queued
-
 -- how many commands were taken
 taken_many : (h : Core) → IsOrdered h → length h.taken ≡ length (commands (take h.link.accepted h.link.blocks))
 taken_many h o = sym (length-map h.taken on_wire) ∙ sym (ap length (wired h o)) ∙ ap length o.in_step.each_once
-
-many_by : (h : Core) → IsOrdered h → length h.taken ≡ length h.link.taken
-many_by h o = sym (length-map h.taken on_wire) ∙ sym (ap length (wired h o))
 
 -- a link as its turn ends, in which the board took the get_config
 record Asked (front rest : List Meant) (l m : LinkState) (turn : ℕ) : Type 0 where

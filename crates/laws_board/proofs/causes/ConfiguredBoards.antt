@@ -1,17 +1,15 @@
 -- What a configuration makes of its boards: clocks of at most nine digits, and at most 49 pins with short names.
 use Rattle.std.proofs.Common.{◌≡◌, ℕ, zero, suc, ℤ, pos, negsuc, neg_ℤ, unsigned_abs, ◌+◌, ◌*◌, ◌/◌, ◌%◌, ◌^◌, ◌<◌, ◌≤◌, ◌==◌, ◌&&◌, nat_lt, nat_le, Bool, true, false, cond, List, [], ◌∷◌, ◌++◌, length, drop, get_or, Option, Some, None, Result, Ok, Err, codes, bytes_eq, refl, sym, ap, ◌∙◌, subst, arith, length-append}
 use Rattle.std.specs.List.{list_all}
-use Rattle.std.proofs.lemmas.Bool.{and_parts, and_from, leb-true, leb-false}
+use Rattle.laws_board.proofs.Names.{and_from, Machine, BoardDef, AxisDef, board_at}
+use Rattle.std.proofs.lemmas.Bool.{and_parts, leb-true, leb-false}
 use Rattle.text_core.specs.Bytes.{front, behind, before}
 use Rattle.text_core.specs.Lines.{lines_of}
 use Rattle.plan_types.specs.declared.cause.CfgKind.{CfgKind}
 use Rattle.plan_types.specs.declared.cause.CfgKind.TheVariants.{BadLine, BadValue, OutOfLimit, TooLarge}
-use Rattle.plan_types.specs.declared.machine.Machine.{Machine}
-use Rattle.plan_types.specs.declared.machine.BoardDef.{BoardDef}
 use Rattle.plan_types.specs.declared.machine.StepperDef.{StepperDef}
-use Rattle.plan_types.specs.declared.machine.AxisDef.{AxisDef}
 use Rattle.plan_types.specs.declared.machine.FanDef.{FanDef}
-use Rattle.plan_types.specs.Machines.{no_board, board_at}
+use Rattle.plan_types.specs.Machines.{no_board}
 use Rattle.cfg_lines.specs.declared.fault.CfgFault.{CfgFault}
 use Rattle.cfg_lines.specs.declared.fault.CfgFault.TheVariants.{At}
 use Rattle.cfg_lines.specs.declared.section.Motor.{Motor}

@@ -1,21 +1,10 @@
 -- A run that ends for a board that gives no answer while connecting.
 use Rattle.std.proofs.Common.{◌≡◌, ℕ, ◌+◌, ◌*◌, ◌^◌, ◌<◌, ◌≤◌, List, ◌∷◌, length, Some, None, ap, sym, ◌∙◌, subst, arith}
 use Rattle.plan_types.specs.declared.cause.Cause.TheVariants as cause
-use Rattle.plan_types.specs.declared.levels.Level.{Level}
-use Rattle.plan_types.specs.declared.machine.Machine.{Machine}
-use Rattle.plan_types.specs.Machines.{IsValidMachine, board_at}
-use Rattle.wire_scene.specs.declared.scene.Entry.{Entry}
-use Rattle.wire_scene.specs.declared.scene.Switch.{Switch}
-use Rattle.link_work.specs.Stands.{first_state}
-use Rattle.msg_code.specs.declared.talk.State.{State}
-use Rattle.board_asking.specs.declared.asking.Stage.{Stage}
+use Rattle.laws_board.proofs.Names.{Level, Machine, IsValidMachine, board_at, Entry, Switch, first_state, State, Stage, configuration, Connecting, is_out, noted, first_cause, Came, known_by, last_reacted, state_at}
 use Rattle.board_asking.specs.Asking.{were_put}
-use Rattle.board_asking.specs.Machine.{configuration}
 use Rattle.board_asking.specs.Turns.{AreUnanswered, asking_in_turn}
-use Rattle.host_reactor.specs.declared.ordered.Phase.TheVariants.{Connecting}
-use Rattle.host_reactor.specs.Notes.{is_out, noted}
-use Rattle.host_reactor.specs.Running.{first_cause}
-use Rattle.host_reactor.specs.Runs.{Came, HaveStates, known_by, last_reacted, state_at, told_by}
+use Rattle.host_reactor.specs.Runs.{HaveStates, told_by}
 use Rattle.host_reactor.proofs.Connects.{silent-eight}
 use Rattle.laws_board.specs.turns.Turns.{BoardTurn, latest_state}
 use Rattle.laws_board.specs.clocks.Runs.{IsInRun, UnitsFit}

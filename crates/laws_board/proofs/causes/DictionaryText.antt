@@ -8,7 +8,7 @@ use Rattle.std.proofs.lemmas.Fmt.{length-decimal-le_wide}
 use Rattle.json.specs.Print.{quoted, escape_byte}
 use Rattle.serde_json.specs.Data.{Data, Members, no_members, member, object, put}
 use Rattle.serde_json.specs.Written.{compact_text, members_text, comma_if}
-use Rattle.plan_types.specs.declared.machine.BoardDef.{BoardDef}
+use Rattle.laws_board.proofs.Names.{BoardDef}
 use Rattle.msg_dict.specs.Table.{command_rows, answer_rows}
 use Rattle.msg_dict.specs.Own.{whole, with_rows, with_pin, with_pins, reasons, enumerations, own_dictionary}
 

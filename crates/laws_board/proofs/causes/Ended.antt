@@ -1,31 +1,13 @@
 -- For which cause a turn ends a run that nothing ended before.
 use Rattle.std.proofs.Common.{◌≡◌, ℕ, ◌+◌, ◌⊎◌, inl, inr, Bool, true, false, cond, List, [], ◌∷◌, ◌++◌, Option, Some, None, refl, sym, ◌∙◌, subst}
-use Rattle.plan_types.specs.declared.cause.Cause.{Cause}
+use Rattle.laws_board.proofs.Names.{Cause, Machine, ReadStop, Clocks, axis_at, Note, State, ReportLine, Switch, End, Asking, all_connected, giving_up, listen_all, ready_all, stale, Homing, HomingTurn, answer_in, by_answer, hears_all, homing_turn, Known, Phase, Connecting, Stopping, is_out, news_of, noted, first_lines, first_cause, stop_of, Reacted, by_phase, cut_line, reacts, unless_ended, unless_stale}
 use Rattle.plan_types.specs.declared.cause.Cause.TheVariants as cause
-use Rattle.plan_types.specs.declared.machine.Machine.{Machine}
-use Rattle.plan_types.specs.declared.plan.ReadStop.{ReadStop}
 use Rattle.plan_types.specs.declared.plan.ReadStop.TheVariants as read
-use Rattle.plan_types.specs.Lines.{Clocks}
-use Rattle.plan_types.specs.Machines.{axis_at}
-use Rattle.msg_code.specs.declared.talk.Note.{Note}
-use Rattle.msg_code.specs.declared.talk.State.{State}
-use Rattle.report_text.specs.declared.line.ReportLine.{ReportLine}
-use Rattle.wire_scene.specs.declared.scene.Switch.{Switch}
-use Rattle.trigger_group.specs.declared.order.End.{End}
 use Rattle.trigger_group.specs.declared.order.End.TheVariants as end
-use Rattle.board_asking.specs.declared.asking.Asking.{Asking}
-use Rattle.board_asking.specs.Connecting.{all_connected, giving_up, listen_all, ready_all}
-use Rattle.board_asking.specs.Drift.{gives_up, stale}
-use Rattle.axis_homing.specs.declared.homing.Homing.{Homing}
-use Rattle.axis_homing.specs.declared.homing.HomingTurn.{HomingTurn}
-use Rattle.axis_homing.specs.Homing.{answer_in, by_answer, hears_all, homing_turn}
-use Rattle.host_reactor.specs.declared.ordered.Known.{Known}
-use Rattle.host_reactor.specs.declared.ordered.Phase.{Phase}
-use Rattle.host_reactor.specs.declared.ordered.Phase.TheVariants.{Connecting, Running, Stopping}
-use Rattle.host_reactor.specs.Notes.{is_out, news_of, noted}
-use Rattle.host_reactor.specs.Report.{first_lines}
-use Rattle.host_reactor.specs.Running.{first_cause, is_finished, stop_of}
-use Rattle.host_reactor.specs.Reactor.{Reacted, after_homing, asks_boards, by_phase, carries_on, cut_line, finishes, is_connected_now, reacts, unless_ended, unless_given_up, unless_homing_ends, unless_late_stale, unless_stale}
+use Rattle.board_asking.specs.Drift.{gives_up}
+use Rattle.host_reactor.specs.declared.ordered.Phase.TheVariants.{Running}
+use Rattle.host_reactor.specs.Running.{is_finished}
+use Rattle.host_reactor.specs.Reactor.{after_homing, asks_boards, carries_on, finishes, is_connected_now, unless_given_up, unless_homing_ends, unless_late_stale}
 
 abbrev end_of : Reacted → Option Cause
 end_of x = x.ordered.end
@@ -96,10 +78,10 @@ while_running : (r : Known) (k : ℕ) (states : List State) (m : Machine) (c : C
 while_running r k states m c n (inl e) = inr (inl (n, e))
 while_running r k states m c n (inr o) = inr (inr o)
 
-running_not : Running ≡ Connecting → ⊥
+pub running_not : Running ≡ Connecting → ⊥
 running_not e = cc
 
-stopping_not : (line : ℕ) → Stopping line ≡ Connecting → ⊥
+pub stopping_not : (line : ℕ) → Stopping line ≡ Connecting → ⊥
 stopping_not line e = cc
 
 phase_by : (p : Phase) (m : Machine) (switches : List Switch) (r : Known) (k : ℕ) (states : List State) (lines : List ReportLine) (c : Cause) → r.phase ≡ p → end_of (by_phase p m switches r k states lines) ≡ Some c

@@ -1,7 +1,6 @@
 -- On a line that is touched an entry was used, in a turn or later.
 use Rattle.std.proofs.Common.{ℕ, ◌+◌, ◌<◌, ◌≤◌, ◌⊎◌, inl, inr, List, [], ◌∷◌, refl, arith}
-use Rattle.std.proofs.lemmas.Bool.Decides.{leb_tells}
-use Rattle.wire_scene.specs.declared.scene.Entry.{Entry}
+use Rattle.laws_board.proofs.Names.{leb_tells, Entry}
 use Rattle.wire_scene.specs.Wire.{Line}
 use Rattle.wire_scene.specs.WireRuns.{AreOver}
 use Rattle.link_work.specs.Answers.{IsAmong}

@@ -1,28 +1,15 @@
 -- Over four turns in which a link is clear, what was queued in the first of them is answered.
 use Rattle.std.proofs.Common.{◌≡◌, ℕ, zero, suc, ◌+◌, ◌<◌, ◌≤◌, ◌⊎◌, inl, inr, List, [], ◌∷◌, ◌++◌, length, refl, ap, sym, ◌∙◌, subst, arith, append-nil}
-use Rattle.std.proofs.lemmas.Bool.Decides.{leb_tells}
+use Rattle.laws_board.proofs.Names.{leb_tells, BoardClock, Level, BoardDef, clock_of, State, Entry, Meant, IsOrdered, Core, queued_in, first_state, orders, IsTurn, LinkState, Orders, turns_are_steps}
 use Rattle.std.proofs.lemmas.List.{length-take}
-use Rattle.plan_types.specs.declared.clock.BoardClock.{BoardClock}
-use Rattle.plan_types.specs.declared.levels.Level.{Level}
-use Rattle.plan_types.specs.declared.machine.BoardDef.{BoardDef}
-use Rattle.plan_types.specs.Clock.{clock_of}
-use Rattle.msg_code.specs.declared.talk.State.{State}
-use Rattle.wire_scene.specs.declared.scene.Entry.{Entry}
 use Rattle.wire_scene.specs.Wire.{Copy, Line}
 use Rattle.link_core.specs.Core.{Command}
-use Rattle.board_sim.specs.Fair.{Meant}
-use Rattle.board_world.specs.Stands.{IsOrdered}
-use Rattle.board_world.specs.World.{Core}
 use Rattle.board_world.proofs.Runs.{all_orders}
 use Rattle.link_work.specs.Answers.{AnsweredSo, AreClear, IsAnswered, IsClear, TellSo}
 use Rattle.link_work.specs.Ends.{Ended}
-use Rattle.link_work.specs.Runs.{queued_in}
-use Rattle.link_work.specs.Stands.{first_state, orders}
 use Rattle.link_work.specs.Taking.{HasTaken}
 use Rattle.link_work.specs.Told.{IsTold}
-use Rattle.link_work.specs.Turn.{IsTurn, LinkState, Orders}
 use Rattle.link_work.proofs.Answered.{asked_in_four, begins}
-use Rattle.link_work.proofs.Turns.{turns_are_steps}
 use Rattle.laws_board.specs.turns.Turns.{AreBoardTurns, BoardTurn, stands_after}
 use Rattle.laws_board.specs.clocks.Runs.{orders_in}
 use Rattle.laws_board.proofs.clocks.Orders.{order_length, turns_in_order}
@@ -92,7 +79,7 @@ abbrev pub queued_of : List BoardTurn → List Meant
 queued_of [] = []
 queued_of (t ∷ turns) = queued_of turns ++ queued_in (orders t.control t.batch)
 
-turn_queued : (clock : BoardClock) (turn : ℕ) (o : Orders) (l m : LinkState) → IsTurn clock turn o l m → m.core.queued ≡ l.core.queued ++ queued_in o
+pub turn_queued : (clock : BoardClock) (turn : ℕ) (o : Orders) (l m : LinkState) → IsTurn clock turn o l m → m.core.queued ≡ l.core.queued ++ queued_in o
 turn_queued clock turn o l m t =
     let steps = turns_are_steps clock turn (o ∷ []) l m (m, t, refl) in
     ap (λ (h : Core). h.queued) steps.1 ∙ all_orders steps.0 l.core ∙ ap (λ (ms : List Meant). l.core.queued ++ ms) (steps.2 ∙ append-nil (queued_in o))

@@ -2,19 +2,15 @@
 use Rattle.std.proofs.Common.{◌≡◌, ℕ, ◌+◌, ◌-◌, ◌%◌, ◌^◌, ◌<◌, ◌≤◌, inl, inr, Bool, true, false, cond, List, [], ◌∷◌, length, drop, Option, Some, None, refl, ap, sym, ◌∙◌, subst, arith}
 use Rattle.std.specs.Prelude.{◌==◌, nat_le, nat_lt}
 use Rattle.std.proofs.lemmas.Bool.{le-leb}
-use Rattle.msg_code.specs.declared.cmd.Cmd.{Cmd}
+use Rattle.laws_board.proofs.Names.{Cmd, News, State, Asking, Stage, Identify, Uptime, Configure, Config, Connected, Setup, is_question_due, ready}
 use Rattle.msg_code.specs.declared.cmd.Cmd.TheVariants as cmd
-use Rattle.msg_code.specs.declared.talk.News.{News}
-use Rattle.msg_code.specs.declared.talk.State.{State}
-use Rattle.board_asking.specs.declared.asking.Asking.{Asking}
-use Rattle.board_asking.specs.declared.asking.Stage.{Stage}
-use Rattle.board_asking.specs.declared.asking.Stage.TheVariants.{Identify, Uptime, Configure, Config, Connected}
-use Rattle.board_asking.specs.declared.setup.Setup.{Setup}
-use Rattle.board_asking.specs.Asking.{after_asks, after_clock, after_drift, after_piece, answered, asked, hears_first, is_question_due, is_in_time, is_over, listens, more, or_asking, ready, ready_stage, sample_of, settled, tells_clock, was_put, were_put}
+use Rattle.board_asking.specs.Asking.{after_asks, after_clock, after_drift, after_piece, answered, asked, hears_first, is_in_time, is_over, listens, more, or_asking, ready_stage, sample_of, settled, tells_clock, was_put, were_put}
 use Rattle.board_asking.specs.Turns.{AsksOf, asking_in_turn, heard}
 use Rattle.board_asking.proofs.Configured.{Listens, listened}
 use Rattle.laws_board.proofs.clocks.Lines.{were_stage}
 use Rattle.link_work.specs.Answers.{IsAmong}
+use Rattle.host_reactor.proofs.Resting.{since-kept}
+use Rattle.plan_types.proofs.Facts.{none_or_some}
 
 -- what an answer gives has no asking out
 abbrev NoneOut : Option Asking → Type 0
@@ -47,24 +43,16 @@ hears_none turn (x ∷ news) a n (inl e) s =
 hears_none turn (x ∷ news) a n (inr k) s =
     or_none (answered turn a a.stage x.number x.answer) (hears_first turn news a) (none_out turn a a.stage x.number x.answer) (hears_none turn news a n k s)
 
-pub were_since : (turn : ℕ) (ns : List ℕ) (a : Asking) → (were_put turn ns a).since ≡ a.since
-were_since turn [] a = refl
-were_since turn (n ∷ ns) a = were_since turn ns (was_put turn a n)
-
 -- an asking that is out, as a state with an answer comes in time
 pub answer_ends : (a : Asking) (s : State) (n : News) (k : ℕ) → a.since ≡ Some k → s.turn ≤ k + 3 → IsAmong n s.news
     → (answered s.turn (were_put s.turn s.asked a) a.stage n.number n.answer ≡ None → ⊥) → (listens a s).since ≡ None
 answer_ends a s n k e l among some =
     let b = were_put s.turn s.asked a in
-    let since : b.since ≡ Some k = were_since s.turn s.asked a ∙ e in
+    let since : b.since ≡ Some k = since-kept s.turn s.asked a ∙ e in
     let in_time : is_in_time s.turn b.since ≡ true = ap (is_in_time s.turn) since ∙ le-leb (s.turn - k) 3 (omega arith) in
     let stage : b.stage ≡ a.stage = were_stage s.turn s.asked a in
     ap (λ (t : Bool). (cond t (hears_first s.turn s.news b) b).since) in_time
     ∙ hears_none s.turn s.news b n among (λ none. some (subst (λ (g : Stage). answered s.turn b g n.number n.answer ≡ None) stage none))
-
--- an asking that stays out keeps its stage
-none_some : (o : Option ℕ) (k : ℕ) → o ≡ None → o ≡ Some k → ⊥
-none_some o k e f = let g : None ≡ Some k = sym e ∙ f in cc
 
 same_ready : (setups : List Setup) (stage : Stage) → AsksOf stage → ready_stage setups stage ≡ stage
 same_ready setups (Identify offset) h = refl
@@ -73,7 +61,7 @@ same_ready setups (Configure n) h = absurd h
 same_ready setups Config h = refl
 same_ready setups Connected h = absurd h
 
-either_same : (b : Bool) (x y : Asking) (g : Stage) → x.stage ≡ g → y.stage ≡ g → (cond b x y).stage ≡ g
+pub either_same : (b : Bool) (x y : Asking) (g : Stage) → x.stage ≡ g → y.stage ≡ g → (cond b x y).stage ≡ g
 either_same true x y g e f = e
 either_same false x y g e f = f
 
@@ -93,7 +81,7 @@ stays_out : (setups : List Setup) (k : ℕ) (a : Asking) (s : State) (stage : St
     → IsOut k stage a × ((ready setups (listens a s)).stage ≡ stage)
 stays_out setups k a s stage g e out (inl p) =
     (record { stage = e; since = sym p.since ∙ out }, ap (ready_stage setups) (p.stage ∙ e) ∙ same_ready setups stage g)
-stays_out setups k a s stage g e out (inr none) = absurd (none_some _ k none.0 out)
+stays_out setups k a s stage g e out (inr none) = absurd (none_or_some _ k none.0 out)
 
 pub out_behind : (setups : List Setup) (n k : ℕ) (a : Asking) (s : State) (stage : Stage) → AsksOf stage → a.stage ≡ stage → (ready setups (listens (asking_in_turn setups n a) s)).since ≡ Some k
     → IsOut k stage (asking_in_turn setups n a) × ((ready setups (listens (asking_in_turn setups n a) s)).stage ≡ stage)

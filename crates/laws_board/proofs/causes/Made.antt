@@ -1,18 +1,13 @@
 -- A board that takes the commands of connecting runs, and is configured once it took their end.
 use Rattle.std.proofs.Common.{◌≡◌, ℕ, zero, suc, ◌+◌, ◌/◌, inl, inr, Bool, true, false, not, List, [], ◌∷◌, ◌++◌, Option, Some, None, refl, ap, sym, ◌∙◌, subst, append_assoc, append-nil}
 use Rattle.std.specs.Prelude.{◌&&◌, ◌||◌, ◌%◌, ◌^◌, slice_index_or}
-use Rattle.std.proofs.lemmas.Bool.Decides.{leb_tells}
+use Rattle.laws_board.proofs.Names.{leb_tells, BoardState, Running, Shut, Pending, Cmd, Controller, Meant, commands_of, Passed, Rig, Slot, acts, acts_running, all_left, at_of, earliest_moment, goes_on, happens_to, pass, passes, passes_by, rests_to, runs_to, slot_at, takes, takes_all}
 use Rattle.msg_code.specs.Units.{bit}
-use Rattle.plan_types.specs.declared.plan.BoardState.{BoardState}
-use Rattle.plan_types.specs.declared.plan.BoardState.TheVariants.{Running, Shut}
-use Rattle.board_step.specs.Steps.{Pending}
 use Rattle.board_trig.specs.Trigger as trig
-use Rattle.msg_code.specs.declared.cmd.Cmd.{Cmd}
 use Rattle.msg_code.specs.declared.cmd.Cmd.TheVariants as cmd
-use Rattle.board_sim.specs.Board.{Controller, make_stepper, stepper_at}
+use Rattle.board_sim.specs.Board.{make_stepper, stepper_at}
 use Rattle.board_sim.specs.Board as board
-use Rattle.board_sim.specs.Fair.{Meant, commands_of}
-use Rattle.board_sim.specs.Rig.{Passed, Rig, Slot, acts, acts_running, all_left, at_of, earliest_moment, goes_on, halts, happens_at, happens_to, levels_of, make_endstop, make_trigger, pass, passes, passes_by, rests_to, runs_to, slot_at, takes, takes_all}
+use Rattle.board_sim.specs.Rig.{halts, happens_at, levels_of, make_endstop, make_trigger}
 use Rattle.board_sim.proofs.RigStates.{passes_state}
 
 -- what time and triggers keep of a board

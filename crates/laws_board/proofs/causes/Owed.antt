@@ -1,31 +1,26 @@
 -- The askings for the clock that are still to be put on the line, and the block of the last one that was put.
 use Rattle.std.proofs.Common.{◌≡◌, ℕ, zero, suc, ◌+◌, ◌-◌, ◌<◌, ◌≤◌, inl, inr, Bool, true, false, List, [], ◌∷◌, ◌++◌, length, map, drop, take, Option, Some, None, refl, ap, sym, ◌∙◌, subst, arith, append_assoc, append-nil, length-append}
 use Rattle.std.specs.Prelude.{◌&&◌, nat_le, nat_lt, if◌then◌else◌}
-use Rattle.std.specs.List.{flat_map}
-use Rattle.std.proofs.lemmas.Bool.Decides.{leb_tells}
+use Rattle.laws_board.proofs.Names.{flat_map, leb_tells, Asking, Core, Step, Do, Turn, after_event, run_world, IsTurn, LinkState, Orders, after_board, after_host, run_append, BoardClock, plain, units_orders}
 use Rattle.link_core.specs.Core.{Command, Link, next_block, sent}
 use Rattle.link_core.specs.Core as link
 use Rattle.link_core.specs.Host.{closes_last}
 use Rattle.link_core.specs.Stands.{last_closes}
-use Rattle.board_asking.specs.declared.asking.Asking.{Asking}
 use Rattle.board_asking.specs.declared.asking.Put.{Put}
 use Rattle.board_asking.specs.Asking.{was_put, were_put}
 use Rattle.board_world.specs.declared.event.Event.TheVariants as event
-use Rattle.board_world.specs.World.{Core, Step, Do, Turn, after_event, run_world}
 use Rattle.link_work.specs.Answers.{IsInBlock}
 use Rattle.link_work.specs.Limits.{closing_in}
 use Rattle.link_work.specs.Told.{asked_by, asked_in}
-use Rattle.link_work.specs.Turn.{IsTurn, LinkState, Orders, after_board, after_host, after_replies, host_steps, resends, sends}
+use Rattle.link_work.specs.Turn.{after_replies, host_steps, resends, sends}
 use Rattle.link_work.proofs.Asked.{asked_after}
-use Rattle.link_work.proofs.Blocks.{AllFit, behind, behind_is, behind_part}
+use Rattle.link_work.proofs.Blocks.{AllFit, behind, behind_is, behind_part, no_more}
 use Rattle.link_work.proofs.Draining.{IsSound, parts_of}
-use Rattle.link_work.proofs.Late.{no_more}
 use Rattle.link_work.proofs.Limits.{closing_append, fit_append}
-use Rattle.link_work.proofs.Sending.{run_append}
-use Rattle.plan_types.specs.declared.clock.BoardClock.{BoardClock}
 use Rattle.laws_board.proofs.causes.Splits.{split_behind, split_in}
-use Rattle.board_world.specs.Orders.{plain, units_orders}
 use Rattle.board_world.specs.World.{on_wire}
+use Rattle.plan_types.proofs.Facts.{is_less}
+use Rattle.link_core.proofs.Standing.{last_closes_push}
 
 -- the number of the last of some blocks that has a command which closes it, of blocks from a number on
 abbrev pub last_closing : Option ℕ → ℕ → List (List Command) → Option ℕ
@@ -72,15 +67,8 @@ pub put_append : (turn : ℕ) (xs ys : List ℕ) (a : Asking) → were_put turn 
 put_append turn [] ys a = refl
 put_append turn (x ∷ xs) ys a = put_append turn xs ys (was_put turn a x)
 
-last_append : (closed : Bool) (bs : List (List Command)) (b : List Command) → last_closes closed (bs ++ b ∷ []) ≡ closes_last (last_closes closed bs) b
-last_append closed [] b = refl
-last_append closed (x ∷ bs) b = last_append (closes_last closed x) bs b
-
 not_less : (n : ℕ) → nat_lt n n ≡ false
 not_less n = elim (leb_tells (suc n) n) [ inl p ↦ let q = p.1 in absurd (omega arith) | inr p ↦ p.0 ]
-
-is_less : (n m : ℕ) → n < m → nat_lt n m ≡ true
-is_less n m h = elim (leb_tells (suc n) m) [ inl p ↦ p.0 | inr p ↦ let q = p.1 in absurd (omega arith) ]
 
 -- a block is put
 abbrev asked_so : ℕ → Bool → List ℕ
@@ -120,7 +108,7 @@ sends_one turn a l (c ∷ cs) e m =
       | inl p ↦
           let g : Link = record l { blocks = l.blocks ++ nb ∷ []; waiting = drop (length nb) (c ∷ cs); down = l.down ++ sent l ∷ []; puts = l.puts ++ l.turn ∷ [] } in
           let more : nat_lt (sent l) (sent g) ≡ true = is_less (sent l) (sent g) (omega (arith, length-append l.blocks (nb ∷ []))) in
-          let closes : last_closes false g.blocks ≡ closes_last false nb = last_append false l.blocks nb ∙ first_fits c cs (last_closes false l.blocks) fits.0 in
+          let closes : last_closes false g.blocks ≡ closes_last false nb = last_closes_push false l.blocks nb ∙ first_fits c cs (last_closes false l.blocks) fits.0 in
           let At : Link → Type 0 = λ x. Matches (were_put turn (if nat_lt (sent l) (sent x) && last_closes false x.blocks then sent l ∷ [] else []) a) x in
           let sum = split.0 in
           let done : Matches (were_put turn (asked_so (sent l) (closes_last false nb)) a) g =

@@ -1,45 +1,21 @@
 -- Over the turns of a run a reactor knows how many of its askings for the clock are still to be put, and which was put last.
 use Rattle.std.proofs.Common.{◌≡◌, ℕ, ◌+◌, ◌-◌, ◌^◌, ◌<◌, ◌≤◌, inl, inr, Bool, true, false, cond, List, [], ◌∷◌, ◌++◌, length, map, drop, Option, Some, None, refl, ap, sym, ◌∙◌, subst, arith}
 use Rattle.std.specs.Prelude.{◌==◌}
-use Rattle.std.proofs.lemmas.Bool.Decides.{leb_tells}
-use Rattle.std.proofs.lemmas.List.{map-append}
-use Rattle.plan_types.specs.declared.levels.Level.{Level}
-use Rattle.plan_types.specs.declared.machine.Machine.{Machine}
-use Rattle.plan_types.specs.Clock.{clock_of}
-use Rattle.plan_types.specs.Machines.{IsValidMachine, axis_at, board_at}
-use Rattle.msg_code.specs.declared.cmd.Cmd.{Cmd}
+use Rattle.laws_board.proofs.Names.{leb_tells, map-append, Level, Machine, clock_of, IsValidMachine, axis_at, board_at, Cmd, News, State, Control, Unit as StepUnit, dir_commands, reset_commands, step_command, Entry, Switch, Meant, plain, unit_orders, units_orders, first_state, orders, Asking, Stage, Identify, Uptime, Configure, Config, Connected, Setup, is_question_due, ready, asks_now, clock_question, drifts, waits_in, configuration, homing_turn, Known, noted, Reacted, homing_commands, stop_command, stops, Came, known_by, last_reacted}
 use Rattle.msg_code.specs.declared.cmd.Cmd.TheVariants as cmd
-use Rattle.msg_code.specs.declared.talk.News.{News}
-use Rattle.msg_code.specs.declared.talk.State.{State}
-use Rattle.msg_code.specs.declared.unit.Control.{Control}
-use Rattle.msg_code.specs.declared.unit.Unit.{Unit as StepUnit}
-use Rattle.msg_code.specs.Units.{dir_commands, reset_commands, step_command}
-use Rattle.wire_scene.specs.declared.scene.Entry.{Entry}
-use Rattle.wire_scene.specs.declared.scene.Switch.{Switch}
 use Rattle.link_core.specs.Core.{Command, Link}
-use Rattle.board_sim.specs.Fair.{Meant}
-use Rattle.board_world.specs.Orders.{plain, unit_orders, unit_ticks, units_orders}
+use Rattle.board_world.specs.Orders.{unit_ticks}
 use Rattle.board_world.specs.World.{closes, on_wire}
 use Rattle.link_work.specs.Limits.{bytes_in, closing_in}
-use Rattle.link_work.specs.Stands.{first_state, orders}
 use Rattle.link_work.proofs.Answered.{begins}
 use Rattle.link_work.proofs.Blocks.{AllFit}
 use Rattle.link_work.proofs.Draining.{IsSound}
 use Rattle.link_work.proofs.Limits.{closing_append, limits_few}
-use Rattle.board_asking.specs.declared.asking.Asking.{Asking}
-use Rattle.board_asking.specs.declared.asking.Stage.{Stage}
-use Rattle.board_asking.specs.declared.asking.Stage.TheVariants.{Identify, Uptime, Configure, Config, Connected}
-use Rattle.board_asking.specs.declared.setup.Setup.{Setup}
 use Rattle.board_asking.specs.declared.setup.Setup.TheVariants.{Oids, Stepper, Trsync, Endstop, Finish}
-use Rattle.board_asking.specs.Asking.{after_asks, after_clock, after_drift, after_piece, answered, asked, asks, asks_clock, hears_first, is_question_due, is_in_time, more, new_asking, or_asking, ready, sample_of, settled, tells_clock, were_put}
-use Rattle.board_asking.specs.Drift.{after_question, asks_now, clock_question, drifts, is_asked_now, is_unanswered, waits_in}
-use Rattle.board_asking.specs.Machine.{configuration, control_bytes, fitting, setup_command}
-use Rattle.axis_homing.specs.Homing.{homing_turn}
-use Rattle.host_reactor.specs.declared.ordered.Known.{Known}
+use Rattle.board_asking.specs.Asking.{after_asks, after_clock, after_drift, after_piece, answered, asked, asks, asks_clock, hears_first, is_in_time, more, new_asking, or_asking, sample_of, settled, tells_clock, were_put}
+use Rattle.board_asking.specs.Drift.{after_question, is_asked_now, is_unanswered}
+use Rattle.board_asking.specs.Machine.{control_bytes, fitting, setup_command}
 use Rattle.host_reactor.specs.Laws.{uptimes}
-use Rattle.host_reactor.specs.Notes.{noted}
-use Rattle.host_reactor.specs.Reactor.{Reacted, homing_commands, stop_command, stops}
-use Rattle.host_reactor.specs.Runs.{Came, known_by, last_reacted}
 use Rattle.host_reactor.proofs.Uptimes.{append as uptimes_append, commands-none}
 use Rattle.laws_board.specs.turns.Turns.{BoardTurn, latest_state, stands_after}
 use Rattle.laws_board.specs.clocks.Runs.{IsInRun, UnitsFit, orders_in}
@@ -50,6 +26,8 @@ use Rattle.laws_board.proofs.clocks.Turning.{Asks, BoardTurned, Ends, Runs, aski
 use Rattle.laws_board.specs.causes.Causes.{before_turn}
 use Rattle.laws_board.proofs.causes.Turns.{before_all, before_less}
 use Rattle.laws_board.proofs.causes.Owed.{Matches, turn_matches}
+use Rattle.laws_board.proofs.causes.Told.{one_of}
+use Rattle.host_reactor.proofs.Once.{stop-none}
 
 abbrev pub closing_of : List Cmd → ℕ
 closing_of cs = closing_in (map on_wire (map plain cs))
@@ -174,10 +152,6 @@ owing_asks setups k a (Configure n) few e = record { owed = omega (arith, setups
 owing_asks setups k a Config few e = none_owed (is_question_due k a.since) k a Config cmd.GetConfig e refl refl
 owing_asks setups k a Connected few e = record { owed = omega (arith, no_commands (is_question_due k a.since)); put = refl }
 
-pub stop_open : (stop : Bool) → uptimes (stop_command stop) ≡ 0
-stop_open true = refl
-stop_open false = refl
-
 owing_question : (k : ℕ) (homing stop : List Cmd) (a : Asking) (b : Bool) → uptimes homing ≡ 0 → uptimes stop ≡ 0 → a.owed < 2 ^ 59
     → Owing a (cond b (record a { since = Some k; first = cond (a.missed == 0) k a.first; owed = more a.owed; waits = false }) a) (homing ++ (cond b (cmd.GetUptime ∷ []) [] ++ stop))
 owing_question k homing stop a true h s few =
@@ -193,9 +167,6 @@ kept_waits drifting k a =
     let waiting = record a { waits = true } in
     kept_either (is_unanswered k a.since) missed (cond (is_asked_now drifting k a.since) waiting a) a (record { owed = refl; put = refl })
     (kept_either (is_asked_now drifting k a.since) waiting a a (record { owed = refl; put = refl }) (record { owed = refl; put = refl }))
-
-one_of : (x a : Asking) → x ∷ [] ≡ a ∷ [] → x ≡ a
-one_of x a e = cc
 
 owing_turn : (m : Machine) (r : Known) (b k : ℕ) (states : List State) (a : Asking) (x : Reacted) (c : Control) (y : Asking) → a.owed < 2 ^ 59 → asking_at b x.known.askings.items ≡ y ∷ []
     → BoardTurned m r b k states a x c → Owing a y c.commands
@@ -217,7 +188,7 @@ owing_turn m r b k states a x c y few at (Runs p g) =
     let kept = kept_waits (drifts (board_at m b).drift) k a in
     let turn = homing_turn r.clocks k states r.homing in
     let homing = homing_commands m turn g.own b in
-    let o = owing_question k homing (stop_command (stops g.stop)) waits (asks_now homing waits) (commands-none m g.own b turn.start (axis_at m turn.axis) turn.ctls.items) (stop_open (stops g.stop)) (omega (arith, kept.owed)) in
+    let o = owing_question k homing (stop_command (stops g.stop)) waits (asks_now homing waits) (commands-none m g.own b turn.start (axis_at m turn.axis) turn.ctls.items) (stop-none (stops g.stop)) (omega (arith, kept.owed)) in
     let same : y ≡ after_question k homing waits = one_of y _ (sym at ∙ g.asking) in
     record {
       owed = ap (λ (z : Asking). z.owed) same ∙ o.owed ∙ ap (λ (n : ℕ). n + closing_of (homing ++ (clock_question homing waits ++ stop_command (stops g.stop)))) kept.owed

@@ -1,56 +1,40 @@
 -- What comes of a board's dictionary over its link: a whole piece lies within it.
 use Rattle.std.proofs.Common.{◌≡◌, ℕ, zero, suc, ◌+◌, ◌-◌, ◌/◌, ◌^◌, ◌<◌, ◌≤◌, inl, inr, Bool, true, false, cond, not, List, [], ◌∷◌, ◌++◌, length, map, drop, min, Option, Some, None, refl, ap, sym, ◌∙◌, subst, arith, length-append}
 use Rattle.std.specs.Prelude.{◌&&◌, nat_le, nat_lt, slice_index_or}
-use Rattle.std.proofs.lemmas.Bool.Decides.{leb_tells}
+use Rattle.laws_board.proofs.Names.{leb_tells, BoardClock, Level, BoardDef, BoardState, Running, Shut, clock_of, own_formats, Cmd, News, State, IsText, Entry, Up, Reply, Pending, Trigger, Controller, commands_of, Passed, Rig, Slot, acts, acts_running, all_left, at_of, becomes, earliest_moment, expires_at_once, goes_on, happens_to, pass, passes, passes_by, rests_to, runs_to, set_timeout, slot_at, takes, takes_all, Event, Core, Do, Step, Turn, does, after_event, in_turn, run_world, says, takes_in, wire_text, first_state, orders, IsTurn, LinkState, Orders, after_host, come}
 use Rattle.std.proofs.lemmas.List.{length-drop, length-take}
 use Rattle.arrayvec.specs.ArrayVec.{ArrayVec}
-use Rattle.plan_types.specs.declared.clock.BoardClock.{BoardClock}
-use Rattle.plan_types.specs.declared.levels.Level.{Level}
-use Rattle.plan_types.specs.declared.machine.BoardDef.{BoardDef}
-use Rattle.plan_types.specs.declared.plan.BoardState.{BoardState}
-use Rattle.plan_types.specs.declared.plan.BoardState.TheVariants.{Running, Shut}
 use Rattle.plan_types.specs.declared.plan.Triple.{Triple}
-use Rattle.plan_types.specs.Clock.{clock_of}
 use Rattle.vlq_code.specs.Spelling.{Spells, spelling}
 use Rattle.vlq_code.proofs.Lengths.{spelling_length_is, spelling_spells}
 use Rattle.vlq_code.proofs.Spelled.{joined_alike, one_number}
-use Rattle.msg_dict.specs.Own.{own_formats}
 use Rattle.msg_dict.specs.Table.{kinds, own_id}
 use Rattle.msg_dict.specs.declared.row.Row.{Row}
 use Rattle.msg_dict.specs.declared.row.Row.TheVariants as row
 use Rattle.msg_dict.specs.declared.row.Kind.TheVariants as kind
 use Rattle.msg_code.specs.declared.Param.{Param}
 use Rattle.msg_code.specs.declared.Param.TheVariants as param
-use Rattle.msg_code.specs.declared.cmd.Cmd.{Cmd}
 use Rattle.msg_code.specs.declared.cmd.Cmd.TheVariants as cmd
-use Rattle.msg_code.specs.declared.talk.News.{News}
-use Rattle.msg_code.specs.declared.talk.State.{State}
 use Rattle.msg_code.specs.Table.{bytes_at, command, params_of, row_of}
-use Rattle.msg_code.specs.Text.{IsText, SpellsAll, params_text}
+use Rattle.msg_code.specs.Text.{SpellsAll, params_text}
 use Rattle.msg_code.proofs.Counts.{count_bounds}
 use Rattle.msg_code.proofs.Sizes.{own_length, own_text}
 use Rattle.msg_code.proofs.Texts.{one_text}
-use Rattle.wire_scene.specs.declared.scene.Entry.{Entry}
-use Rattle.wire_scene.specs.declared.scene.Way.TheVariants.{Up}
-use Rattle.link_core.specs.Core.{Reply, numbered}
-use Rattle.board_step.specs.Steps.{Pending, ticks_at}
+use Rattle.link_core.specs.Core.{numbered}
+use Rattle.board_step.specs.Steps.{ticks_at}
 use Rattle.board_trig.specs.declared.sampling.Homing.{Homing}
-use Rattle.board_trig.specs.declared.trigger.Trigger.{Trigger}
 use Rattle.board_trig.specs.declared.trigger.TrigEvent.{TrigEvent}
 use Rattle.board_trig.specs.Trigger as trig
-use Rattle.board_sim.specs.Board.{Controller, stepper_at}
+use Rattle.board_sim.specs.Board.{stepper_at}
 use Rattle.board_sim.specs.Board as board
-use Rattle.board_sim.specs.Fair.{commands_of}
-use Rattle.board_sim.specs.Rig.{RigDone, Passed, Rig, Slot, acts, acts_running, all_left, at_of, becomes, bind, earliest_moment, expires_at_once, goes_on, happens_to, home, pass, passes, passes_by, rests_to, runs_to, set_timeout, slot_at, start_trigger, takes, takes_all, trigger_answers, trigger}
+use Rattle.board_sim.specs.Rig.{RigDone, bind, home, start_trigger, trigger_answers, trigger}
 use Rattle.board_sim.specs.Rig as rig
 use Rattle.board_sim.specs.Turn.{says_shut}
-use Rattle.board_world.specs.declared.event.Event.{Event}
 use Rattle.board_world.specs.declared.event.Event.TheVariants as event
 use Rattle.board_world.specs.Stands.{IsAnswer}
-use Rattle.board_world.specs.World.{Core, Do, Step, Turn, does, after_event, in_turn, run_world, says, shut_before, takes_in, wire_text}
-use Rattle.link_work.specs.Stands.{first_state, orders}
+use Rattle.board_world.specs.World.{shut_before}
 use Rattle.link_work.specs.Told.{AreNews, IsTold, before_replies, news_of}
-use Rattle.link_work.specs.Turn.{IsTurn, LinkState, Orders, after_host, board_steps, come, host_steps}
+use Rattle.link_work.specs.Turn.{board_steps, host_steps}
 use Rattle.laws_board.specs.turns.Turns.{AreBoardTurns, BoardTurn, stands_after}
 use Rattle.laws_board.proofs.clocks.Answers.{Each, each_both}
 use Rattle.laws_board.proofs.clocks.Replies.{AllUp, up_by, up_come}

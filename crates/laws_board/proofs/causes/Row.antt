@@ -2,34 +2,16 @@
 use Rattle.std.proofs.Common.{◌≡◌, ℕ, zero, suc, ◌+◌, ◌-◌, ◌/◌, ◌%◌, ◌^◌, ◌<◌, ◌≤◌, inl, inr, Bool, true, false, cond, List, [], ◌∷◌, ◌++◌, length, map, Option, Some, None, refl, ap, sym, ◌∙◌, subst, arith, append_assoc, length-append}
 use Rattle.std.specs.Prelude.{◌==◌, ◌&&◌}
 use Rattle.std.proofs.lemmas.Bool.{lt-leb}
-use Rattle.std.proofs.lemmas.Bool.Decides.{eqb_tells}
-use Rattle.std.proofs.lemmas.List.{length-map, map-append}
-use Rattle.plan_types.specs.declared.clock.BoardClock.{BoardClock}
-use Rattle.plan_types.specs.declared.levels.Level.{Level}
-use Rattle.plan_types.specs.declared.machine.Machine.{Machine}
-use Rattle.plan_types.specs.Clock.{board_tick, clock_of, tick_limit}
-use Rattle.plan_types.specs.Machines.{board_at}
-use Rattle.msg_code.specs.declared.cmd.Cmd.{Cmd}
+use Rattle.laws_board.proofs.Names.{eqb_tells, length-map, map-append, BoardClock, Level, Machine, board_tick, clock_of, board_at, Cmd, News, State, Entry, Meant, plain, units_orders, IsOrdered, first_state, LinkState, Asking, Stage, Identify, Uptime, Configure, Config, Connected, Setup, is_question_due}
+use Rattle.plan_types.specs.Clock.{tick_limit}
 use Rattle.msg_code.specs.declared.cmd.Cmd.TheVariants as cmd
-use Rattle.msg_code.specs.declared.talk.News.{News}
-use Rattle.msg_code.specs.declared.talk.State.{State}
-use Rattle.wire_scene.specs.declared.scene.Entry.{Entry}
-use Rattle.board_sim.specs.Fair.{Meant}
-use Rattle.board_world.specs.Orders.{plain, units_orders}
-use Rattle.board_world.specs.Stands.{IsOrdered}
 use Rattle.board_world.specs.World.{on_wire}
 use Rattle.link_work.specs.Answers.{IsAmong, IsAnswered}
 use Rattle.link_work.specs.Limits.{closing_in}
-use Rattle.link_work.specs.Stands.{first_state}
-use Rattle.link_work.specs.Turn.{LinkState}
 use Rattle.link_work.proofs.Answered.{uptime_heard}
 use Rattle.link_work.proofs.Limits.{closing_append}
-use Rattle.board_asking.specs.declared.asking.Asking.{Asking}
 use Rattle.board_asking.specs.declared.asking.Put.{Put}
-use Rattle.board_asking.specs.declared.asking.Stage.{Stage}
-use Rattle.board_asking.specs.declared.asking.Stage.TheVariants.{Identify, Uptime, Configure, Config, Connected}
-use Rattle.board_asking.specs.declared.setup.Setup.{Setup}
-use Rattle.board_asking.specs.Asking.{answered, asks, is_behind, is_question_due, question, tells_clock, were_put}
+use Rattle.board_asking.specs.Asking.{answered, asks, is_behind, question, tells_clock, were_put}
 use Rattle.board_asking.specs.Turns.{AsksOf, IsOutBehind, WasAsked, asking_in_turn, heard, heard_at}
 use Rattle.laws_board.specs.turns.Turns.{AreBoardTurns, BoardTurn, stands_after}
 use Rattle.laws_board.specs.causes.Causes.{IsHindered, before_turn}
@@ -40,6 +22,7 @@ use Rattle.laws_board.proofs.causes.Four.{AnsweredIn, NotHindered, all_queued, a
 use Rattle.laws_board.proofs.causes.Owed.{Matches, last_is, number_in}
 use Rattle.laws_board.proofs.causes.Owes.{units_open}
 use Rattle.laws_board.proofs.causes.Said.{piece_heard, piece_of}
+use Rattle.plan_types.proofs.Facts.{is_equal, none_or_some}
 
 -- a board's askings in its turns while connecting: what was asked, what the link's turns are, and how the reactor's count of its
 -- askings stands to the link
@@ -186,10 +169,6 @@ found m pins entries b setups turns k stage q a o is clear =
     found_in m pins entries b setups turns k stage q a o is
     (answered_in (board_at m b) pins b entries turns k place a.are o.long clear (omega arith) (omega (arith, more)))
 
--- a news that counts would end the asking
-pub none_some : (o : Option ℕ) (k : ℕ) → o ≡ None → o ≡ Some k → ⊥
-none_some o k e f = let g : None ≡ Some k = sym e ∙ f in cc
-
 pub counts_not : (setups : List Setup) (turns : List BoardTurn) (k j : ℕ) (stage : Stage) (n : Next (k + j) turns) (news : News) → Out setups turns k stage → j ≤ 3 → n.t.state.turn ≡ k + j → IsAmong news n.t.state.news
     → (answered n.t.state.turn (were_put n.t.state.turn n.t.state.asked (asking_in_turn setups (length (states_of (before_turn (k + j) turns))) (asking_in setups (before_turn (k + j) turns)))) stage news.number news.answer ≡ None → ⊥) → ⊥
 counts_not setups turns k j stage n news o few turn among some =
@@ -198,7 +177,7 @@ counts_not setups turns k j stage n news o few turn among some =
     let e : before_turn (k + (j + 1)) turns ≡ n.t ∷ before = ap (λ (i : ℕ). before_turn i turns) (omega arith) ∙ n.is in
     let out : (asking_in setups (n.t ∷ before)).since ≡ Some k = subst (λ (x : List BoardTurn). (asking_in setups x).since ≡ Some k) e (o.out (j + 1) (omega arith) (omega arith)) in
     let is = (one_later setups turns before k n.t stage o.is_asked (stage_at setups turns k stage o j (omega arith)) out).0 in
-    none_some _ k (answer_ends a n.t.state news k is.since (omega arith) among
+    none_or_some _ k (answer_ends a n.t.state news k is.since (omega arith) among
     (λ none. some (subst (λ (g : Stage). answered n.t.state.turn (were_put n.t.state.turn n.t.state.asked a) g news.number news.answer ≡ None) is.stage none))) out
 
 pub turn_told : (m : Machine) (pins : List (List Level)) (entries : List Entry) (b : ℕ) (setups : List Setup) (turns : List BoardTurn) (k : ℕ) (n : Next k turns) → Asks m pins entries b setups turns → k < length turns → n.t.state.turn ≡ k
@@ -212,9 +191,6 @@ turn_told m pins entries b setups turns k n a h =
 pub some_if : (b : Bool) (a : Asking) → b ≡ true → cond b (Some a) None ≡ None → ⊥
 some_if true a e h = cc
 some_if false a e h = cc
-
-is_equal : (n k : ℕ) → n ≡ k → (n == k) ≡ true
-is_equal n k e = elim (eqb_tells n k) [ inl p ↦ p.0 | inr p ↦ absurd (p.1 e) ]
 
 abbrev place_in : List BoardTurn → ℕ → ℕ
 place_in turns k = length (queued_of (before_turn k turns))

@@ -1,17 +1,12 @@
 -- The askings of a board that drifts, over the turns of a run.
 use Rattle.std.proofs.Common.{◌≡◌, ℕ, ◌⊎◌, inl, inr, Bool, true, false, cond, List, [], ◌∷◌, length, drop, Option, Some, None, refl, ap, sym, ◌∙◌, subst}
 use Rattle.std.specs.Prelude.{◌==◌}
-use Rattle.msg_code.specs.declared.cmd.Cmd.{Cmd}
+use Rattle.laws_board.proofs.Names.{Cmd, News, State, Asking, Stage, Identify, Uptime, Configure, Config, Connected, Setup, is_question_due, ready}
 use Rattle.msg_code.specs.declared.cmd.Cmd.TheVariants as cmd
-use Rattle.msg_code.specs.declared.talk.News.{News}
-use Rattle.msg_code.specs.declared.talk.State.{State}
-use Rattle.board_asking.specs.declared.asking.Asking.{Asking}
-use Rattle.board_asking.specs.declared.asking.Stage.{Stage}
-use Rattle.board_asking.specs.declared.asking.Stage.TheVariants.{Identify, Uptime, Configure, Config, Connected}
-use Rattle.board_asking.specs.declared.setup.Setup.{Setup}
-use Rattle.board_asking.specs.Asking.{after_asks, after_clock, after_drift, after_piece, answered, asked, hears_first, is_connected, is_question_due, is_in_time, is_over, or_asking, ready, ready_stage, sample_of, settled, tells_clock, was_put, were_put}
+use Rattle.board_asking.specs.Asking.{after_asks, after_clock, after_drift, after_piece, answered, asked, hears_first, is_connected, is_in_time, is_over, or_asking, ready_stage, sample_of, settled, tells_clock, was_put, were_put}
 use Rattle.laws_board.proofs.clocks.Turning.{heard_now}
-use Rattle.laws_board.proofs.causes.Hears.{were_since}
+use Rattle.board_asking.proofs.InTurns.{none-of-two, ready-connects}
+use Rattle.host_reactor.proofs.Resting.{since-kept}
 
 -- what an asking keeps that no answer came to
 pub record Stays (x a : Asking) : Type 0 where
@@ -114,7 +109,7 @@ pub heard_late : (a : Asking) (states : List State) → ((s : State) (rest : Lis
 heard_late a [] l = record { stage = refl; since = refl; missed = refl; first = refl; waits = refl }
 heard_late a (s ∷ states) l =
     let w = were_put s.turn s.asked a in
-    late_if (is_in_time s.turn w.since) s.turn s.news w a (ap (is_in_time s.turn) (were_since s.turn s.asked a) ∙ l s states refl) (were_stays s.turn s.asked a)
+    late_if (is_in_time s.turn w.since) s.turn s.news w a (ap (is_in_time s.turn) (since-kept s.turn s.asked a) ∙ l s states refl) (were_stays s.turn s.asked a)
 
 -- a board that is connected has nothing out, and while connecting nothing waits
 pub record IsSettled (a : Asking) : Type 0 where
@@ -130,19 +125,8 @@ settled_now a states s = record {
   ];
 }
 
-connected_if : (b : Bool) (n : ℕ) → is_connected (cond b Config (Configure n)) ≡ true → ⊥
-connected_if true n e = cc
-connected_if false n e = cc
-
-connected_ready : (setups : List Setup) (stage : Stage) → is_connected (ready_stage setups stage) ≡ true → is_connected stage ≡ true
-connected_ready setups (Identify offset) e = e
-connected_ready setups Uptime e = e
-connected_ready setups (Configure n) e = absurd (connected_if (is_over (drop n setups)) n e)
-connected_ready setups Config e = e
-connected_ready setups Connected e = e
-
 pub settled_ready : (setups : List Setup) (a : Asking) → IsSettled a → IsSettled (ready setups a)
-settled_ready setups a s = record { waits = s.waits; rests = λ c. let r = s.rests (connected_ready setups a.stage c) in record { since = r.since; missed = r.missed } }
+settled_ready setups a s = record { waits = s.waits; rests = λ c. let r = s.rests (ready-connects setups a.stage c) in record { since = r.since; missed = r.missed } }
 
 either_not : (b : Bool) (k : ℕ) (a : Asking) (stage : Stage) → a.stage ≡ stage → is_connected stage ≡ false → a.waits ≡ false → IsSettled (cond b (asked k a) a)
 either_not true k a stage e n w = record { waits = w; rests = λ c. let x = sym (ap is_connected e ∙ n) ∙ c in cc }

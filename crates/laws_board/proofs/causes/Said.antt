@@ -4,27 +4,19 @@ use Rattle.std.proofs.lemmas.List.{length-take}
 use Rattle.arrayvec.specs.ArrayVec.{ArrayVec}
 use Rattle.vlq_code.specs.Spelling.{spelling}
 use Rattle.vlq_code.proofs.Lengths.{spelling_spells}
-use Rattle.msg_dict.specs.Own.{own_formats}
+use Rattle.laws_board.proofs.Names.{own_formats, Cmd, News, IsText, BoardClock, BoardState, Running, Shut, Rig, acts_running, takes, wire_text, LinkState}
 use Rattle.msg_dict.specs.Table.{own_id}
 use Rattle.msg_dict.specs.declared.row.Row.TheVariants as row
 use Rattle.msg_dict.proofs.Rows.{own_number}
 use Rattle.msg_code.specs.declared.Param.TheVariants as param
-use Rattle.msg_code.specs.declared.cmd.Cmd.{Cmd}
 use Rattle.msg_code.specs.declared.cmd.Cmd.TheVariants as cmd
-use Rattle.msg_code.specs.declared.talk.News.{News}
 use Rattle.msg_code.specs.Table.{params_of, row_of}
-use Rattle.msg_code.specs.Text.{IsText, SpellsEach, params_text}
+use Rattle.msg_code.specs.Text.{SpellsEach, params_text}
 use Rattle.msg_code.proofs.Known.{known}
 use Rattle.msg_code.proofs.Sizes.{own_text}
 use Rattle.msg_code.proofs.Texts.{is_text}
-use Rattle.plan_types.specs.declared.clock.BoardClock.{BoardClock}
-use Rattle.plan_types.specs.declared.plan.BoardState.{BoardState}
-use Rattle.plan_types.specs.declared.plan.BoardState.TheVariants.{Running, Shut}
-use Rattle.board_sim.specs.Rig.{Rig, acts_running, takes}
-use Rattle.board_world.specs.World.{wire_text}
 use Rattle.link_work.specs.Answers.{IsAmong, IsAnswered}
-use Rattle.link_work.specs.Turn.{LinkState}
-use Rattle.laws_board.proofs.clocks.Uptimes.{differ}
+use Rattle.link_work.proofs.Answered.{differ}
 
 piece_spells : (offset : ℕ) (bytes : ArrayVec ℕ) → offset < 2 ^ 32 → length bytes.items ≤ 40 → SpellsEach (param.Number offset ∷ param.Bytes bytes ∷ []) (params_text (param.Number offset ∷ param.Bytes bytes ∷ []))
 piece_spells offset bytes a few = record {

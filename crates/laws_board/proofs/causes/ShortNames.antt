@@ -4,8 +4,7 @@ use Rattle.std.specs.List.{list_all}
 use Rattle.std.proofs.lemmas.Bool.{agree_below_at, and_parts, cases_lt, false≢true, leb-true}
 use Rattle.json.specs.Print.{escape, escape_byte, quoted}
 use Rattle.json.proofs.Printed.Strings.{escape_byte_plain}
-use Rattle.plan_types.specs.declared.machine.Machine.{Machine}
-use Rattle.plan_types.specs.Machines.{board_at}
+use Rattle.laws_board.proofs.Names.{Machine, board_at}
 use Rattle.board_sim.specs.Board.{new_controller}
 use Rattle.cfg_lines.specs.Values.{is_pin_byte, is_pin_name}
 use Rattle.cfg_text.specs.Reading.{machine_of_text}

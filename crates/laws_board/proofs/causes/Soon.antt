@@ -1,48 +1,24 @@
 -- Connecting ends soon: each stage of a board takes at most 32 turns, and the boards connect side by side.
 use Rattle.std.proofs.Common.{◌≡◌, ℕ, zero, suc, ◌+◌, ◌-◌, ◌*◌, ◌/◌, ◌%◌, ◌^◌, ◌<◌, ◌≤◌, ◌⊎◌, inl, inr, Bool, true, false, cond, List, [], ◌∷◌, ◌++◌, length, drop, min, Option, Some, None, refl, ap, sym, ◌∙◌, subst, arith, length-append}
 use Rattle.std.specs.Prelude.{◌&&◌, ◌==◌, nat_le, nat_lt}
-use Rattle.std.specs.List.{flat_map}
+use Rattle.laws_board.proofs.Names.{flat_map, and_from, eqb_tells, leb_tells, Cause, Level, Machine, IsValidMachine, board_at, Cmd, News, Note, State, ReportLine, Entry, Switch, Asking, Stage, Identify, Uptime, Configure, Config, Connected, Setup, is_question_due, ready, all_connected, giving_up, listen_all, ready_all, configuration, trigger_of, Known, Phase, Connecting, Stopping, is_out as is_note_out, news_of, noted, first_lines, first_cause, Reacted, by_phase, reacts, unless_ended, Came, known_by, no_both}
 use Rattle.std.proofs.lemmas.Bool.{le-leb}
-use Rattle.std.proofs.lemmas.Bool.Decides.{eqb_tells, leb_tells}
 use Rattle.std.proofs.lemmas.List.{length-drop}
-use Rattle.plan_types.specs.declared.cause.Cause.{Cause}
 use Rattle.plan_types.specs.declared.cause.Cause.TheVariants as cause
-use Rattle.plan_types.specs.declared.levels.Level.{Level}
-use Rattle.plan_types.specs.declared.machine.Machine.{Machine}
 use Rattle.plan_types.specs.declared.machine.StepperDef.{StepperDef}
-use Rattle.plan_types.specs.Machines.{IsValidMachine, board_at}
 use Rattle.msg_code.specs.Bytes.{command_bytes}
-use Rattle.msg_code.specs.declared.cmd.Cmd.{Cmd}
 use Rattle.msg_code.specs.declared.cmd.Cmd.TheVariants as cmd
-use Rattle.msg_code.specs.declared.talk.News.{News}
-use Rattle.msg_code.specs.declared.talk.Note.{Note}
-use Rattle.msg_code.specs.declared.talk.State.{State}
 use Rattle.msg_code.proofs.Counts.{count_bounds}
-use Rattle.report_text.specs.declared.line.ReportLine.{ReportLine}
-use Rattle.wire_scene.specs.declared.scene.Entry.{Entry}
-use Rattle.wire_scene.specs.declared.scene.Switch.{Switch}
-use Rattle.board_asking.specs.declared.asking.Asking.{Asking}
-use Rattle.board_asking.specs.declared.asking.Stage.{Stage}
-use Rattle.board_asking.specs.declared.asking.Stage.TheVariants.{Identify, Uptime, Configure, Config, Connected}
-use Rattle.board_asking.specs.declared.setup.Setup.{Setup}
 use Rattle.board_asking.specs.declared.setup.Setup.TheVariants.{Oids, Stepper, Trsync, Endstop, Finish}
-use Rattle.board_asking.specs.Asking.{after_asks, after_clock, after_drift, after_piece, answered, asked, gives_up, hears_first, is_connected, is_question_due, is_in_time, is_out, is_over, listens, more, new_asking, or_asking, ready, ready_stage, sample_of, settled, tells_clock, was_put, were_put}
-use Rattle.board_asking.specs.Connecting.{all_connected, giving_up, listen_all, ready_all}
-use Rattle.board_asking.specs.Machine.{configuration, endstop_pins, fitting, setup_command, setup_endstops, setup_stepper, trigger_of}
+use Rattle.board_asking.specs.Asking.{after_asks, after_clock, after_drift, after_piece, answered, asked, gives_up, hears_first, is_connected, is_in_time, is_out, is_over, listens, more, new_asking, or_asking, ready_stage, sample_of, settled, tells_clock, was_put, were_put}
+use Rattle.board_asking.specs.Machine.{endstop_pins, fitting, setup_command, setup_endstops, setup_stepper}
 use Rattle.board_asking.specs.Turns.{AsksOf, asking_in_turn}
-use Rattle.host_reactor.specs.declared.ordered.Known.{Known}
-use Rattle.host_reactor.specs.declared.ordered.Phase.{Phase}
-use Rattle.host_reactor.specs.declared.ordered.Phase.TheVariants.{Connecting, Running, Stopping}
-use Rattle.host_reactor.specs.Notes.{is_out as is_note_out, news_of, noted}
-use Rattle.host_reactor.specs.Report.{first_lines}
+use Rattle.host_reactor.specs.declared.ordered.Phase.TheVariants.{Running}
 use Rattle.host_reactor.specs.Rows.{HasEachBoard}
-use Rattle.host_reactor.specs.Running.{first_cause}
-use Rattle.host_reactor.specs.Reactor.{Reacted, asks_boards, by_phase, is_connected_now, reacts, unless_ended, unless_given_up}
-use Rattle.host_reactor.specs.Runs.{Came, known_by}
-use Rattle.host_reactor.proofs.Rowing.{rowed, whole-first}
+use Rattle.host_reactor.specs.Reactor.{asks_boards, is_connected_now, unless_given_up}
+use Rattle.host_reactor.proofs.Rowing.{rowed, whole-first, listened, readied}
 use Rattle.laws_board.specs.turns.Turns.{BoardTurn, latest_state}
 use Rattle.laws_board.specs.clocks.Runs.{IsInRun}
-use Rattle.laws_board.proofs.clocks.Configured.{pins_few}
 use Rattle.laws_board.proofs.clocks.Lines.{as_long, noted_askings, noted_phase, run_before, turn_of}
 use Rattle.laws_board.proofs.clocks.Turning.{asking_at, heard_now, listen_at, ready_at}
 use Rattle.laws_board.specs.causes.Causes.{came_by_turn}
@@ -50,6 +26,9 @@ use Rattle.laws_board.specs.causes.Short.{AreInRun, HaveShortDictionaries, dicti
 use Rattle.laws_board.proofs.causes.Pieces.{AreWithin, IsWithinAll, within_turn}
 use Rattle.laws_board.proofs.causes.Told.{asking_behind, asking_in, connecting_so, heard_is, one_of, was_connecting}
 use Rattle.laws_board.proofs.causes.Turns.{came_all, came_less, states_length}
+use Rattle.laws_board.proofs.causes.Again.{open_if}
+use Rattle.laws_board.proofs.clocks.Configured.{steppers_few, endstops_few}
+use Rattle.axis_homing.proofs.Room.{pins-few}
 
 -- a stage of a board begins by a turn, where the board has so many commands of its configuration and bytes of its dictionary, and so
 -- many samples came
@@ -315,26 +294,13 @@ late_connected setups size k a few short s late =
     let near = b.near in
     late_begins (length setups) size b.from a.samples a.stage few short b.begins (omega arith)
 
--- a configuration has at most 22 commands
-steppers_few : (b : ℕ) (ss : List StepperDef) → length (flat_map (setup_stepper b) ss) ≤ length ss
-steppers_few b [] = omega arith
-steppers_few b (s ∷ ss) = let rest = steppers_few b ss in omega (arith, length-append (setup_stepper b s) (flat_map (setup_stepper b) ss), one_few (s.board == b) s)
-  where
-    one_few : (t : Bool) (s : StepperDef) → length (cond t (Stepper s.oid s.step_pin s.dir_pin ∷ []) []) ≤ 1
-    one_few true s = omega arith
-    one_few false s = omega arith
-
-endstops_few : (oid : ℕ) (pins : List ℕ) → length (setup_endstops oid pins) ≡ length pins
-endstops_few oid [] = refl
-endstops_few oid (p ∷ pins) = ap suc (endstops_few (oid + 1) pins)
-
 setups_few : (m : Machine) (b : ℕ) → IsValidMachine m → length (configuration m b) ≤ 22
 unfolding configuration
 setups_few m b v =
     let steppers = flat_map (setup_stepper b) m.steppers in
     let endstops = setup_endstops (trigger_of m b + 1) (endstop_pins m b) in
     let s = steppers_few b m.steppers in
-    let p = pins_few b m.axes [] in
+    let p = pins-few b m.axes [] in
     let e = endstops_few (trigger_of m b + 1) (endstop_pins m b) in
     let few = v.steppers_few in
     let three = v.axes_three in
@@ -380,35 +346,17 @@ still_asks m switches r k states note e h p =
     let s = noted m note r in
     still_ended (first_cause (is_note_out note) s.stopped states) m switches s k states (first_lines m s k (news_of note) states) e h p
 
--- of each board
-both_none : (t : Bool) (c : Cause) (rest : Option Cause) → cond t (Some c) rest ≡ None → (t ≡ false) × (rest ≡ None)
-both_none true c rest e = cc
-both_none false c rest e = (refl, e)
-
 giving_at : (k i b : ℕ) (askings : List Asking) (a : Asking) → giving_up k i askings ≡ None → asking_at b askings ≡ a ∷ [] → gives_up k a ≡ false
 giving_at k i b [] a h e = cc
 giving_at k i zero (x ∷ askings) a h e =
     let same : x ≡ a = cc in
-    ap (gives_up k) (sym same) ∙ (both_none (gives_up k x) (cause.Connect i x.first) (giving_up k (i + 1) askings) h).0
-giving_at k i (suc b) (x ∷ askings) a h e = giving_at k (i + 1) b askings a (both_none (gives_up k x) (cause.Connect i x.first) (giving_up k (i + 1) askings) h).1 e
-
-both_true : (s t : Bool) → s ≡ true → t ≡ true → (s && t) ≡ true
-both_true true t e f = f
-both_true false t e f = e
+    ap (gives_up k) (sym same) ∙ (open_if (gives_up k x) (cause.Connect i x.first) (giving_up k (i + 1) askings) h).0
+giving_at k i (suc b) (x ∷ askings) a h e = giving_at k (i + 1) b askings a (open_if (gives_up k x) (cause.Connect i x.first) (giving_up k (i + 1) askings) h).1 e
 
 connected_all : (askings : List Asking) → ((b : ℕ) (a : Asking) → b < length askings → asking_at b askings ≡ a ∷ [] → is_connected a.stage ≡ true) → all_connected askings ≡ true
 connected_all [] f = refl
 connected_all (x ∷ askings) f =
-    both_true (is_connected x.stage) (all_connected askings) (f 0 x (omega arith) refl) (connected_all askings (λ b a l e. f (suc b) a (omega arith) e))
-
-many_ready : (m : Machine) (i : ℕ) (askings : List Asking) → length (ready_all m i askings) ≡ length askings
-many_ready m i [] = refl
-many_ready m i (a ∷ askings) = ap suc (many_ready m (i + 1) askings)
-
-many_listen : (askings : List Asking) (states : List State) → length (listen_all askings states) ≡ length askings
-many_listen [] states = refl
-many_listen (a ∷ askings) [] = ap suc (many_listen askings [])
-many_listen (a ∷ askings) (s ∷ states) = ap suc (many_listen askings states)
+    and_from (is_connected x.stage) (all_connected askings) (f 0 x (omega arith) refl) (connected_all askings (λ b a l e. f (suc b) a (omega arith) e))
 
 whole_by : (m : Machine) (switches : List Switch) (came : List Came) → HasEachBoard m (known_by m switches came)
 whole_by m switches [] = whole-first m
@@ -421,7 +369,7 @@ askings_now m switches c before = ready_all m 0 (listen_all (noted m c.note (kno
 many_now : (m : Machine) (switches : List Switch) (c : Came) (before : List Came) → length (askings_now m switches c before) ≡ length m.boards
 many_now m switches c before =
     let r = known_by m switches before in
-    many_ready m 0 (listen_all (noted m c.note r).askings.items c.states) ∙ many_listen (noted m c.note r).askings.items c.states ∙ ap (λ x. length x.items) (noted_askings m c.note r) ∙ (whole_by m switches before).askings
+    readied m 0 (listen_all (noted m c.note r).askings.items c.states) ∙ listened (noted m c.note r).askings.items c.states ∙ ap (λ x. length x.items) (noted_askings m c.note r) ∙ (whole_by m switches before).askings
 
 now_at : (m : Machine) (switches : List Switch) (pins : List (List Level)) (entries : List Entry) (b : ℕ) (c : Came) (before : List Came) (t : BoardTurn) (turns : List BoardTurn)
     → IsInRun m switches pins entries b (c ∷ before) (t ∷ turns) → (known_by m switches before).phase ≡ Connecting → asking_at b (askings_now m switches c before) ≡ asking_in (configuration m b) turns ∷ []
@@ -487,11 +435,6 @@ on_first : (m : Machine) (switches : List Switch) (pins : List (List Level)) (en
 on_first m switches pins entries b c before [] r p = absurd r.both
 on_first m switches pins entries b c before (t ∷ turns) r p = connects_on m switches pins entries b c before t turns r p
 
--- the laws
-true_false : (t : Bool) → t ≡ true → t ≡ false → ⊥
-true_false true e f = cc
-true_false false e f = cc
-
 pub ends_soon : (m : Machine) (switches : List Switch) (pins : ℕ → List (List Level)) (entries : List Entry) (came : List Came) (turns : ℕ → List BoardTurn) → IsValidMachine m → HaveShortDictionaries m
     → AreInRun m switches pins entries came turns → (known_by m switches came).phase ≡ Connecting → length came < 2_200
 ends_soon m switches pins entries [] turns v short r p = omega arith
@@ -499,7 +442,7 @@ ends_soon m switches pins entries (c ∷ before) turns v short r p = elim (leb_t
   | inl q ↦
       let g = on_first m switches (pins 0) entries 0 c before (turns 0) (r 0 v.boards_some) p in
       let all = connected_all (askings_now m switches c before) (λ b a l e. connected_in m switches (pins b) entries b c before (turns b) v short (r b (omega (arith, many_now m switches c before))) g.was q.1 a e) in
-      absurd (true_false (all_connected (askings_now m switches c before)) all g.still.not_all)
+      absurd (no_both (all_connected (askings_now m switches c before)) all g.still.not_all)
   | inr q ↦ let l = q.1 in omega arith
 ]
 
@@ -516,7 +459,7 @@ run_rest : (m : Machine) (switches : List Switch) (pins : List (List Level)) (en
 run_rest m switches pins entries b c before [] r = absurd r.both
 run_rest m switches pins entries b c before (t ∷ turns) r = run_before m switches pins entries b c before t turns r
 
-phase_or : (p : Phase) → (p ≡ Connecting) ⊎ (p ≡ Connecting → ⊥)
+pub phase_or : (p : Phase) → (p ≡ Connecting) ⊎ (p ≡ Connecting → ⊥)
 phase_or Connecting = inl refl
 phase_or Running = inr (λ e. cc)
 phase_or (Stopping line) = inr (λ e. cc)

@@ -1,40 +1,19 @@
 -- A run that ends for a drifting board whose clock line is too old.
 use Rattle.std.proofs.Common.{◌≡◌, ℕ, zero, suc, ◌+◌, ◌-◌, ◌/◌, ◌%◌, ◌^◌, ◌<◌, ◌≤◌, inl, inr, Bool, true, false, cond, List, [], ◌∷◌, ◌++◌, length, map, Option, Some, None, refl, ap, sym, ◌∙◌, subst, arith, append_assoc, length-append}
 use Rattle.std.specs.Prelude.{◌&&◌, nat_le}
-use Rattle.std.proofs.lemmas.Bool.{eqb-true, leb-true}
-use Rattle.std.proofs.lemmas.List.{map-append}
-use Rattle.std.proofs.lemmas.Bool.Decides.{leb_tells}
-use Rattle.plan_types.specs.declared.cause.Cause.{Cause}
+use Rattle.laws_board.proofs.Names.{eqb-true, map-append, leb_tells, Cause, Level, Machine, board_tick, clock_of, IsValidMachine, board_at, Cmd, State, Entry, Switch, Meant, plain, units_orders, first_state, Asking, Stage, Identify, Uptime, Configure, Config, Connected, giving_up, listen_all, ready_all, stale, Known, Connecting, is_out, noted, first_cause, Came, known_by, last_reacted, state_at, both_parts}
+use Rattle.std.proofs.lemmas.Bool.{leb-true}
 use Rattle.plan_types.specs.declared.cause.Cause.TheVariants as cause
-use Rattle.plan_types.specs.declared.levels.Level.{Level}
-use Rattle.plan_types.specs.declared.machine.Machine.{Machine}
-use Rattle.plan_types.specs.Clock.{board_tick, clock_of, tick_limit}
-use Rattle.plan_types.specs.Machines.{IsValidMachine, board_at}
-use Rattle.msg_code.specs.declared.cmd.Cmd.{Cmd}
+use Rattle.plan_types.specs.Clock.{tick_limit}
 use Rattle.msg_code.specs.declared.cmd.Cmd.TheVariants as cmd
-use Rattle.msg_code.specs.declared.talk.State.{State}
-use Rattle.wire_scene.specs.declared.scene.Entry.{Entry}
-use Rattle.wire_scene.specs.declared.scene.Switch.{Switch}
-use Rattle.board_sim.specs.Fair.{Meant}
-use Rattle.board_world.specs.Orders.{plain, units_orders}
 use Rattle.board_world.specs.World.{on_wire}
 use Rattle.link_work.specs.Answers.{IsAmong}
 use Rattle.link_work.specs.Limits.{closing_in}
-use Rattle.link_work.specs.Stands.{first_state}
 use Rattle.link_work.proofs.Answered.{uptime_heard}
 use Rattle.link_work.proofs.Limits.{closing_append}
-use Rattle.board_asking.specs.declared.asking.Asking.{Asking}
-use Rattle.board_asking.specs.declared.asking.Stage.{Stage}
-use Rattle.board_asking.specs.declared.asking.Stage.TheVariants.{Identify, Uptime, Configure, Config, Connected}
 use Rattle.board_asking.specs.Asking.{after_drift, answered, gives_up as gives_up_connecting, is_connected, listens, sample_of, tells_clock, were_put}
-use Rattle.board_asking.specs.Connecting.{giving_up, listen_all, ready_all}
-use Rattle.board_asking.specs.Drift.{gives_up, is_unanswered, stale}
-use Rattle.host_reactor.specs.declared.ordered.Known.{Known}
-use Rattle.host_reactor.specs.declared.ordered.Phase.TheVariants.{Connecting}
+use Rattle.board_asking.specs.Drift.{gives_up, is_unanswered}
 use Rattle.host_reactor.specs.Laws.{uptimes}
-use Rattle.host_reactor.specs.Notes.{is_out, noted}
-use Rattle.host_reactor.specs.Running.{first_cause}
-use Rattle.host_reactor.specs.Runs.{Came, known_by, last_reacted, state_at}
 use Rattle.host_reactor.proofs.Uptimes.{append as uptimes_append}
 use Rattle.laws_board.specs.turns.Turns.{AreBoardTurns, BoardTurn, IsBoardOf, latest_state}
 use Rattle.laws_board.specs.clocks.Runs.{IsInRun, UnitsFit}
@@ -46,9 +25,10 @@ use Rattle.laws_board.proofs.causes.Ended.{EndsBy, ends_by}
 use Rattle.laws_board.proofs.causes.Four.{NotHindered, all_queued, answered_in, hindered_or, is_ordered, queued_of}
 use Rattle.laws_board.proofs.causes.Hears.{answer_ends}
 use Rattle.laws_board.proofs.causes.Owes.{closing_of, closing_same, owes, units_before, units_open}
-use Rattle.laws_board.proofs.causes.Row.{clock_tells, command_is, none_some, some_if, split_same}
+use Rattle.laws_board.proofs.causes.Row.{clock_tells, command_is, some_if, split_same}
 use Rattle.laws_board.proofs.causes.Running.{heard_either}
 use Rattle.laws_board.proofs.causes.Turns.{Next, are_before, before_all, before_length, before_less, came_all, came_less, next_turn, ticks_before}
+use Rattle.plan_types.proofs.Facts.{none_or_some}
 
 -- which board is stale
 record StaleAt (k i : ℕ) (askings : List Asking) (j turn : ℕ) : Type 0 where
@@ -104,10 +84,6 @@ pub record StaleRow (m : Machine) (switches : List Switch) (pins : List (List Le
   pub row : AreInRow turn (length turns) asked
   pub between : AsksNoneBetween turns (length turns) asked
   pub parts : AllParts m switches pins entries b all turns asked
-
-both_parts : (p q : Bool) → (p && q) ≡ true → (p ≡ true) × (q ≡ true)
-both_parts true q e = (refl, e)
-both_parts false q e = cc
 
 four_turns : (k s : ℕ) (o : Option ℕ) → o ≡ Some s → is_unanswered k o ≡ true → k - s ≡ 4
 four_turns k s o e h = eqb-true (k - s) 4 (sym (ap (is_unanswered k) e) ∙ h)
@@ -239,7 +215,7 @@ drift_counts : (y : Asking) (s : State) (k number high low : ℕ) → is_connect
     → tells_clock (were_put s.turn s.asked y) number ≡ true → (listens y s).since ≡ Some k → ⊥
 drift_counts y s k number high low c since l among tells out =
     let w = were_put s.turn s.asked y in
-    none_some (listens y s).since k (answer_ends y s (record { number = number; answer = cmd.Uptime high low }) k since l among
+    none_or_some (listens y s).since k (answer_ends y s (record { number = number; answer = cmd.Uptime high low }) k since l among
     (λ none. some_if (tells_clock w number) (after_drift w (sample_of w s.turn high low)) tells
     (subst (λ (g : Stage). answered s.turn w g number (cmd.Uptime high low) ≡ None) (connected_is y.stage c) none))) out
 

@@ -1,28 +1,18 @@
 -- What a reactor knows of a board that it connects, by the turns of the board.
 use Rattle.std.proofs.Common.{◌≡◌, ℕ, inl, inr, Option, Some, None, List, [], ◌∷◌, ◌++◌, length, refl, ap, sym, ◌∙◌, subst, arith}
-use Rattle.std.proofs.lemmas.Bool.Decides.{leb_tells}
-use Rattle.plan_types.specs.declared.levels.Level.{Level}
-use Rattle.plan_types.specs.declared.machine.Machine.{Machine}
-use Rattle.msg_code.specs.declared.talk.State.{State}
-use Rattle.msg_code.specs.declared.unit.Control.{Control}
-use Rattle.wire_scene.specs.declared.scene.Entry.{Entry}
-use Rattle.wire_scene.specs.declared.scene.Switch.{Switch}
-use Rattle.board_asking.specs.declared.asking.Asking.{Asking}
-use Rattle.board_asking.specs.declared.setup.Setup.{Setup}
-use Rattle.board_asking.specs.Asking.{asks, listens, new_asking, ready}
-use Rattle.board_asking.specs.Machine.{configuration}
+use Rattle.laws_board.proofs.Names.{leb_tells, Level, Machine, State, Control, Entry, Switch, Asking, Setup, ready, configuration, Phase, Connecting, Stopping, noted, Came, known_by, last_reacted, state_at}
+use Rattle.board_asking.specs.Asking.{asks, listens, new_asking}
 use Rattle.board_asking.specs.Turns.{asking_in_turn, heard}
-use Rattle.host_reactor.specs.declared.ordered.Phase.{Phase}
-use Rattle.host_reactor.specs.declared.ordered.Phase.TheVariants.{Connecting, Running, Stopping}
-use Rattle.host_reactor.specs.Notes.{noted}
+use Rattle.host_reactor.specs.declared.ordered.Phase.TheVariants.{Running}
 use Rattle.host_reactor.specs.Reactor.{phase_after}
-use Rattle.host_reactor.specs.Runs.{Came, known_by, last_reacted, state_at, told_by}
+use Rattle.host_reactor.specs.Runs.{told_by}
 use Rattle.laws_board.specs.turns.Turns.{BoardTurn, IsBoardOf, latest_state}
 use Rattle.laws_board.specs.clocks.Runs.{IsInRun}
 use Rattle.laws_board.proofs.clocks.Lines.{as_long, noted_phase, run_before, turn_of}
 use Rattle.laws_board.proofs.clocks.Turning.{Asks, BoardTurned, Ends, Runs, asking_at, heard_now, new_at}
 use Rattle.laws_board.specs.causes.Causes.{before_turn}
 use Rattle.laws_board.proofs.causes.Turns.{before_all, before_less, states_length, states_of}
+use Rattle.host_reactor.proofs.Connects.{not-running}
 
 -- what a board told is what it told in its turns
 pub told_states : (m : Machine) (switches : List Switch) (b : ℕ) (c : Came) (before : List Came) (turns : List BoardTurn) → state_at b c.states ≡ latest_state turns → IsBoardOf m switches b before turns
@@ -58,11 +48,8 @@ asks_before setups k (t ∷ turns) a = elim (leb_tells k (length turns)) [
   | inr p ↦ let q = p.1 in subst (λ (l : List BoardTurn). AllAsk setups l) (sym (before_all k (t ∷ turns) (omega arith))) a
 ]
 
-not_connecting : (p : Phase) → p ≡ Running → p ≡ Connecting → ⊥
-not_connecting p e f = let g : Running ≡ Connecting = sym e ∙ f in cc
-
-still_running : (stop : Option ℕ) (p : Phase) → p ≡ phase_after stop → p ≡ Connecting → ⊥
-still_running None p e f = not_connecting p e f
+pub still_running : (stop : Option ℕ) (p : Phase) → p ≡ phase_after stop → p ≡ Connecting → ⊥
+still_running None p e f = not-running p e f
 still_running (Some line) p e f = let g : Stopping line ≡ Connecting = sym e ∙ f in cc
 
 -- over a turn
@@ -87,7 +74,7 @@ asked_so m switches b c before t turns a k e p is (Asks q g) all =
         all,
       );
     }
-asked_so m switches b c before t turns a k e p is (Ends q g) all = absurd (not_connecting _ g.phase p)
+asked_so m switches b c before t turns a k e p is (Ends q g) all = absurd (not-running _ g.phase p)
 asked_so m switches b c before t turns a k e p is (Runs q g) all = absurd (still_running g.stop _ g.phase p)
 
 pub was_connecting : (m : Machine) (switches : List Switch) (b : ℕ) (c : Came) (before : List Came) (t : BoardTurn) (a : Asking) (k : ℕ) → (last_reacted m switches c before).known.phase ≡ Connecting

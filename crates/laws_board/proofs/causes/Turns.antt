@@ -1,15 +1,10 @@
 -- The turns of a board, one by one.
 use Rattle.std.proofs.Common.{◌≡◌, ℕ, suc, ◌+◌, ◌<◌, ◌≤◌, Bool, cond, List, [], ◌∷◌, length, inl, inr, refl, ap, sym, ◌∙◌, subst, arith}
 use Rattle.std.proofs.lemmas.Bool.{le-leb, lt-leb}
-use Rattle.std.proofs.lemmas.Bool.Decides.{leb_tells}
-use Rattle.plan_types.specs.declared.clock.BoardClock.{BoardClock}
-use Rattle.plan_types.specs.Clock.{board_tick}
+use Rattle.laws_board.proofs.Names.{leb_tells, BoardClock, board_tick, State, LinkState, Came}
 use Rattle.plan_types.proofs.OwnTicks.{rise}
-use Rattle.msg_code.specs.declared.talk.State.{State}
-use Rattle.link_work.specs.Turn.{LinkState}
 use Rattle.board_asking.specs.Turns.{states_come}
 use Rattle.laws_board.specs.turns.Turns.{AreBoardTurns, BoardTurn}
-use Rattle.host_reactor.specs.Runs.{Came}
 use Rattle.laws_board.specs.causes.Causes.{before_turn, came_by_turn}
 
 pub before_all : (k : ℕ) (turns : List BoardTurn) → length turns ≤ k → before_turn k turns ≡ turns

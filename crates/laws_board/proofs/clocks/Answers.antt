@@ -1,20 +1,17 @@
 -- What a board answers of its clock: the tick at which it is asked, and nothing while time passes.
 use Rattle.std.proofs.Common.{◌≡◌, ℕ, zero, suc, ◌+◌, ◌/◌, Bool, true, false, cond, List, [], ◌∷◌, ◌++◌, Option, Some, None, refl, subst, ◌∙◌}
 use Rattle.std.specs.Prelude.{slice_index_or, nat_le, nat_lt}
-use Rattle.plan_types.specs.declared.plan.BoardState.{BoardState}
-use Rattle.plan_types.specs.declared.plan.BoardState.TheVariants.{Running, Shut}
+use Rattle.laws_board.proofs.Names.{BoardState, Running, Shut, Pending, Trigger, Cmd, Controller, Rig, Slot, Passed, slot_at, expires_at_once, set_timeout, acts, acts_running, takes, takes_all, happens_to, runs_to, rests_to, earliest_moment, at_of, goes_on, passes_by, pass, all_left, passes, says}
 use Rattle.plan_types.specs.declared.plan.Triple.{Triple}
-use Rattle.board_step.specs.Steps.{Pending, ticks_at}
-use Rattle.board_trig.specs.declared.trigger.Trigger.{Trigger}
+use Rattle.board_step.specs.Steps.{ticks_at}
 use Rattle.board_trig.specs.declared.trigger.TrigEvent.{TrigEvent}
 use Rattle.board_trig.specs.Trigger as trig
-use Rattle.msg_code.specs.declared.cmd.Cmd.{Cmd}
 use Rattle.msg_code.specs.declared.cmd.Cmd.TheVariants as cmd
-use Rattle.board_sim.specs.Board.{Controller, Done as BoardDone, stepper_at, is_none_pending, first_of, refusal, takes_triple, queue_step, set_dir, reset, make_stepper, acts as board_acts, acts_running as board_running, takes as board_takes, stop, quiet as board_quiet, with_stepper, stepper_active}
-use Rattle.board_sim.specs.Rig.{Rig, Slot, Passed, slot_at, expires_at_once, set_timeout, trigger, acts, acts_running, takes, takes_all, trigger_answers, happens_to, happens_at, runs_to, rests_to, earliest_moment, at_of, goes_on, passes_by, pass, all_left, passes}
+use Rattle.board_sim.specs.Board.{Done as BoardDone, stepper_at, is_none_pending, first_of, refusal, takes_triple, queue_step, set_dir, reset, make_stepper, acts as board_acts, acts_running as board_running, takes as board_takes, stop, quiet as board_quiet, with_stepper, stepper_active}
+use Rattle.board_sim.specs.Rig.{trigger, trigger_answers, happens_at}
 use Rattle.board_sim.specs.Turn.{says_shut}
 use Rattle.board_sim.proofs.RigTicks.{takes_rig_tick}
-use Rattle.board_world.specs.World.{says, shut_before}
+use Rattle.board_world.specs.World.{shut_before}
 use Rattle.laws_board.proofs.clocks.Uptimes.{TellsTick, IsNoClock}
 
 -- each of some answers is so

@@ -1,23 +1,15 @@
 -- What holds of a board's asking over the turns of its link: its sample is one of the board's clock.
 use Rattle.std.proofs.Common.{◌≡◌, ℕ, ◌+◌, ◌-◌, ◌*◌, ◌^◌, ◌<◌, ◌≤◌, ◌⊎◌, inl, inr, Bool, true, false, cond, List, [], ◌∷◌, drop, length, Option, Some, None, refl, ap, sym, ◌∙◌, subst, arith}
 use Rattle.std.specs.Prelude.{◌&&◌, ◌==◌, ◌%◌, nat_le, nat_lt}
-use Rattle.std.proofs.lemmas.Bool.{leb-true, eqb-true}
-use Rattle.plan_types.specs.declared.clock.BoardClock.{BoardClock}
-use Rattle.plan_types.specs.Clock.{board_tick}
+use Rattle.laws_board.proofs.Names.{eqb-true, BoardClock, board_tick, Cmd, News, State, Asking, Stage, Identify, Uptime, Configure, Config, Connected, Setup, ready, is_question_due, asks_now, waits_in, both_parts}
+use Rattle.std.proofs.lemmas.Bool.{leb-true}
 use Rattle.clock_line.specs.declared.sample.Sample.{Sample}
 use Rattle.clock_line.specs.Samples.{took}
-use Rattle.msg_code.specs.declared.cmd.Cmd.{Cmd}
 use Rattle.msg_code.specs.declared.cmd.Cmd.TheVariants as cmd
-use Rattle.msg_code.specs.declared.talk.News.{News}
-use Rattle.msg_code.specs.declared.talk.State.{State}
-use Rattle.board_asking.specs.declared.asking.Asking.{Asking}
 use Rattle.board_asking.specs.declared.asking.Put.{Put}
-use Rattle.board_asking.specs.declared.asking.Stage.{Stage}
-use Rattle.board_asking.specs.declared.asking.Stage.TheVariants.{Identify, Uptime, Configure, Config, Connected}
-use Rattle.board_asking.specs.declared.setup.Setup.{Setup}
-use Rattle.board_asking.specs.Asking.{more, new_asking, was_put, were_put, is_in_time, is_behind, tells_clock, sample_of, best_of, after_piece, after_clock, after_drift, answered, is_connected, put_turn, settled, or_asking, hears_first, listens, is_over, ready_stage, ready, is_question_due, asks_clock, asked, after_asks}
+use Rattle.board_asking.specs.Asking.{more, new_asking, was_put, were_put, is_in_time, is_behind, tells_clock, sample_of, best_of, after_piece, after_clock, after_drift, answered, is_connected, put_turn, settled, or_asking, hears_first, listens, is_over, ready_stage, asks_clock, asked, after_asks}
 use Rattle.board_asking.specs.Connecting.{sample_or_none}
-use Rattle.board_asking.specs.Drift.{asks_now, after_question, is_asked_now, is_unanswered, waits_in}
+use Rattle.board_asking.specs.Drift.{after_question, is_asked_now, is_unanswered}
 use Rattle.laws_board.specs.turns.Turns.{BoardTurn}
 use Rattle.laws_board.specs.clocks.Samples.{IsAmong, WasPut, IsClock, TellsClock, WasTold, IsSample}
 
@@ -142,10 +134,6 @@ best_kept clock turns (Some b) s k l = either (nat_lt (took s) (took b)) k l
     either true k l = l
     either false k l = k
 
-pub both_true : (a b : Bool) → (a && b) ≡ true → (a ≡ true) × (b ≡ true)
-both_true true b e = (refl, e)
-both_true false b e = cc
-
 -- what is known of an answer in time: the turn, and each clock that is told in it
 pub record InTime (clock : BoardClock) (turns : List BoardTurn) (turn : ℕ) (news : List News) : Type 0 where
   pub taken : (number value : ℕ) → TellsClock number value news → (block at : ℕ) × (number ≡ block + 1) × (at ≤ turn) × (value ≡ board_tick clock at) × ((put : ℕ) → WasPut block put turns → put ≤ at)
@@ -155,9 +143,9 @@ sample_is : (clock : BoardClock) (turns : List BoardTurn) (turn owed number valu
     → InTime clock turns turn (n ∷ news) → PutWas turns put → IsOwed owed since put → is_in_time turn since ≡ true → ((owed == 0) && is_behind put number) ≡ true
     → (p : Put) × (put ≡ Some p) × IsSample clock turns (record { sent = p.turn; got = turn; clock = value })
 sample_is clock turns turn owed number value None put n news e f x w o in_time t = cc
-sample_is clock turns turn owed number value (Some q) None n news e f x w o in_time t = let b = both_true (owed == 0) false t in cc
+sample_is clock turns turn owed number value (Some q) None n news e f x w o in_time t = let b = both_parts (owed == 0) false t in cc
 sample_is clock turns turn owed number value (Some q) (Some p) n news e f x w o in_time t =
-    let b = both_true (owed == 0) (number == p.number + 1) t in
+    let b = both_parts (owed == 0) (number == p.number + 1) t in
     let none : owed ≡ 0 = eqb-true owed 0 b.0 in
     let behind : number ≡ p.number + 1 = eqb-true number (p.number + 1) b.1 in
     let soon : turn - q ≤ 3 = leb-true (turn - q) 3 in_time in

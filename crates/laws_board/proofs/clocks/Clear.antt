@@ -1,27 +1,19 @@
 -- A link on which no entry is used while connecting: each clock comes in the turn in which it was asked for.
 use Rattle.std.proofs.Common.{◌≡◌, ℕ, suc, ◌+◌, ◌^◌, ◌<◌, ◌≤◌, inl, inr, Bool, true, false, cond, List, [], ◌∷◌, ◌++◌, map, length, Option, Some, None, refl, ap, sym, ◌∙◌, subst, arith}
 use Rattle.std.specs.Prelude.{◌&&◌, nat_le, nat_lt}
+use Rattle.laws_board.proofs.Names.{and_from, leb_tells, BoardClock, BoardDef, Level, board_tick, clock_of, Entry, Down, Up, Reply, Core, Step, Do, world_after, after_event, run_world, first_state, orders, IsTurn, LinkState, Orders, after_board, after_host, come}
 use Rattle.std.proofs.lemmas.Bool.{le-leb}
-use Rattle.std.proofs.lemmas.Bool.Decides.{leb_tells}
-use Rattle.plan_types.specs.declared.clock.BoardClock.{BoardClock}
-use Rattle.plan_types.specs.declared.machine.BoardDef.{BoardDef}
-use Rattle.plan_types.specs.declared.levels.Level.{Level}
-use Rattle.plan_types.specs.Clock.{board_tick, clock_of}
 use Rattle.wire_scene.specs.declared.scene.Deed.{Deed}
-use Rattle.wire_scene.specs.declared.scene.Entry.{Entry}
-use Rattle.wire_scene.specs.declared.scene.Way.TheVariants.{Down, Up}
 use Rattle.wire_scene.specs.Wire.{Copy, Line, entries_behind, deed_of, entries_of, put_on, put_with}
-use Rattle.link_core.specs.Core.{Reply, sent}
+use Rattle.link_core.specs.Core.{sent}
 use Rattle.link_core.specs.Stands.{last_closes}
 use Rattle.link_core.proofs.Steps.{start_keeps}
 use Rattle.board_world.specs.declared.event.Event.TheVariants as event
 use Rattle.board_world.specs.Stands.{reply_text}
-use Rattle.board_world.specs.World.{Core, Step, Do, world_after, after_event, run_world}
 use Rattle.link_work.specs.Ends.{is_quiet_line, no_copies}
 use Rattle.link_work.specs.Runs.{blocks_on}
-use Rattle.link_work.specs.Stands.{first_state, orders}
 use Rattle.link_work.specs.Told.{asked_at, asked_in}
-use Rattle.link_work.specs.Turn.{IsTurn, LinkState, Orders, after_board, after_host, board_steps, come, host_steps, line_for, newly, put_all, still}
+use Rattle.link_work.specs.Turn.{board_steps, host_steps, line_for, newly, put_all, still}
 use Rattle.link_work.proofs.Late.{drained_after}
 use Rattle.link_work.proofs.Turns.{turns_hold}
 use Rattle.laws_board.specs.turns.Turns.{AreBoardTurns, BoardTurn, stands_after}
@@ -33,6 +25,7 @@ use Rattle.laws_board.proofs.clocks.Dated.{Dated, sent_grows}
 use Rattle.laws_board.proofs.clocks.Orders.{order_length, turns_in_order}
 use Rattle.laws_board.proofs.clocks.Links.{IsAt, among_both, sound, told_dated, turn_grows, turn_parts}
 use Rattle.link_work.proofs.Parts.{ticks_rise}
+use Rattle.board_world.proofs.Standing.{none_up as none_mapped}
 
 -- blocks that are due
 abbrev AllDue : ℕ → List Copy → Type 0
@@ -170,9 +163,6 @@ quiet_now l turn e c =
     let calm : nat_le l.calm turn ≡ true = le-leb l.calm turn (omega arith) in
     ap (λ (b : Bool). b && nat_le l.calm turn) none ∙ calm
 
-both_quiet : (a b : Bool) → a ≡ true → b ≡ true → (a && b) ≡ true
-both_quiet a b e f = rw e f
-
 all_taken : (b : BoardDef) (pins : List (List Level)) (board : ℕ) (entries : List Entry) (turns : List BoardTurn) → AreBoardTurns (clock_of b) (first_state b pins board entries) turns
     → Undisturbed b pins board entries turns → AllConnecting turns
     → (stands_after (first_state b pins board entries) turns).core.link.accepted ≡ sent (stands_after (first_state b pins board entries) turns).core.link
@@ -184,12 +174,8 @@ all_taken b pins board entries (t ∷ before) are u c =
     let n = length (orders_in before) in
     let long : length before ≡ n = sym (order_length before) in
     let turn : IsTurn clock n (orders t.control t.batch) (stands_after first before) t.after = subst (λ (x : ℕ). IsTurn clock x (orders t.control t.batch) (stands_after first before) t.after) long are.0.0 in
-    let quiet = both_quiet (is_quiet_line t.after.down n) (is_quiet_line t.after.up n) (quiet_now t.after.down n clear.0.none u.down) (quiet_now t.after.up n clear.1.none u.up) in
+    let quiet = and_from (is_quiet_line t.after.down n) (is_quiet_line t.after.up n) (quiet_now t.after.down n clear.0.none u.down) (quiet_now t.after.up n clear.1.none u.up) in
     (drained_after b pins board entries clock (orders_in before) (orders t.control t.batch) (stands_after first before) t.after (turns_in_order clock first before are.1) turn quiet).1
-
-none_mapped : (rs : List Reply) → map reply_text rs ≡ [] → rs ≡ []
-none_mapped [] e = refl
-none_mapped (r ∷ rs) e = cc
 
 none_up : (b : BoardDef) (pins : List (List Level)) (board : ℕ) (entries : List Entry) (turns : List BoardTurn) → AreBoardTurns (clock_of b) (first_state b pins board entries) turns
     → Undisturbed b pins board entries turns → AllConnecting turns → (stands_after (first_state b pins board entries) turns).core.link.up ≡ []

@@ -2,35 +2,11 @@
 use Rattle.std.proofs.Common.{◌≡◌, ℕ, zero, suc, Bool, true, false, cond, List, [], ◌∷◌, ◌++◌, length, Option, Some, None, refl, sym, subst}
 use Rattle.std.specs.List.{All}
 use Rattle.std.specs.Prelude.{◌==◌, slice_index_or}
-use Rattle.std.proofs.lemmas.List.Elements.{All-cons, All-nil}
-use Rattle.plan_types.specs.declared.levels.Level.{Level}
-use Rattle.plan_types.specs.declared.machine.AxisDef.{AxisDef}
-use Rattle.plan_types.specs.declared.machine.Machine.{Machine}
-use Rattle.plan_types.specs.Lines.{Clocks}
-use Rattle.plan_types.specs.Machines.{axis_at, board_at}
+use Rattle.laws_board.proofs.Names.{All-cons, All-nil, Level, AxisDef, Machine, Clocks, axis_at, board_at, turn_tick, Cmd, State, Control, Entry, Switch, Ctl, Order, End, Homing, answer_in, by_answer, command_to, commands_to, hears_all, homing_turn, order_command, Asking, ready, asks_now, clock_question, drifts, waits_in, configuration, Known, noted, Reacted, homing_commands, stop_command, stops, Came, known_by, last_reacted}
 use Rattle.plan_types.specs.Sections as section
-use Rattle.clock_line.specs.Early.{turn_tick}
-use Rattle.msg_code.specs.declared.cmd.Cmd.{Cmd}
 use Rattle.msg_code.specs.declared.cmd.Cmd.TheVariants as cmd
-use Rattle.msg_code.specs.declared.talk.State.{State}
-use Rattle.msg_code.specs.declared.unit.Control.{Control}
-use Rattle.wire_scene.specs.declared.scene.Entry.{Entry}
-use Rattle.wire_scene.specs.declared.scene.Switch.{Switch}
-use Rattle.trigger_group.specs.declared.order.Ctl.{Ctl}
-use Rattle.trigger_group.specs.declared.order.Order.{Order}
 use Rattle.trigger_group.specs.declared.order.Order.TheVariants as order
-use Rattle.trigger_group.specs.declared.order.End.{End}
 use Rattle.trigger_group.specs.declared.order.End.TheVariants as end
-use Rattle.axis_homing.specs.declared.homing.Homing.{Homing}
-use Rattle.axis_homing.specs.Homing.{answer_in, by_answer, command_to, commands_to, hears_all, homing_turn, order_command}
-use Rattle.board_asking.specs.declared.asking.Asking.{Asking}
-use Rattle.board_asking.specs.Asking.{ready}
-use Rattle.board_asking.specs.Drift.{asks_now, clock_question, drifts, waits_in}
-use Rattle.board_asking.specs.Machine.{configuration}
-use Rattle.host_reactor.specs.declared.ordered.Known.{Known}
-use Rattle.host_reactor.specs.Notes.{noted}
-use Rattle.host_reactor.specs.Reactor.{Reacted, homing_commands, stop_command, stops}
-use Rattle.host_reactor.specs.Runs.{Came, known_by, last_reacted}
 use Rattle.laws_board.specs.turns.Turns.{BoardTurn}
 use Rattle.laws_board.specs.clocks.Clocked.{SetsTo}
 use Rattle.laws_board.specs.clocks.Ordered.{MayOrder}

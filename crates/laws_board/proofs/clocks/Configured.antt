@@ -1,36 +1,17 @@
 -- What was ordered of a board's configuration, over the turns of a run.
 use Rattle.std.proofs.Common.{◌≡◌, ℕ, suc, ◌+◌, ◌<◌, ◌≤◌, Bool, true, false, cond, List, [], ◌∷◌, ◌++◌, map, take, drop, length, refl, ap, sym, ◌∙◌, subst, arith, append-nil}
 use Rattle.std.specs.Prelude.{not}
-use Rattle.std.specs.List.{filter, flat_map}
-use Rattle.std.proofs.lemmas.List.{length-append, map-append, take-append-drop}
-use Rattle.plan_types.specs.declared.levels.Level.{Level}
-use Rattle.plan_types.specs.declared.machine.AxisDef.{AxisDef}
-use Rattle.plan_types.specs.declared.machine.Machine.{Machine}
+use Rattle.laws_board.proofs.Names.{flat_map, map-append, take-append-drop, Level, AxisDef, Machine, Clocks, IsValidMachine, axis_at, board_at, Cmd, Control, Ctl, Order, Entry, Switch, Asking, Stage, Identify, Uptime, Configure, Config, Connected, Setup, ready, asks_now, clock_question, drifts, waits_in, configuration, trigger_of, command_to, commands_to, homing_turn, order_command, Known, Connecting, noted, Reacted, homing_commands, stop_command, stops, Came, known_by, last_reacted}
+use Rattle.std.specs.List.{filter}
+use Rattle.std.proofs.lemmas.List.{length-append}
 use Rattle.plan_types.specs.declared.machine.StepperDef.{StepperDef}
-use Rattle.plan_types.specs.Lines.{Clocks}
-use Rattle.plan_types.specs.Machines.{IsValidMachine, axis_at, board_at}
-use Rattle.msg_code.specs.declared.cmd.Cmd.{Cmd}
 use Rattle.msg_code.specs.declared.cmd.Cmd.TheVariants as cmd
-use Rattle.msg_code.specs.declared.unit.Control.{Control}
-use Rattle.trigger_group.specs.declared.order.Ctl.{Ctl}
-use Rattle.trigger_group.specs.declared.order.Order.{Order}
 use Rattle.trigger_group.specs.declared.order.Order.TheVariants as order
-use Rattle.wire_scene.specs.declared.scene.Entry.{Entry}
-use Rattle.wire_scene.specs.declared.scene.Switch.{Switch}
-use Rattle.board_asking.specs.declared.asking.Asking.{Asking}
-use Rattle.board_asking.specs.declared.asking.Stage.{Stage}
-use Rattle.board_asking.specs.declared.asking.Stage.TheVariants.{Identify, Uptime, Configure, Config, Connected}
-use Rattle.board_asking.specs.declared.setup.Setup.{Setup}
 use Rattle.board_asking.specs.declared.setup.Setup.TheVariants.{Stepper, Trsync, Finish}
-use Rattle.board_asking.specs.Asking.{after_asks, asks, is_connected, new_asking, ready}
-use Rattle.board_asking.specs.Drift.{after_question, asks_now, clock_question, drifts, is_asked_now, is_unanswered, waits_in}
-use Rattle.board_asking.specs.Machine.{configuration, endstop_pins, is_among, pins_of, setup_command, setup_endstops, setup_stepper, trigger_of}
-use Rattle.axis_homing.specs.Homing.{command_to, commands_to, homing_turn, order_command}
-use Rattle.host_reactor.specs.declared.ordered.Known.{Known}
-use Rattle.host_reactor.specs.declared.ordered.Phase.TheVariants.{Connecting, Running}
-use Rattle.host_reactor.specs.Notes.{noted}
-use Rattle.host_reactor.specs.Reactor.{Reacted, homing_commands, stop_command, stops}
-use Rattle.host_reactor.specs.Runs.{Came, known_by, last_reacted}
+use Rattle.board_asking.specs.Asking.{after_asks, asks, is_connected, new_asking}
+use Rattle.board_asking.specs.Drift.{after_question, is_asked_now, is_unanswered}
+use Rattle.board_asking.specs.Machine.{endstop_pins, is_among, pins_of, setup_command, setup_endstops, setup_stepper}
+use Rattle.host_reactor.specs.declared.ordered.Phase.TheVariants.{Running}
 use Rattle.laws_board.specs.turns.Turns.{BoardTurn, latest_state}
 use Rattle.laws_board.specs.clocks.Ordered.{commands_in, configures}
 use Rattle.laws_board.specs.clocks.Runs.{IsInRun}
@@ -38,6 +19,10 @@ use Rattle.laws_board.proofs.clocks.Lines.{noted_phase, run_before, stands, turn
 use Rattle.laws_board.proofs.clocks.Setups.{Conf, conf_asks, conf_heard, conf_ready, filter_both}
 use Rattle.laws_board.proofs.clocks.Turning.{Asks, BoardTurned, Ends, Runs, asking_at, new_at}
 use Rattle.std.specs.Prelude.{◌==◌, ◌&&◌}
+use Rattle.laws_board.proofs.causes.Told.{one_of}
+use Rattle.laws_board.proofs.causes.Ended.{running_not}
+use Rattle.axis_homing.proofs.Room.{pins-few}
+use Rattle.laws_board.proofs.causes.Hears.{either_same}
 
 -- commands of a running board configure nothing
 abbrev NoSetup : List Cmd → Type 0
@@ -72,19 +57,14 @@ run_none : (commands : List Cmd) (a : Asking) (stop : Bool) → NoSetup commands
 run_none commands a stop e =
     none_both commands _ e (none_both (clock_question commands a) (stop_command stop) (none_if (asks_now commands a) (cmd.GetUptime ∷ []) refl) (stop_none stop))
 
--- the asking of a running board keeps its stage
-either_stage : (b : Bool) (x y : Asking) (g : Stage) → x.stage ≡ g → y.stage ≡ g → (cond b x y).stage ≡ g
-either_stage true x y g e f = e
-either_stage false x y g e f = f
-
 waits_stage : (drifting : Bool) (k : ℕ) (a : Asking) → (waits_in drifting k a).stage ≡ a.stage
-waits_stage drifting k a = either_stage (is_unanswered k a.since) _ _ a.stage refl (either_stage (is_asked_now drifting k a.since) _ a a.stage refl refl)
+waits_stage drifting k a = either_same (is_unanswered k a.since) _ _ a.stage refl (either_same (is_asked_now drifting k a.since) _ a a.stage refl refl)
 
 question_stage : (k : ℕ) (commands : List Cmd) (a : Asking) → (after_question k commands a).stage ≡ a.stage
-question_stage k commands a = either_stage (asks_now commands a) _ a a.stage refl refl
+question_stage k commands a = either_same (asks_now commands a) _ a a.stage refl refl
 
 -- a configuration has few commands
-steppers_few : (b : ℕ) (ss : List StepperDef) → length (flat_map (setup_stepper b) ss) ≤ length ss
+pub steppers_few : (b : ℕ) (ss : List StepperDef) → length (flat_map (setup_stepper b) ss) ≤ length ss
 steppers_few b [] = omega arith
 steppers_few b (s ∷ ss) = let rest = steppers_few b ss in omega (arith, length-append (setup_stepper b s) (flat_map (setup_stepper b) ss), one_few (s.board == b) s)
   where
@@ -92,15 +72,7 @@ steppers_few b (s ∷ ss) = let rest = steppers_few b ss in omega (arith, length
     one_few true s = omega arith
     one_few false s = omega arith
 
-pub pins_few : (b : ℕ) (axes : List AxisDef) (pins : List ℕ) → length (pins_of b axes pins) ≤ length pins + length axes
-pins_few b [] pins = omega arith
-pins_few b (a ∷ axes) pins = one ((a.board == b) && not (is_among a.pin pins)) (λ ps. pins_few b axes ps)
-  where
-    one : (t : Bool) → ((ps : List ℕ) → length (pins_of b axes ps) ≤ length ps + length axes) → length (pins_of b axes (cond t (pins ++ a.pin ∷ []) pins)) ≤ length pins + length (a ∷ axes)
-    one true f = let k = f (pins ++ a.pin ∷ []) in omega (arith, length-append pins (a.pin ∷ []))
-    one false f = let k = f pins in omega arith
-
-endstops_few : (oid : ℕ) (pins : List ℕ) → length (setup_endstops oid pins) ≡ length pins
+pub endstops_few : (oid : ℕ) (pins : List ℕ) → length (setup_endstops oid pins) ≡ length pins
 endstops_few oid [] = refl
 endstops_few oid (p ∷ pins) = ap suc (endstops_few (oid + 1) pins)
 
@@ -110,16 +82,12 @@ setups_few m b v =
     let steppers = flat_map (setup_stepper b) m.steppers in
     let endstops = setup_endstops (trigger_of m b + 1) (endstop_pins m b) in
     let s = steppers_few b m.steppers in
-    let p = pins_few b m.axes [] in
+    let p = pins-few b m.axes [] in
     let e = endstops_few (trigger_of m b + 1) (endstop_pins m b) in
     let few = v.steppers_few in
     let three = v.axes_three in
     let tail = length-append endstops (Finish ∷ []) in
     omega (arith, length-append steppers (Trsync (trigger_of m b) ∷ (endstops ++ Finish ∷ [])))
-
--- over turns
-one_of : (x a : Asking) → x ∷ [] ≡ a ∷ [] → x ≡ a
-one_of x a e = cc
 
 more_done : (t : BoardTurn) (turns : List BoardTurn) → filter configures (commands_in (t ∷ turns)) ≡ filter configures (commands_in turns) ++ filter configures t.control.commands
 more_done t turns = filter_both (commands_in turns) t.control.commands
@@ -203,16 +171,13 @@ some_configured m switches pins entries b came turns v r =
     let s = stands m switches pins entries b came turns r in
     first_done (configuration m b) s.a.stage (filter configures (commands_in turns)) (done m switches pins entries b came turns v r s.a s.asking)
 
-not_running : Running ≡ Connecting → ⊥
-not_running e = cc
-
 -- in the turn in which connecting ends nothing is ordered
 ends_quiet : (m : Machine) (b : ℕ) (c : Came) (r : Known) (k : ℕ) (a : Asking) (x : Reacted) (t : BoardTurn) (turns : List BoardTurn) → r.phase ≡ Connecting → (x.known.phase ≡ Connecting → ⊥)
     → BoardTurned m r b k c.states a x t.control → filter configures (commands_in (t ∷ turns)) ≡ filter configures (commands_in turns)
 ends_quiet m b c r k a x t turns p n (Asks q g) = absurd (n g.phase)
 ends_quiet m b c r k a x t turns p n (Ends q g) =
     more_done t turns ∙ ap (λ (z : Control). filter configures (commands_in turns) ++ filter configures z.commands) g.control_is ∙ append-nil (filter configures (commands_in turns))
-ends_quiet m b c r k a x t turns p n (Runs q g) = absurd (not_running (sym q ∙ p))
+ends_quiet m b c r k a x t turns p n (Runs q g) = absurd (running_not (sym q ∙ p))
 
 pub configured_before : (m : Machine) (switches : List Switch) (pins : List (List Level)) (entries : List Entry) (b : ℕ) (c : Came) (before : List Came) (t : BoardTurn) (turns : List BoardTurn) → IsValidMachine m
     → IsInRun m switches pins entries b (c ∷ before) (t ∷ turns) → (known_by m switches before).phase ≡ Connecting → ((known_by m switches (c ∷ before)).phase ≡ Connecting → ⊥)

@@ -2,39 +2,19 @@
 use Rattle.std.proofs.Common.{◌≡◌, ℕ, ◌+◌, ◌-◌, ◌*◌, ◌≤◌, Bool, true, false, cond, List, [], ◌∷◌, ◌++◌, map, take, drop, Option, Some, None, refl, arith}
 use Rattle.std.specs.Prelude.{◌==◌, nat_lt}
 use Rattle.std.specs.List.{All}
-use Rattle.std.proofs.lemmas.Bool.{eqb-true}
-use Rattle.std.proofs.lemmas.List.Elements.{All-cons, All-nil}
-use Rattle.plan_types.specs.declared.machine.AxisDef.{AxisDef}
-use Rattle.plan_types.specs.declared.machine.Machine.{Machine}
-use Rattle.plan_types.specs.Lines.{Clocks}
-use Rattle.plan_types.specs.Machines.{axis_at}
-use Rattle.msg_code.specs.declared.cmd.Cmd.{Cmd}
+use Rattle.laws_board.proofs.Names.{eqb-true, All-cons, All-nil, AxisDef, Machine, Clocks, axis_at, Cmd, State, Ctl, End, Order, Goes as GroupGoes, Rests, Sends, Homes, Starts, Fired, Seen, GroupState, all_fired, first_timeout, phase, relay_in, relays_in, round_of, steppers, Asking, Stage, Identify, Uptime, Configure, Config, Connected, Setup, is_question_due, asks_now, clock_question, Homing, answer_in, by_answer, command_to, commands_to, hears_all, homing_turn, order_command, homing_commands, stop_command}
 use Rattle.msg_code.specs.declared.cmd.Cmd.TheVariants as cmd
-use Rattle.msg_code.specs.declared.talk.State.{State}
-use Rattle.trigger_group.specs.declared.order.Ctl.{Ctl}
-use Rattle.trigger_group.specs.declared.order.End.{End}
 use Rattle.trigger_group.specs.declared.order.End.TheVariants as end
-use Rattle.trigger_group.specs.declared.order.Order.{Order}
 use Rattle.trigger_group.specs.declared.order.Order.TheVariants as order
 use Rattle.trigger_group.specs.declared.round.Phase.{Phase}
-use Rattle.trigger_group.specs.declared.round.Phase.TheVariants.{Goes as GroupGoes, Rests, Sends}
 use Rattle.trigger_group.specs.declared.round.Round.{Round}
-use Rattle.trigger_group.specs.declared.round.Round.TheVariants.{Homes, Relays, Resets, Starts, Timeouts}
-use Rattle.trigger_group.specs.declared.seen.Fired.{Fired}
-use Rattle.trigger_group.specs.declared.seen.Seen.{Seen}
-use Rattle.trigger_group.specs.Group.{GroupState, all_fired, first_timeout, goes, limit, orders, orders_of_group, orders_to, phase, relay_in, relays_in, reset, round_of, steppers, stop, to_board, unless_fired}
-use Rattle.board_asking.specs.declared.asking.Asking.{Asking}
-use Rattle.board_asking.specs.declared.asking.Stage.{Stage}
-use Rattle.board_asking.specs.declared.asking.Stage.TheVariants.{Identify, Uptime, Configure, Config, Connected}
-use Rattle.board_asking.specs.declared.setup.Setup.{Setup}
+use Rattle.trigger_group.specs.declared.round.Round.TheVariants.{Relays, Resets, Timeouts}
+use Rattle.trigger_group.specs.Group.{goes, limit, orders, orders_of_group, orders_to, reset, stop, to_board, unless_fired}
 use Rattle.board_asking.specs.declared.setup.Setup.TheVariants.{Oids, Stepper, Trsync, Endstop, Finish}
-use Rattle.board_asking.specs.Asking.{asks, is_question_due, question}
-use Rattle.board_asking.specs.Drift.{asks_now, clock_question}
+use Rattle.board_asking.specs.Asking.{asks, question}
 use Rattle.board_asking.specs.Machine.{control_bytes, fitting, setup_command}
-use Rattle.axis_homing.specs.declared.homing.Homing.{Homing}
-use Rattle.axis_homing.specs.Homing.{answer_in, by_answer, command_to, commands_to, hears_all, hears_states, homing_turn, order_command}
+use Rattle.axis_homing.specs.Homing.{hears_states}
 use Rattle.axis_homing.proofs.Starts as starts
-use Rattle.host_reactor.specs.Reactor.{homing_commands, stop_command}
 use Rattle.laws_board.specs.clocks.Ordered.{IsHoming, MayOrder, SetsClocks}
 
 abbrev pub EachMay : Option Homing → ℕ → List Cmd → Type 0

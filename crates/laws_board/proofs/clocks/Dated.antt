@@ -1,19 +1,12 @@
 -- The replies under way that tell the clock: each tells the tick at which the board took the block in front of its number.
 use Rattle.std.proofs.Common.{◌≡◌, ℕ, suc, ◌+◌, ◌-◌, ◌*◌, ◌^◌, ◌<◌, ◌≤◌, Bool, true, false, List, [], ◌∷◌, map, refl, sym, ◌∙◌, subst, arith, inl, inr, length-append}
-use Rattle.std.proofs.lemmas.Bool.Decides.{eqb_tells, leb_tells}
-use Rattle.msg_dict.specs.Own.{own_formats}
-use Rattle.msg_code.specs.declared.cmd.Cmd.{Cmd}
+use Rattle.laws_board.proofs.Names.{eqb_tells, leb_tells, own_formats, Cmd, IsText, Reply, commands_of, Event, Core, Step, Do, Turn, does, after_event, in_turn, run_world, says, takes_in, wire_text, IsOrdered}
 use Rattle.msg_code.specs.declared.cmd.Cmd.TheVariants as cmd
-use Rattle.msg_code.specs.Text.{IsText}
-use Rattle.link_core.specs.Core.{Link, Command, Reply, InStep, sent, numbered}
+use Rattle.link_core.specs.Core.{Link, Command, InStep, sent, numbered}
 use Rattle.link_core.specs.Core as link
-use Rattle.board_sim.specs.Fair.{commands_of}
-use Rattle.board_world.specs.declared.event.Event.{Event}
 use Rattle.board_world.specs.declared.event.Event.TheVariants as event
-use Rattle.board_world.specs.World.{Core, Step, Do, Turn, does, after_event, in_turn, run_world, says, takes_in, wire_text}
-use Rattle.board_world.specs.Stands.{IsOrdered}
 use Rattle.board_world.proofs.Runs.{ordered_by, ordered_turn}
-use Rattle.link_work.proofs.Steps.{AllHold, tick_held}
+use Rattle.link_work.proofs.Steps.{AllHold, tick_held, handled, repeated, lost, garbled, replied, reply_lost}
 use Rattle.laws_board.proofs.clocks.Uptimes.{TellsTick, IsNoClock, none_said, tells_tick, tells_none}
 use Rattle.laws_board.proofs.clocks.Answers.{Each, all_tell, says_none}
 use Rattle.laws_board.proofs.clocks.Replies.{AllUp, IsBehind, IsNumber, up_by, up_more}
@@ -68,30 +61,6 @@ sent_sent l (c ∷ cs) =
     let more = length-append l.blocks (link.next_block 59 (c ∷ cs) ∷ []) in
     elim (leb_tells (suc (sent l - l.acked)) 12) [ inl p ↦ rw p.0 (omega (arith, more)) | inr p ↦ rw p.0 (omega arith) ]
 
-sent_handled : (l : Link) (n : ℕ) (answers : List (List ℕ)) → sent (link.handle l n answers) ≡ sent l
-sent_handled l n answers = elim (eqb_tells n l.accepted) [ inl p ↦ rw p.0 refl | inr p ↦ rw p.0 refl ]
-
-sent_repeated : (l : Link) (ns : List ℕ) (answers : List (List ℕ)) → sent (link.repeat l ns answers) ≡ sent l
-sent_repeated l [] answers = refl
-sent_repeated l (n ∷ ns) answers = sent_handled l n answers
-
-sent_lost : (l : Link) (ns : List ℕ) → sent (link.lose l ns) ≡ sent l
-sent_lost l [] = refl
-sent_lost l (n ∷ ns) = refl
-
-sent_garbled : (l : Link) (ns : List ℕ) (told : Bool) → sent (link.garble l ns told) ≡ sent l
-sent_garbled l [] told = refl
-sent_garbled l (n ∷ ns) true = refl
-sent_garbled l (n ∷ ns) false = refl
-
-sent_replied : (l : Link) (rs : List Reply) → sent (link.reply l rs) ≡ sent l
-sent_replied l [] = refl
-sent_replied l (r ∷ rs) = refl
-
-sent_unreplied : (l : Link) (rs : List Reply) → sent (link.lose_reply l rs) ≡ sent l
-sent_unreplied l [] = refl
-sent_unreplied l (r ∷ rs) = refl
-
 sent_by : (h : Core) (e : Event) → sent h.link ≤ sent (after_event h e).link
 sent_by h (event.Put b) = omega arith
 sent_by h (event.Control c) = omega arith
@@ -99,12 +68,12 @@ sent_by h event.Send = sent_sent h.link h.link.waiting
 sent_by h event.Resend = omega arith
 sent_by h event.Arrive =
     let answers = map wire_text (does h event.Arrive).answers in
-    omega (arith, sent_lost (link.repeat h.link h.link.down answers) h.link.down, sent_repeated h.link h.link.down answers)
-sent_by h event.Lose = omega (arith, sent_lost h.link h.link.down)
-sent_by h event.Garble = omega (arith, sent_garbled h.link h.link.down h.spoilt)
-sent_by h event.Repeat = omega (arith, sent_repeated h.link h.link.down (map wire_text (does h event.Repeat).answers))
-sent_by h event.Reply = omega (arith, sent_replied h.link h.link.up)
-sent_by h event.LoseReply = omega (arith, sent_unreplied h.link h.link.up)
+    omega (arith, lost (link.repeat h.link h.link.down answers) h.link.down, repeated h.link h.link.down answers)
+sent_by h event.Lose = omega (arith, lost h.link h.link.down)
+sent_by h event.Garble = omega (arith, garbled h.link h.link.down h.spoilt)
+sent_by h event.Repeat = omega (arith, repeated h.link h.link.down (map wire_text (does h event.Repeat).answers))
+sent_by h event.Reply = omega (arith, replied h.link h.link.up)
+sent_by h event.LoseReply = omega (arith, reply_lost h.link h.link.up)
 sent_by h (event.Pass t) = omega arith
 
 pub sent_grows : (steps : List Step) (h : Core) → sent h.link ≤ sent (run_world steps h).link

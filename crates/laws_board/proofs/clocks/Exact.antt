@@ -1,26 +1,11 @@
 -- Where no entry is used on a link while connecting, the board's first clock line is taken at once, and exact where its clock is.
 use Rattle.std.proofs.Common.{◌≡◌, ℕ, ◌+◌, ◌-◌, ◌*◌, ◌%◌, ◌^◌, ◌<◌, ◌≤◌, true, List, [], ◌∷◌, length, Option, Some, None, pos, ap, sym, ◌∙◌, subst, arith}
 use Rattle.std.specs.List.{All}
-use Rattle.plan_types.specs.declared.levels.Level.{Level}
-use Rattle.plan_types.specs.declared.machine.Machine.{Machine}
-use Rattle.plan_types.specs.declared.plan.Line.{Line}
-use Rattle.plan_types.specs.Clock.{board_tick, clock_of, tick, turn_ns}
-use Rattle.plan_types.specs.Machines.{board_at}
-use Rattle.wire_scene.specs.declared.scene.Entry.{Entry}
-use Rattle.wire_scene.specs.declared.scene.Switch.{Switch}
-use Rattle.wire_scene.specs.declared.scene.Way.TheVariants.{Down, Up}
+use Rattle.laws_board.proofs.Names.{Level, Machine, Line, board_tick, clock_of, tick, turn_ns, board_at, Entry, Switch, Down, Up, Known, Connecting, noted, Reacted, Came, known_by, last_reacted, Control, State, Asking, first_state}
 use Rattle.wire_scene.specs.Wire.{entries_of}
-use Rattle.host_reactor.specs.declared.ordered.Known.{Known}
-use Rattle.host_reactor.specs.declared.ordered.Phase.TheVariants.{Connecting}
-use Rattle.host_reactor.specs.Notes.{noted}
-use Rattle.host_reactor.specs.Reactor.{Reacted, phase_after}
-use Rattle.host_reactor.specs.Runs.{Came, known_by, last_reacted}
-use Rattle.msg_code.specs.declared.unit.Control.{Control}
-use Rattle.msg_code.specs.declared.talk.State.{State}
-use Rattle.board_asking.specs.declared.asking.Asking.{Asking}
+use Rattle.host_reactor.specs.Reactor.{phase_after}
 use Rattle.clock_line.specs.declared.sample.Sample.{Sample}
 use Rattle.clock_line.specs.Samples.{sampled}
-use Rattle.link_work.specs.Stands.{first_state}
 use Rattle.laws_board.specs.turns.Turns.{BoardTurn, stands_after}
 use Rattle.laws_board.specs.clocks.Near.{IsExact, IsUndisturbed}
 use Rattle.laws_board.specs.clocks.Runs.{IsInRun}
@@ -30,16 +15,12 @@ use Rattle.laws_board.proofs.clocks.Lines.{noted_phase, run_before, told_lines, 
 use Rattle.laws_board.proofs.clocks.Near.{exact_near}
 use Rattle.laws_board.proofs.clocks.Ordering.{tells}
 use Rattle.laws_board.proofs.clocks.Turning.{Asks, BoardTurned, Ends, Runs}
-
--- once connecting ended it stays so
-stop_not : (o : Option ℕ) → phase_after o ≡ Connecting → ⊥
-stop_not None e = cc
-stop_not (Some line) e = cc
+use Rattle.host_reactor.proofs.Connects.{stop-phase}
 
 was_connecting : (m : Machine) (r : Known) (b k : ℕ) (states : List State) (a : Asking) (x : Reacted) (c : Control) → BoardTurned m r b k states a x c → x.known.phase ≡ Connecting → r.phase ≡ Connecting
 was_connecting m r b k states a x c (Asks p g) e = p
 was_connecting m r b k states a x c (Ends p g) e = p
-was_connecting m r b k states a x c (Runs p g) e = absurd (stop_not g.stop (sym g.phase ∙ e))
+was_connecting m r b k states a x c (Runs p g) e = absurd (stop-phase g.stop (sym g.phase ∙ e))
 
 connecting_all : (m : Machine) (switches : List Switch) (pins : List (List Level)) (entries : List Entry) (b : ℕ) (came : List Came) (turns : List BoardTurn)
     → IsInRun m switches pins entries b came turns → (known_by m switches came).phase ≡ Connecting → AllConnecting turns

@@ -2,42 +2,25 @@
 use Rattle.std.proofs.Common.{◌≡◌, ℕ, suc, ◌+◌, ◌-◌, ◌⊎◌, inl, inr, Bool, true, false, cond, List, [], ◌∷◌, ◌++◌, length, Option, Some, None, refl, ap, sym, ◌∙◌, subst, arith}
 use Rattle.std.specs.Prelude.{◌&&◌, ◌==◌, not}
 use Rattle.std.specs.List.{All}
-use Rattle.std.proofs.lemmas.Bool.{eqb-true}
-use Rattle.std.proofs.lemmas.List.Elements.{All-cons, All-nil}
-use Rattle.plan_types.specs.declared.clock.BoardClock.{BoardClock}
-use Rattle.plan_types.specs.declared.levels.Level.{Level}
-use Rattle.plan_types.specs.declared.machine.Machine.{Machine}
-use Rattle.plan_types.specs.declared.plan.Line.{Line}
-use Rattle.plan_types.specs.Clock.{clock_of}
-use Rattle.plan_types.specs.Machines.{board_at}
+use Rattle.laws_board.proofs.Names.{eqb-true, All-cons, All-nil, BoardClock, Level, Machine, Line, clock_of, board_at, Cmd, News, State, Entry, Switch, LinkState, Asking, Stage, Connected, listen_all, Known, Connecting, noted, Reacted, Came, known_by, last_reacted, homing_turn}
 use Rattle.clock_line.specs.declared.sample.Sample.{Sample}
-use Rattle.msg_code.specs.declared.cmd.Cmd.{Cmd}
 use Rattle.msg_code.specs.declared.cmd.Cmd.TheVariants as cmd
-use Rattle.msg_code.specs.declared.talk.News.{News}
-use Rattle.msg_code.specs.declared.talk.State.{State}
 use Rattle.msg_code.specs.declared.talk.WordNews.{WordNews}
 use Rattle.msg_code.specs.declared.talk.WordNews.TheVariants as word
-use Rattle.wire_scene.specs.declared.scene.Entry.{Entry}
-use Rattle.wire_scene.specs.declared.scene.Switch.{Switch}
-use Rattle.link_work.specs.Turn.{LinkState}
-use Rattle.board_asking.specs.declared.asking.Asking.{Asking}
-use Rattle.board_asking.specs.declared.asking.Stage.{Stage}
-use Rattle.board_asking.specs.declared.asking.Stage.TheVariants.{Connected}
 use Rattle.board_asking.specs.Asking.{after_drift, answered, hears_first, is_connected, is_in_time, is_out, listens, or_asking, sample_of, tells_clock, were_put}
-use Rattle.board_asking.specs.Connecting.{board_line, listen_all, sample_or_none}
+use Rattle.board_asking.specs.Connecting.{board_line, sample_or_none}
 use Rattle.board_asking.specs.Drift.{new_line, new_lines}
-use Rattle.host_reactor.specs.declared.ordered.Known.{Known}
-use Rattle.host_reactor.specs.declared.ordered.Phase.TheVariants.{Connecting, Running}
-use Rattle.host_reactor.specs.Notes.{noted}
-use Rattle.host_reactor.specs.Reactor.{Reacted, homed}
-use Rattle.host_reactor.specs.Runs.{Came, known_by, last_reacted}
-use Rattle.axis_homing.specs.Homing.{homing_turn}
+use Rattle.host_reactor.specs.declared.ordered.Phase.TheVariants.{Running}
+use Rattle.host_reactor.specs.Reactor.{homed}
 use Rattle.laws_board.specs.turns.Turns.{AreBoardTurns, BoardTurn, latest_state}
 use Rattle.laws_board.specs.clocks.Runs.{IsInRun}
 use Rattle.laws_board.specs.clocks.Samples.{IsFresh, further_lines}
 use Rattle.laws_board.proofs.clocks.Askings.{IsAsking, connected_sample}
 use Rattle.laws_board.proofs.clocks.Lines.{noted_askings, run_before, turn_of, were_stage}
 use Rattle.laws_board.proofs.clocks.Turning.{Asks, BoardTurned, Ends, Runs, asking_at, heard_now}
+use Rattle.laws_board.proofs.causes.Told.{one_of}
+use Rattle.laws_board.proofs.causes.Ended.{running_not}
+use Rattle.host_reactor.proofs.Resting.{since-kept}
 
 -- an answer gives a sample of its turn
 abbrev GotIn : ℕ → Option Sample → Type 0
@@ -70,10 +53,6 @@ hears_heard turn [] a h = inl refl
 hears_heard turn (n ∷ ns) a h =
     or_heard turn a.since (answered turn a a.stage n.number n.answer) (hears_first turn ns a) (answer_got turn a a.stage n.number n.answer h) (hears_heard turn ns a h)
 
-were_since : (turn : ℕ) (ns : List ℕ) (a : Asking) → (were_put turn ns a).since ≡ a.since
-were_since turn [] a = refl
-were_since turn (n ∷ ns) a = were_since turn ns (record a { owed = a.owed - 1; put = Some (record { number = n; turn = turn }) })
-
 either_heard : (turn : ℕ) (since : Option ℕ) (b : Bool) (x y : Asking) → Heard turn since x → Heard turn since y → Heard turn since (cond b x y)
 either_heard turn since true x y h i = h
 either_heard turn since false x y h i = i
@@ -83,7 +62,7 @@ listens_heard a s h =
     let b = were_put s.turn s.asked a in
     let stage : is_connected b.stage ≡ true = ap is_connected (were_stage s.turn s.asked a) ∙ h in
     let all = either_heard s.turn b.since (is_in_time s.turn b.since) (hears_first s.turn s.news b) b (hears_heard s.turn s.news b stage) (inl refl) in
-    subst (λ (o : Option ℕ). Heard s.turn o (listens a s)) (were_since s.turn s.asked a) all
+    subst (λ (o : Option ℕ). Heard s.turn o (listens a s)) (since-kept s.turn s.asked a) all
 
 not_out : (x y : Option ℕ) → (is_out x && not (is_out y)) ≡ true → y ≡ x → ⊥
 not_out None y e f = cc
@@ -145,12 +124,6 @@ new_fresh m clock turns i b (x ∷ before) (y ∷ after) f =
 homed_fresh : (clock : BoardClock) (turns : List BoardTurn) (b : ℕ) (cut : Option ℕ) → AreFresh clock turns (further_lines b (homed cut))
 homed_fresh clock turns b None = tt
 homed_fresh clock turns b (Some tick) = tt
-
-one_of : (x a : Asking) → x ∷ [] ≡ a ∷ [] → x ≡ a
-one_of x a e = cc
-
-running_not : Running ≡ Connecting → ⊥
-running_not e = cc
 
 turn_fresh : (m : Machine) (b : ℕ) (c : Came) (r : Known) (t : BoardTurn) (turns : List BoardTurn) (k : ℕ) (first : LinkState) (x : Asking) (a : Asking) (y : Reacted) → AreBoardTurns (clock_of (board_at m b)) first turns
     → asking_at b r.askings.items ≡ x ∷ [] → a ≡ heard_now x (latest_state turns) → IsAsking (clock_of (board_at m b)) turns (length turns) a

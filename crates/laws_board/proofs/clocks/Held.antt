@@ -1,27 +1,12 @@
 -- Lines that hold one after the other keep up with their board, where each of them does in its time.
 use Rattle.std.proofs.Common.{◌≡◌, ℕ, ◌+◌, ◌*◌, ◌/◌, ◌<◌, ◌≤◌, inl, inr, List, [], ◌∷◌, max, refl, ap, arith}
-use Rattle.std.proofs.lemmas.Bool.Decides.{leb_tells}
-use Rattle.plan_types.specs.declared.clock.BoardClock.{BoardClock}
-use Rattle.plan_types.specs.declared.plan.Held.{Held}
-use Rattle.plan_types.specs.declared.plan.Line.{Line}
-use Rattle.plan_types.specs.Clock.{board_tick, tick, turn_ns}
-use Rattle.plan_types.specs.Lines.{AreHeld, Clocks, tick_over}
+use Rattle.laws_board.proofs.Names.{leb_tells, BoardClock, Held, Line, board_tick, tick, turn_ns, Clocks, AreKept}
+use Rattle.plan_types.specs.Lines.{AreHeld, tick_over}
 use Rattle.plan_types.proofs.OwnTicks.{rise}
-use Rattle.clock_line.specs.Kept.{AreKept}
 use Rattle.clock_line.proofs.Holding.{tick-mono}
 use Rattle.laws_board.specs.clocks.Near.{AllKeepUp, KeepsUp, LinesKeepUp, turn_from}
-
--- a tick never falls below what it had
-over_most : (line : Line) (most : ℕ) (held : List Held) (t : ℕ) → most ≤ tick_over line most held t
-over_most line most [] t = omega arith
-over_most line most (h ∷ held) t =
-    let later = over_most h.line (max most (tick line h.from)) held t in
-    let here : most ≤ max most (tick line t) = omega arith in
-    let there : most ≤ tick_over h.line (max most (tick line h.from)) held t = omega arith in
-    elim (leb_tells h.from t) [ inl p ↦ rw p.0 there | inr p ↦ rw p.0 here ]
-
-own_rises : (clock : BoardClock) (a b : ℕ) → a ≤ b → board_tick clock a ≤ board_tick clock b
-own_rises clock a b l = rise clock.start clock.freq a b clock.drift l
+use Rattle.clock_line.proofs.Turns.{tick_over-least}
+use Rattle.link_work.proofs.Units.{ticks_rise}
 
 -- lines behind which a tick is kept: from turn f on not behind, and from turn g on not far ahead
 record Held_so (clock : BoardClock) (line : Line) (most : ℕ) (held : List Held) (f g until : ℕ) : Type 0 where
@@ -31,7 +16,7 @@ record Held_so (clock : BoardClock) (line : Line) (most : ℕ) (held : List Held
 last_so : (clock : BoardClock) (line : Line) (most f g until : ℕ) → AllKeepUp clock f line [] until → f ≤ g → most < board_tick clock (g + 4) → Held_so clock line most [] f g until
 last_so clock line most f g until all l m = record {
   behind = λ k low high. let x = (all k low high).behind in omega arith;
-  ahead = λ k low high. let x = (all k (omega arith) high).ahead in let y = own_rises clock (g + 4) (k + 4) (omega arith) in omega arith;
+  ahead = λ k low high. let x = (all k (omega arith) high).ahead in let y = ticks_rise clock (g + 4) (k + 4) (omega arith) in omega arith;
 }
 
 behind_one : (clock : BoardClock) (line : Line) (most f k : ℕ) (h : Held) (held : List Held) → board_tick clock k ≤ tick line ((k + 1) * turn_ns)
@@ -39,7 +24,7 @@ behind_one : (clock : BoardClock) (line : Line) (most f k : ℕ) (h : Held) (hel
     → board_tick clock k ≤ tick_over line most (h ∷ held) ((k + 1) * turn_ns)
 behind_one clock line most f k h held x later =
     let t = (k + 1) * turn_ns in
-    let floor = over_most h.line (max most (tick line h.from)) held t in
+    let floor = tick_over-least h.line (max most (tick line h.from)) held t in
     let here : board_tick clock k ≤ max most (tick line t) = omega arith in
     elim (leb_tells h.from t) [
       | inl p ↦
@@ -74,14 +59,14 @@ held_so clock first line from most keep (h ∷ held) f g until a all l n m =
     let g_next : g ≤ next = n h held refl in
     let at = (up next (omega arith) (omega arith)).ahead in
     let mono = tick-mono line h.from (next * turn_ns) (omega arith) in
-    let grows = own_rises clock (g + 4) (next + 4) (omega arith) in
+    let grows = ticks_rise clock (g + 4) (next + 4) (omega arith) in
     let kept : max most (tick line h.from) < board_tick clock (next + 4) = omega arith in
     let rest = held_so clock first h.line h.from (max most (tick line h.from)) h.most held (h.from / turn_ns) next until a.4 all.1 (omega arith) (rises held a.4) kept in
     record {
       behind = λ k low high. either_behind k low high (up k low) rest.behind;
       ahead = λ k low high.
           ahead_one clock line most k h held
-          (λ early. let x = (up k (omega arith) (omega arith)).ahead in let y = own_rises clock (g + 4) (k + 4) (omega arith) in omega arith)
+          (λ early. let x = (up k (omega arith) (omega arith)).ahead in let y = ticks_rise clock (g + 4) (k + 4) (omega arith) in omega arith)
           (λ late. rest.ahead k late high);
     }
   where

@@ -1,21 +1,12 @@
 -- The bytes of a control.
 use Rattle.std.proofs.Common.{◌≡◌, ℕ, zero, suc, ◌≤◌, Bool, cond, List, [], ◌∷◌, map, length, refl, ap, arith}
-use Rattle.plan_types.specs.declared.levels.Level.{Level}
-use Rattle.plan_types.specs.declared.machine.Machine.{Machine}
-use Rattle.plan_types.specs.Machines.{IsValidMachine}
-use Rattle.msg_code.specs.declared.cmd.Cmd.{Cmd}
+use Rattle.laws_board.proofs.Names.{Level, Machine, IsValidMachine, Cmd, Control, Entry, Switch, plain, Stopping, Came, known_by, last_reacted}
 use Rattle.msg_code.specs.declared.cmd.Cmd.TheVariants as cmd
-use Rattle.msg_code.specs.declared.unit.Control.{Control}
 use Rattle.msg_code.proofs.Counted.{bytes_of as counted}
-use Rattle.wire_scene.specs.declared.scene.Entry.{Entry}
-use Rattle.wire_scene.specs.declared.scene.Switch.{Switch}
-use Rattle.board_world.specs.Orders.{plain}
 use Rattle.board_world.specs.World.{closes, on_wire}
 use Rattle.link_work.specs.Limits.{bytes_in, closing_in}
 use Rattle.board_asking.specs.Drift.{bytes_of}
-use Rattle.host_reactor.specs.declared.ordered.Phase.TheVariants.{Stopping}
 use Rattle.host_reactor.specs.Laws.{AskOnce, FitIn, is_uptime, uptimes}
-use Rattle.host_reactor.specs.Runs.{Came, known_by, last_reacted}
 use Rattle.host_reactor.proofs.Fitting.{all-fit, plain-fit}
 use Rattle.host_reactor.proofs.Once.{once}
 use Rattle.laws_board.specs.turns.Turns.{BoardTurn, control_at}

@@ -1,54 +1,28 @@
 -- The clock lines that a reactor tells, over the turns of a run.
 use Rattle.std.proofs.Common.{◌≡◌, ℕ, zero, suc, ◌+◌, ◌-◌, ◌^◌, ◌<◌, ◌≤◌, inl, Bool, true, false, cond, not, List, [], ◌∷◌, ◌++◌, length, Option, Some, None, refl, ap, sym, ◌∙◌, subst, arith, append_assoc}
-use Rattle.std.proofs.lemmas.Bool.{eqb-true}
-use Rattle.std.proofs.lemmas.List.Elements.{All-cons, All-nil}
+use Rattle.laws_board.proofs.Names.{eqb-true, All-cons, All-nil, BoardClock, BoardDef, Machine, Level, Line, board_tick, clock_of, Clocks, one_line, board_at, Cmd, News, Note, NoteNews, State, Entry, Switch, first_state, LinkState, Asking, Stage, Connected, ready, listen_all, asks_now, drifts, waits_in, configuration, homing_turn, Known, Phase, Connecting, noted, known_behind, told_all, Reacted, homing_commands, Came, known_by, last_reacted}
 use Rattle.std.specs.List.{All}
 use Rattle.std.specs.Prelude.{◌&&◌, ◌==◌, nat_lt, slice_index_or, slice_set}
-use Rattle.plan_types.specs.declared.clock.BoardClock.{BoardClock}
-use Rattle.plan_types.specs.declared.machine.BoardDef.{BoardDef}
-use Rattle.plan_types.specs.declared.machine.Machine.{Machine}
-use Rattle.plan_types.specs.declared.levels.Level.{Level}
-use Rattle.plan_types.specs.declared.plan.Line.{Line}
-use Rattle.plan_types.specs.Clock.{board_tick, clock_of}
-use Rattle.plan_types.specs.Lines.{Clocks, one_line}
-use Rattle.plan_types.specs.Machines.{board_at}
 use Rattle.clock_line.specs.Kept.{added}
 use Rattle.clock_line.specs.Fits.{added_where, may_hold}
-use Rattle.msg_code.specs.declared.cmd.Cmd.{Cmd}
 use Rattle.msg_code.specs.declared.cmd.Cmd.TheVariants as cmd
-use Rattle.msg_code.specs.declared.talk.News.{News}
-use Rattle.msg_code.specs.declared.talk.Note.{Note}
-use Rattle.msg_code.specs.declared.talk.NoteNews.{NoteNews}
 use Rattle.msg_code.specs.declared.talk.NoteNews.TheVariants as news
-use Rattle.msg_code.specs.declared.talk.State.{State}
 use Rattle.msg_code.specs.declared.talk.WordNews.{WordNews}
 use Rattle.msg_code.specs.declared.talk.WordNews.TheVariants as word
-use Rattle.wire_scene.specs.declared.scene.Entry.{Entry}
-use Rattle.wire_scene.specs.declared.scene.Switch.{Switch}
-use Rattle.link_work.specs.Stands.{first_state}
-use Rattle.link_work.specs.Turn.{LinkState}
 use Rattle.link_work.proofs.Parts.{ticks_rise}
-use Rattle.board_asking.specs.declared.asking.Asking.{Asking}
-use Rattle.board_asking.specs.declared.asking.Stage.{Stage}
-use Rattle.board_asking.specs.declared.asking.Stage.TheVariants.{Connected}
-use Rattle.board_asking.specs.Asking.{after_asks, after_drift, answered, hears_first, is_connected, is_out, is_in_time, listens, more, new_asking, or_asking, ready, sample_of, tells_clock, were_put}
+use Rattle.board_asking.specs.Asking.{after_asks, after_drift, answered, hears_first, is_connected, is_out, is_in_time, listens, more, new_asking, or_asking, sample_of, tells_clock, were_put}
 use Rattle.board_asking.specs.Clocks.{added_at, no_clocks}
-use Rattle.board_asking.specs.Connecting.{board_line, listen_all, sample_or_none}
-use Rattle.board_asking.specs.Drift.{after_question, asks_now, drifts, is_asked_now, is_unanswered, new_line, new_lines, waits_in}
-use Rattle.board_asking.specs.Machine.{configuration}
-use Rattle.axis_homing.specs.Homing.{homing_turn}
-use Rattle.host_reactor.specs.declared.ordered.Known.{Known}
-use Rattle.host_reactor.specs.declared.ordered.Phase.{Phase}
-use Rattle.host_reactor.specs.declared.ordered.Phase.TheVariants.{Connecting, Running}
-use Rattle.host_reactor.specs.Notes.{noted, known_behind, told_all}
-use Rattle.host_reactor.specs.Reactor.{Reacted, homed, homing_commands}
-use Rattle.host_reactor.specs.Runs.{Came, known_by, last_reacted}
+use Rattle.board_asking.specs.Connecting.{board_line, sample_or_none}
+use Rattle.board_asking.specs.Drift.{after_question, is_asked_now, is_unanswered, new_line, new_lines}
+use Rattle.host_reactor.specs.declared.ordered.Phase.TheVariants.{Running}
+use Rattle.host_reactor.specs.Reactor.{homed}
 use Rattle.laws_board.specs.turns.Turns.{AreBoardTurns, BoardTurn, IsBoardOf, latest_state}
 use Rattle.laws_board.specs.clocks.Runs.{IsInRun}
 use Rattle.laws_board.specs.clocks.Samples.{IsSampled, WasPut, WasTold, first_line, line_of, lines_told}
 use Rattle.laws_board.proofs.clocks.Askings.{IsAsking, asking_later, asking_more, asks_kept, listens_kept, new_is, question_kept, ready_kept, sample_more, waits_kept, connected_sample}
 use Rattle.laws_board.proofs.clocks.Links.{told_took}
 use Rattle.laws_board.proofs.clocks.Turning.{Asks, BoardTurned, Ends, Runs, asking_at, board_turned, clocks_at, heard_now, new_at}
+use Rattle.laws_board.proofs.causes.Ended.{running_not}
 
 -- once a board is connected it stays so
 pub were_stage : (turn : ℕ) (ns : List ℕ) (a : Asking) → (were_put turn ns a).stage ≡ a.stage
@@ -302,9 +276,6 @@ at_turn clock turns k n a e i = subst (λ (x : ℕ). IsAsking clock turns x a) e
 -- a phase that isn't connecting
 not_connecting : (p q : Phase) → p ≡ q → (q ≡ Connecting → ⊥) → p ≡ Connecting → ⊥
 not_connecting p q e n f = n (sym e ∙ f)
-
-running_not : Running ≡ Connecting → ⊥
-running_not e = cc
 
 stands_after_turn : (m : Machine) (b : ℕ) (c : Came) (r : Known) (before : List Came) (t : BoardTurn) (turns : List BoardTurn) (k : ℕ) (a : Asking) (x : Reacted) → k ≡ length turns
     → Stands (clock_of (board_at m b)) b r turns → IsAsking (clock_of (board_at m b)) turns k a → ((r.phase ≡ Connecting → ⊥) → is_connected a.stage ≡ true) → BoardTurned m r b k c.states a x t.control

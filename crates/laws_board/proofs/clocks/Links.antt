@@ -1,29 +1,17 @@
 -- What a board tells of its clock over turns of its link.
 use Rattle.std.proofs.Common.{◌≡◌, ℕ, suc, ◌+◌, ◌^◌, ◌<◌, ◌≤◌, ◌⊎◌, inl, inr, Bool, true, false, cond, List, [], ◌∷◌, ◌++◌, length, Option, Some, None, refl, ap, sym, ◌∙◌, subst, arith}
 use Rattle.std.specs.Prelude.{◌&&◌, nat_lt}
-use Rattle.plan_types.specs.declared.clock.BoardClock.{BoardClock}
-use Rattle.plan_types.specs.declared.machine.BoardDef.{BoardDef}
-use Rattle.plan_types.specs.declared.levels.Level.{Level}
-use Rattle.plan_types.specs.Clock.{board_tick, clock_of, tick_limit}
-use Rattle.msg_dict.specs.Own.{own_formats}
-use Rattle.msg_code.specs.declared.cmd.Cmd.{Cmd}
+use Rattle.laws_board.proofs.Names.{BoardClock, BoardDef, Level, board_tick, clock_of, own_formats, Cmd, News, IsText, Entry, Down, Up, Reply, Core, Step, Do, world_after, after_event, run_world, IsOrdered, LinkState, Orders, IsTurn, after_board, after_host, come, first_state, orders, run_append, turns_are_steps}
+use Rattle.plan_types.specs.Clock.{tick_limit}
 use Rattle.msg_code.specs.declared.cmd.Cmd.TheVariants as cmd
-use Rattle.msg_code.specs.declared.talk.News.{News}
-use Rattle.msg_code.specs.Text.{IsText}
-use Rattle.wire_scene.specs.declared.scene.Entry.{Entry}
-use Rattle.wire_scene.specs.declared.scene.Way.TheVariants.{Down, Up}
-use Rattle.link_core.specs.Core.{Reply, sent}
+use Rattle.link_core.specs.Core.{sent}
 use Rattle.link_core.specs.Stands.{last_closes}
 use Rattle.board_world.specs.declared.event.Event.TheVariants as event
-use Rattle.board_world.specs.World.{Core, Step, Do, world_after, after_event, run_world}
-use Rattle.board_world.specs.Stands.{IsAnswer, IsOrdered}
+use Rattle.board_world.specs.Stands.{IsAnswer}
 use Rattle.board_world.proofs.Runs.{ordered, start_ordered}
-use Rattle.link_work.specs.Turn.{LinkState, Orders, IsTurn, after_board, after_host, after_replies, come, host_steps}
-use Rattle.link_work.specs.Stands.{first_state, orders}
+use Rattle.link_work.specs.Turn.{after_replies, host_steps}
 use Rattle.link_work.specs.Told.{AreNews, IsTold, asked_at, asked_in, before_replies, heard_in, news_of}
 use Rattle.link_work.proofs.Parts.{starts_in_time, ticks_rise}
-use Rattle.link_work.proofs.Sending.{run_append}
-use Rattle.link_work.proofs.Turns.{turns_are_steps}
 use Rattle.link_work.proofs.Steps.{come_holds, host_holds, tick_held, tick_passed}
 use Rattle.laws_board.specs.turns.Turns.{BoardTurn, AreBoardTurns, stands_after}
 use Rattle.laws_board.specs.clocks.Samples.{IsAmong, WasPut, IsClock, TellsClock, WasTold}

@@ -2,8 +2,8 @@
 use Rattle.std.proofs.Common.{◌≡◌, ℕ, ℤ, pos, negsuc, ◌+◌, ◌-◌, ◌*◌, ◌/◌, ◌%◌, ◌<◌, ◌≤◌, List, refl, ap, sym, ◌∙◌, subst, arith}
 use Rattle.std.proofs.Math.Nat.{mul-le-mul_left, mul-le-mul_right}
 use Rattle.plan_types.proofs.OwnTicks.{exact, rise}
-use Rattle.plan_types.specs.declared.clock.BoardClock.{BoardClock}
-use Rattle.plan_types.specs.Clock.{board_tick, own_tick, rate, tick, turn_ns}
+use Rattle.laws_board.proofs.Names.{BoardClock, board_tick, tick, turn_ns}
+use Rattle.plan_types.specs.Clock.{own_tick, rate}
 use Rattle.clock_line.specs.declared.sample.Sample.{Sample}
 use Rattle.clock_line.specs.Samples.{AreWithin, line_reach, own, ppm_size, sample_at, sampled}
 use Rattle.clock_line.proofs.Nears.{near, stay_near}
@@ -139,7 +139,7 @@ keeps_up clock turns s k v d i l m =
     up_at clock s (clock.freq / 1_000) (k - s.sent) k (omega arith) (omega arith) d (omega arith) m (omega arith) (omega arith)
 
 -- without a drift a line keeps up for good
-turn_long : (clock : BoardClock) (k : ℕ) → IsValidFreq clock.freq → ppm_size clock.drift ≤ 200 → board_tick clock k < board_tick clock (k + 1)
+pub turn_long : (clock : BoardClock) (k : ℕ) → IsValidFreq clock.freq → ppm_size clock.drift ≤ 200 → board_tick clock k < board_tick clock (k + 1)
 turn_long clock k v d =
     let w = v.whole in
     let z = v.low in

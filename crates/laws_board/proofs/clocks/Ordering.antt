@@ -1,30 +1,15 @@
 -- What the reactor orders of one board, over the turns of a run.
 use Rattle.std.proofs.Common.{◌≡◌, ℕ, true, false, List, ◌∷◌, length, Option, refl, sym, ◌∙◌, subst}
 use Rattle.std.specs.List.{All}
-use Rattle.plan_types.specs.declared.levels.Level.{Level}
-use Rattle.plan_types.specs.declared.machine.Machine.{Machine}
-use Rattle.plan_types.specs.Machines.{board_at}
-use Rattle.msg_code.specs.declared.unit.Control.{Control}
-use Rattle.wire_scene.specs.declared.scene.Entry.{Entry}
-use Rattle.wire_scene.specs.declared.scene.Switch.{Switch}
-use Rattle.board_asking.specs.declared.asking.Asking.{Asking}
-use Rattle.board_asking.specs.Asking.{ready}
-use Rattle.board_asking.specs.Drift.{drifts, waits_in}
-use Rattle.board_asking.specs.Machine.{configuration}
-use Rattle.axis_homing.specs.declared.homing.Homing.{Homing}
-use Rattle.axis_homing.specs.Homing.{homing_turn}
-use Rattle.host_reactor.specs.declared.ordered.Known.{Known}
-use Rattle.host_reactor.specs.declared.ordered.Phase.{Phase}
-use Rattle.host_reactor.specs.declared.ordered.Phase.TheVariants.{Connecting, Running}
-use Rattle.host_reactor.specs.Notes.{noted}
-use Rattle.host_reactor.specs.Reactor.{Reacted, homing_commands, stops}
-use Rattle.host_reactor.specs.Runs.{Came, known_by, last_reacted}
+use Rattle.laws_board.proofs.Names.{Level, Machine, board_at, Control, Entry, Switch, Asking, ready, drifts, waits_in, configuration, Homing, homing_turn, Known, Phase, Connecting, noted, Reacted, homing_commands, stops, Came, known_by, last_reacted}
+use Rattle.host_reactor.specs.declared.ordered.Phase.TheVariants.{Running}
 use Rattle.laws_board.specs.turns.Turns.{BoardTurn}
 use Rattle.laws_board.specs.clocks.Ordered.{MayOrder}
 use Rattle.laws_board.specs.clocks.Runs.{IsInRun}
 use Rattle.laws_board.proofs.clocks.Controls.{EachMay, all_may, may_ask, may_home, may_run}
 use Rattle.laws_board.proofs.clocks.Lines.{noted_phase, turn_of}
 use Rattle.laws_board.proofs.clocks.Turning.{Asks, BoardTurned, Ends, Runs}
+use Rattle.laws_board.proofs.causes.Ended.{running_not}
 
 abbrev MayAll : Option Homing → ℕ → Control → Type 0
 MayAll h k c = EachMay h k c.commands
@@ -51,13 +36,10 @@ may_order m switches pins entries b c before t turns r =
 abbrev Tells : Phase → ℕ → Control → Type 0
 Tells p k c = (c.turn ≡ k) × (c.end ≡ false) × (p ≡ Connecting → c.connected ≡ false) × ((p ≡ Connecting → ⊥) → c.connected ≡ true)
 
-not_running : Running ≡ Connecting → ⊥
-not_running e = cc
-
 turn_tells : (m : Machine) (b : ℕ) (c : Came) (r : Known) (k : ℕ) (a : Asking) (x : Reacted) (t : BoardTurn) → BoardTurned m r b k c.states a x t.control → Tells r.phase k t.control
 turn_tells m b c r k a x t (Asks p g) = subst (λ (y : Control). Tells r.phase k y) (sym g.control_is) (refl, refl, λ e. refl, λ n. absurd (n p))
 turn_tells m b c r k a x t (Ends p g) = subst (λ (y : Control). Tells r.phase k y) (sym g.control_is) (refl, refl, λ e. refl, λ n. absurd (n p))
-turn_tells m b c r k a x t (Runs p g) = subst (λ (y : Control). Tells r.phase k y) (sym g.control_is) (refl, refl, λ e. absurd (not_running (sym p ∙ e)), λ n. refl)
+turn_tells m b c r k a x t (Runs p g) = subst (λ (y : Control). Tells r.phase k y) (sym g.control_is) (refl, refl, λ e. absurd (running_not (sym p ∙ e)), λ n. refl)
 
 pub tells : (m : Machine) (switches : List Switch) (pins : List (List Level)) (entries : List Entry) (b : ℕ) (c : Came) (before : List Came) (t : BoardTurn) (turns : List BoardTurn)
     → IsInRun m switches pins entries b (c ∷ before) (t ∷ turns) → Tells (known_by m switches before).phase (length before) t.control

@@ -1,30 +1,15 @@
 -- The turns of a board in their order.
 use Rattle.std.proofs.Common.{◌≡◌, ℕ, ◌+◌, List, [], ◌∷◌, ◌++◌, length, refl, sym, ◌∙◌, subst, arith, length-append}
-use Rattle.plan_types.specs.declared.clock.BoardClock.{BoardClock}
-use Rattle.plan_types.specs.declared.levels.Level.{Level}
-use Rattle.plan_types.specs.declared.machine.Machine.{Machine}
-use Rattle.plan_types.specs.Machines.{IsValidMachine}
-use Rattle.wire_scene.specs.declared.scene.Entry.{Entry}
-use Rattle.wire_scene.specs.declared.scene.Switch.{Switch}
+use Rattle.laws_board.proofs.Names.{BoardClock, Level, Machine, IsValidMachine, Entry, Switch, AllKeepLimits, AreTurns, orders, IsTurn, LinkState, Orders, State, Control, Asking, Known, Phase, Connecting, Stopping, noted, Reacted, Came, known_by, last_reacted}
 use Rattle.link_work.specs.Ends.{EndSo, Ended, last_link}
-use Rattle.link_work.specs.Limits.{AllKeepLimits, KeepsLimits}
-use Rattle.link_work.specs.Runs.{AreTurns}
-use Rattle.link_work.specs.Stands.{orders}
-use Rattle.link_work.specs.Turn.{IsTurn, LinkState, Orders}
-use Rattle.msg_code.specs.declared.talk.State.{State}
-use Rattle.msg_code.specs.declared.unit.Control.{Control}
-use Rattle.board_asking.specs.declared.asking.Asking.{Asking}
-use Rattle.host_reactor.specs.declared.ordered.Known.{Known}
-use Rattle.host_reactor.specs.declared.ordered.Phase.{Phase}
-use Rattle.host_reactor.specs.declared.ordered.Phase.TheVariants.{Connecting, Running, Stopping}
-use Rattle.host_reactor.specs.Notes.{noted}
-use Rattle.host_reactor.specs.Reactor.{Reacted}
-use Rattle.host_reactor.specs.Runs.{Came, known_by, last_reacted}
+use Rattle.link_work.specs.Limits.{KeepsLimits}
+use Rattle.host_reactor.specs.declared.ordered.Phase.TheVariants.{Running}
 use Rattle.laws_board.specs.turns.Turns.{AreBoardTurns, BoardTurn, stands_after}
 use Rattle.laws_board.specs.clocks.Runs.{IsInRun, UnitsFit, ends_in, orders_in}
 use Rattle.laws_board.proofs.clocks.Limits.{control_closing, plain_bytes}
 use Rattle.laws_board.proofs.clocks.Lines.{noted_phase, run_before, turn_of}
 use Rattle.laws_board.proofs.clocks.Turning.{Asks, BoardTurned, Ends, Runs}
+use Rattle.link_work.proofs.Shut.{last_more}
 
 pub order_length : (turns : List BoardTurn) → length (orders_in turns) ≡ length turns
 order_length [] = refl
@@ -42,14 +27,9 @@ turns_in_order clock first [] are = refl
 turns_in_order clock first (t ∷ before) are =
     one_later clock 0 (length before) (orders_in before) (orders t.control t.batch) first (stands_after first before) t.after (turns_in_order clock first before are.1) (omega (arith, order_length before)) are.0.0
 
--- how they end
-last_is : (l : LinkState) (ends : List Ended) (e : Ended) → last_link l (ends ++ e ∷ []) ≡ e.link
-last_is l [] e = refl
-last_is l (x ∷ ends) e = last_is x.link ends e
-
 pub last_stands : (first : LinkState) (turns : List BoardTurn) → last_link first (ends_in turns) ≡ stands_after first turns
 last_stands first [] = refl
-last_stands first (t ∷ before) = last_is first (ends_in before) (record { turn = length before; link = t.after })
+last_stands first (t ∷ before) = last_more first (ends_in before) (record { turn = length before; link = t.after })
 
 end_later : (clock : BoardClock) (turn n : ℕ) (os : List Orders) (o : Orders) (l m k : LinkState) (ends : List Ended) → EndSo clock turn os l ends → last_link l ends ≡ m → n ≡ turn + length os → IsTurn clock n o m k
     → EndSo clock turn (os ++ o ∷ []) l (ends ++ record { turn = n; link = k } ∷ [])
@@ -72,13 +52,13 @@ limits_both : (xs : List Orders) (o : Orders) → AllKeepLimits xs → KeepsLimi
 limits_both [] o k l = (l, tt)
 limits_both (x ∷ xs) o k l = (k.0, limits_both xs o k.1 l)
 
-not_stopped : (p : Phase) (line : ℕ) → p ≡ Connecting → p ≡ Stopping line → ⊥
+pub not_stopped : (p : Phase) (line : ℕ) → p ≡ Connecting → p ≡ Stopping line → ⊥
 not_stopped p line e f = let g : Connecting ≡ Stopping line = sym e ∙ f in cc
 
-not_stopping : (p : Phase) (line : ℕ) → p ≡ Running → p ≡ Stopping line → ⊥
+pub not_stopping : (p : Phase) (line : ℕ) → p ≡ Running → p ≡ Stopping line → ⊥
 not_stopping p line e f = let g : Running ≡ Stopping line = sym e ∙ f in cc
 
-goes_before : (m : Machine) (r : Known) (b k : ℕ) (states : List State) (a : Asking) (x : Reacted) (c : Control) → BoardTurned m r b k states a x c → (line : ℕ) → r.phase ≡ Stopping line → ⊥
+pub goes_before : (m : Machine) (r : Known) (b k : ℕ) (states : List State) (a : Asking) (x : Reacted) (c : Control) → BoardTurned m r b k states a x c → (line : ℕ) → r.phase ≡ Stopping line → ⊥
 goes_before m r b k states a x c (Asks p g) line e = not_stopped r.phase line p e
 goes_before m r b k states a x c (Ends p g) line e = not_stopped r.phase line p e
 goes_before m r b k states a x c (Runs p g) line e = not_stopping r.phase line p e

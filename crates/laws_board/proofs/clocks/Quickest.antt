@@ -1,7 +1,7 @@
 -- The sample that is taken is the first of the quickest.
 use Rattle.std.proofs.Common.{◌≡◌, ◌⊎◌, ℕ, ◌<◌, ◌≤◌, All, Bool, true, false, cond, nat_lt, List, [], ◌∷◌, Some, None, inl, inr, refl, sym, ap, subst, arith}
 use Rattle.std.proofs.lemmas.Bool.{ltb-false, ltb-true}
-use Rattle.std.proofs.lemmas.List.Elements.{All-cons, All-nil}
+use Rattle.laws_board.proofs.Names.{All-cons, All-nil}
 use Rattle.clock_line.specs.declared.sample.Sample.{Sample}
 use Rattle.clock_line.specs.Samples.{best, better, chosen, sampled, took}
 use Rattle.laws_board.specs.clocks.Quickest.{IsQuickest, best_behind}

@@ -1,17 +1,14 @@
 -- What holds of each reply under way on a link: behind any event, and of the replies that come.
 use Rattle.std.proofs.Common.{◌≡◌, ℕ, suc, ◌+◌, ◌-◌, Bool, true, false, List, [], ◌∷◌, ◌++◌, map, take, refl, sym, subst, inl, inr}
-use Rattle.std.proofs.lemmas.Bool.Decides.{eqb_tells, leb_tells}
-use Rattle.wire_scene.specs.declared.scene.Way.TheVariants.{Up}
+use Rattle.laws_board.proofs.Names.{eqb_tells, leb_tells, Up, Reply, Event, Core, Step, Do, does, after_event, run_world, wire_text, come}
 use Rattle.wire_scene.specs.Wire.{Copy}
 use Rattle.wire_scene.specs.declared.wire.Fate.{Fate}
 use Rattle.wire_scene.specs.declared.wire.Fate.TheVariants.{Lost, Last, Stays, Garbled}
-use Rattle.link_core.specs.Core.{Link, Command, Reply, sent, numbered}
+use Rattle.link_core.specs.Core.{Link, Command, sent, numbered}
 use Rattle.link_core.specs.Core as link
-use Rattle.board_world.specs.declared.event.Event.{Event}
 use Rattle.board_world.specs.declared.event.Event.TheVariants as event
-use Rattle.board_world.specs.World.{Core, Step, Do, does, after_event, run_world, wire_text}
 use Rattle.link_work.specs.Told.{heard_in}
-use Rattle.link_work.specs.Turn.{come, comes}
+use Rattle.link_work.specs.Turn.{comes}
 use Rattle.link_work.proofs.Steps.{AllOf, all_come}
 
 -- each of some replies is so

@@ -3,18 +3,12 @@ use Rattle.std.proofs.Common.{◌≡◌, ℕ, ◌+◌, ◌-◌, ◌^◌, ◌<◌
 use Rattle.std.specs.Prelude.{◌==◌, ◌%◌, nat_le, nat_lt}
 use Rattle.std.specs.List.{filter}
 use Rattle.std.proofs.Math.Seq.{take-add}
-use Rattle.std.proofs.lemmas.List.{length-drop, map-append, take-append-drop}
+use Rattle.laws_board.proofs.Names.{map-append, take-append-drop, Cmd, News, State, Asking, Stage, Identify, Uptime, Configure, Config, Connected, Setup, is_question_due}
+use Rattle.std.proofs.lemmas.List.{length-drop}
 use Rattle.msg_code.specs.Bytes.{command_bytes}
-use Rattle.msg_code.specs.declared.cmd.Cmd.{Cmd}
 use Rattle.msg_code.specs.declared.cmd.Cmd.TheVariants as cmd
-use Rattle.msg_code.specs.declared.talk.News.{News}
-use Rattle.msg_code.specs.declared.talk.State.{State}
-use Rattle.board_asking.specs.declared.asking.Asking.{Asking}
-use Rattle.board_asking.specs.declared.asking.Stage.{Stage}
-use Rattle.board_asking.specs.declared.asking.Stage.TheVariants.{Identify, Uptime, Configure, Config, Connected}
-use Rattle.board_asking.specs.declared.setup.Setup.{Setup}
 use Rattle.board_asking.specs.declared.setup.Setup.TheVariants.{Oids, Stepper, Trsync, Endstop, Finish}
-use Rattle.board_asking.specs.Asking.{after_asks, after_clock, after_drift, after_piece, answered, asked, asks, hears_first, is_question_due, is_in_time, is_over, more, or_asking, question, ready_stage, sample_of, settled, tells_clock, were_put}
+use Rattle.board_asking.specs.Asking.{after_asks, after_clock, after_drift, after_piece, answered, asked, asks, hears_first, is_in_time, is_over, more, or_asking, question, ready_stage, sample_of, settled, tells_clock, were_put}
 use Rattle.board_asking.specs.Machine.{control_bytes, fitting, setup_command}
 use Rattle.laws_board.specs.clocks.Ordered.{configures}
 use Rattle.laws_board.proofs.clocks.Lines.{were_stage}

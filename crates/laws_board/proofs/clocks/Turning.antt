@@ -1,37 +1,16 @@
 -- What a turn of the reactor that doesn't end the run makes of one board.
 use Rattle.std.proofs.Common.{◌≡◌, ℕ, zero, suc, ◌+◌, ◌<◌, ◌⊎◌, inl, inr, Bool, true, false, cond, List, [], ◌∷◌, ◌++◌, length, Option, Some, None, refl, ap, sym, ◌∙◌, subst, arith}
 use Rattle.std.specs.Prelude.{◌&&◌}
-use Rattle.plan_types.specs.declared.machine.Machine.{Machine}
-use Rattle.plan_types.specs.declared.machine.BoardDef.{BoardDef}
-use Rattle.plan_types.specs.declared.cause.Cause.{Cause}
-use Rattle.plan_types.specs.declared.plan.Line.{Line}
-use Rattle.plan_types.specs.declared.plan.ReadStop.{ReadStop}
+use Rattle.laws_board.proofs.Names.{Machine, BoardDef, Cause, Line, ReadStop, Clocks, one_line, axis_at, board_at, Cmd, Control, State, Note, ReportLine, Switch, Asking, configuration, ready, listen_all, ready_all, giving_up, all_connected, drifts, stale, waits_in, HomingTurn, homing_turn, Known, Phase, Connecting, Stopping, noted, news_of, is_out, first_lines, first_cause, stop_of, Reacted, homing_commands, stop_command, stops, cut_line, unless_stale, by_phase, unless_ended, reacts, state_at, both_parts}
 use Rattle.plan_types.specs.declared.plan.ReadStop.TheVariants as read
-use Rattle.plan_types.specs.Lines.{Clocks, one_line}
-use Rattle.plan_types.specs.Machines.{axis_at, board_at}
-use Rattle.msg_code.specs.declared.cmd.Cmd.{Cmd}
-use Rattle.msg_code.specs.declared.unit.Control.{Control}
-use Rattle.msg_code.specs.declared.talk.State.{State}
-use Rattle.msg_code.specs.declared.talk.Note.{Note}
 use Rattle.msg_code.specs.declared.talk.WordNews.TheVariants as word
-use Rattle.report_text.specs.declared.line.ReportLine.{ReportLine}
-use Rattle.wire_scene.specs.declared.scene.Switch.{Switch}
-use Rattle.board_asking.specs.declared.asking.Asking.{Asking}
-use Rattle.board_asking.specs.Machine.{configuration}
-use Rattle.board_asking.specs.Asking.{new_asking, listens, ready, asks, after_asks, is_connected}
-use Rattle.board_asking.specs.Connecting.{listen_all, ready_all, giving_up, all_connected, control, asking_controls, ask_all, board_line, board_lines, one_line_clocks}
-use Rattle.board_asking.specs.Drift.{drifts, stale, waiting, waits_in, after_question, new_lines}
-use Rattle.axis_homing.specs.declared.homing.HomingTurn.{HomingTurn}
-use Rattle.axis_homing.specs.Homing.{homing_turn}
-use Rattle.host_reactor.specs.declared.ordered.Known.{Known}
-use Rattle.host_reactor.specs.declared.ordered.Phase.{Phase}
-use Rattle.host_reactor.specs.declared.ordered.Phase.TheVariants.{Connecting, Running, Stopping}
-use Rattle.host_reactor.specs.Notes.{noted, news_of, is_out}
-use Rattle.host_reactor.specs.Report.{first_lines}
-use Rattle.host_reactor.specs.Running.{first_cause, is_finished, stop_of}
-use Rattle.host_reactor.specs.Reactor.{Reacted, new_askings, plain_controls, asks_boards, is_connected_now, unless_given_up, homing_commands, run_control, run_controls, run_askings, stop_command, stops, homed, phase_after, cut_line, carries_on, finishes, unless_homing_ends, after_homing, unless_stale, unless_late_stale, by_phase, unless_ended, reacts}
+use Rattle.board_asking.specs.Asking.{new_asking, listens, asks, after_asks, is_connected}
+use Rattle.board_asking.specs.Connecting.{control, asking_controls, ask_all, board_line, board_lines, one_line_clocks}
+use Rattle.board_asking.specs.Drift.{waiting, after_question, new_lines}
+use Rattle.host_reactor.specs.declared.ordered.Phase.TheVariants.{Running}
+use Rattle.host_reactor.specs.Running.{is_finished}
+use Rattle.host_reactor.specs.Reactor.{new_askings, plain_controls, asks_boards, is_connected_now, unless_given_up, run_control, run_controls, run_askings, homed, phase_after, carries_on, finishes, unless_homing_ends, after_homing, unless_late_stale}
 use Rattle.laws_board.specs.turns.Turns.{control_at}
-use Rattle.host_reactor.specs.Runs.{state_at}
 use Rattle.laws_board.specs.clocks.Samples.{line_at}
 
 abbrev end_of : Reacted → Option Cause
@@ -228,17 +207,13 @@ clocks_are b [] l e = cc
 clocks_are zero (x ∷ lines) l e = let f : x ≡ l = cc in ap (λ (y : Line). one_line y ∷ []) f
 clocks_are (suc b) (x ∷ lines) l e = clocks_are b lines l e
 
-both_true : (a b : Bool) → (a && b) ≡ true → (a ≡ true) × (b ≡ true)
-both_true true b e = (refl, e)
-both_true false b e = cc
-
 first_is : (c d : Control) → c ∷ [] ≡ d ∷ [] → c ≡ d
 first_is c d e = cc
 
 connected_at : (b : ℕ) (askings : List Asking) (a : Asking) → all_connected askings ≡ true → asking_at b askings ≡ a ∷ [] → is_connected a.stage ≡ true
 connected_at b [] a h e = cc
-connected_at zero (x ∷ askings) a h e = let f : x ≡ a = cc in let c = both_true (is_connected x.stage) (all_connected askings) h in ap (λ (y : Asking). is_connected y.stage) (sym f) ∙ c.0
-connected_at (suc b) (x ∷ askings) a h e = connected_at b askings a (both_true (is_connected x.stage) (all_connected askings) h).1 e
+connected_at zero (x ∷ askings) a h e = let f : x ≡ a = cc in let c = both_parts (is_connected x.stage) (all_connected askings) h in ap (λ (y : Asking). is_connected y.stage) (sym f) ∙ c.0
+connected_at (suc b) (x ∷ askings) a h e = connected_at b askings a (both_parts (is_connected x.stage) (all_connected askings) h).1 e
 
 -- a board in a turn: it is asked on
 pub record BoardAsks (m : Machine) (b k : ℕ) (a : Asking) (x : Reacted) (c : Control) : Type 0 where

@@ -6,19 +6,18 @@ use Rattle.vlq_code.proofs.Spelled.{joined_alike, one_number}
 use Rattle.msg_dict.specs.declared.row.Row.{Row}
 use Rattle.msg_dict.specs.declared.row.Row.TheVariants as row
 use Rattle.msg_dict.specs.Dictionary.{numbers_differ}
-use Rattle.msg_dict.specs.Own.{own_formats}
+use Rattle.laws_board.proofs.Names.{own_formats, Cmd, IsText, wire_text}
 use Rattle.msg_dict.specs.Table.{own_id}
 use Rattle.msg_dict.proofs.Rows.{own_number, own_small}
 use Rattle.msg_code.specs.declared.Param.{Param}
 use Rattle.msg_code.specs.declared.Param.TheVariants as param
-use Rattle.msg_code.specs.declared.cmd.Cmd.{Cmd}
 use Rattle.msg_code.specs.declared.cmd.Cmd.TheVariants as cmd
 use Rattle.msg_code.specs.Table.{command, params_of, row_of}
-use Rattle.msg_code.specs.Text.{IsText, params_text, row_at}
+use Rattle.msg_code.specs.Text.{params_text, row_at}
 use Rattle.msg_code.proofs.Known.{known}
 use Rattle.msg_code.proofs.Sizes.{own_text}
 use Rattle.msg_code.proofs.Texts.{is_text, one_text}
-use Rattle.board_world.specs.World.{wire_text}
+use Rattle.link_work.proofs.Answered.{differ}
 
 pub small : (r : Row) → own_id r < 2 ^ 32
 small r = omega (arith, own_small r)
@@ -47,10 +46,6 @@ row_back row.Uptime ps = refl
 row_back row.TrsyncState ps = refl
 row_back row.Shutdown ps = refl
 row_back row.IsShutdown ps = refl
-
-pub differ : numbers_differ own_formats ≡ true
-unfolding own_formats
-differ = refl
 
 pub own_row : (r : Row) → row_at own_formats (own_id r) ≡ Some (Some r)
 own_row r = known own_formats r (own_id r) differ (own_number r)

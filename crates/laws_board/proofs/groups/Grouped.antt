@@ -2,26 +2,18 @@
 use Rattle.std.proofs.Common.{◌≡◌, ℕ, ◌+◌, ◌-◌, ◌*◌, ◌/◌, ◌≤◌, Bool, true, false, List, [], ◌∷◌, ◌++◌, Option, None, Some, refl, ap, sym, ◌∙◌, subst, arith, inl, inr}
 use Rattle.std.specs.List.{Contains}
 use Rattle.std.proofs.Math.Nat.{mul-le-mul_right}
-use Rattle.std.proofs.lemmas.Bool.Decides.{leb_tells}
-use Rattle.plan_types.specs.declared.plan.BoardState.TheVariants.{Running}
-use Rattle.plan_types.specs.declared.plan.Line.{Line}
-use Rattle.plan_types.specs.Board.{nearest}
-use Rattle.plan_types.specs.Clock.{turn_ns}
-use Rattle.msg_code.specs.declared.cmd.Cmd.{Cmd}
+use Rattle.laws_board.proofs.Names.{leb_tells, Running, Line, nearest, turn_ns, Cmd, Member, Pending, is_shut, Rig, Slot, pass, slot_at, takes, one_slot}
 use Rattle.msg_code.specs.declared.cmd.Cmd.TheVariants as cmd
-use Rattle.trigger_group.specs.declared.order.Member.{Member}
 use Rattle.trigger_group.specs.declared.order.Order.TheVariants.{Timeout}
 use Rattle.trigger_group.specs.Group.{new_group}
 use Rattle.trigger_group.specs.Runs.{Report, Sent, all_sent, all_reports, CouldUpTo}
 use Rattle.trigger_group.proofs.Bounds.{end_bound, heard_bound}
-use Rattle.board_step.specs.Steps.{Pending}
-use Rattle.board_sim.specs.Board.{is_shut, stepper_at}
-use Rattle.board_sim.specs.Rig.{Rig, Slot, pass, slot_at, takes}
+use Rattle.board_sim.specs.Board.{stepper_at}
 use Rattle.board_sim.specs.RigRuns.{RigStep, Takes, Passes, rig_after, rig_after_all, all_made, IsThere, IsTimely, AreTimely, AreBehindSetUp, AllBefore, IsBound}
 use Rattle.laws_board.specs.groups.Homing.{tick_of, timed_and_bound, HasBoth, HasTriggeredIn, IsOfGroup, AreOfGroup}
 use Rattle.laws_board.proofs.groups.Timed.{IsTimed, first_timed, ran_before, runs_or_shut, stays_shut, stays_timed, takes_timed}
 use Rattle.board_sim.proofs.Binding.{binds, makes_ready, timely}
-use Rattle.board_sim.proofs.Bound.{one_slot, pass_bound, stops, takes_bound}
+use Rattle.board_sim.proofs.Bound.{pass_bound, stops, takes_bound}
 use Rattle.board_sim.proofs.Halting.{no_sooner, stops_there}
 use Rattle.board_sim.proofs.RigPulses.{all_both, all_later}
 

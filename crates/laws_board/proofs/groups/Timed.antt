@@ -1,28 +1,18 @@
 -- A trigger whose timeouts are at most a tick, whatever comes.
 use Rattle.std.proofs.Common.{◌≡◌, ◌≢◌, ℕ, zero, suc, ◌/◌, ◌≤◌, ◌&&◌, Bool, true, false, not, List, [], ◌∷◌, ◌++◌, get_or, set, Option, Some, None, refl, ap, sym, ◌∙◌, subst, ◌⊎◌, inl, inr}
 use Rattle.std.specs.Prelude.{if◌then◌else◌, slice_index_or, nat_lt}
-use Rattle.std.proofs.lemmas.List.{get_or-set_same}
-use Rattle.plan_types.specs.declared.levels.Level.{Level}
-use Rattle.plan_types.specs.declared.plan.BoardState.{BoardState}
-use Rattle.plan_types.specs.declared.plan.BoardState.TheVariants.{Running, Shut}
-use Rattle.plan_types.specs.declared.plan.Pulse.{Pulse}
-use Rattle.plan_types.specs.Board.{nearest}
-use Rattle.board_step.specs.Steps.{Pending}
+use Rattle.laws_board.proofs.Names.{get_or-set_same, Level, BoardState, Running, Shut, Pulse, nearest, Pending, Trigger, Happening, Nothing, Expires, Switches, Reports, Cmd, Controller, is_shut, Rig, Slot, Passed, slot_at, becomes, expires_at_once, set_timeout, acts, acts_running, takes, earliest_moment, runs_to, rests_to, happens_to, goes_on, at_of, passes_by, pass, one_slot, slot_range}
 use Rattle.board_trig.specs.declared.sampling.Homing.{Homing}
-use Rattle.board_trig.specs.declared.trigger.Trigger.{Trigger}
-use Rattle.board_trig.specs.declared.trigger.Happening.{Happening}
-use Rattle.board_trig.specs.declared.trigger.Happening.TheVariants.{Nothing, Expires, Switches, Reports}
 use Rattle.board_trig.specs.Trigger as trig
-use Rattle.msg_code.specs.declared.cmd.Cmd.{Cmd}
 use Rattle.msg_code.specs.declared.cmd.Cmd.TheVariants as cmd
-use Rattle.board_sim.specs.Board.{Controller, is_shut, stepper_at}
-use Rattle.board_sim.specs.Rig.{Rig, Slot, Passed, slot_at, levels_of, becomes, make_trigger, make_endstop, start_trigger, expires_at_once, set_timeout, trigger, bind, home, by_board, acts, acts_running, takes, earliest_moment, runs_to, rested, rests_to, happens_to, happens_at, goes_on, at_of, passes_by, pass}
+use Rattle.board_sim.specs.Board.{stepper_at}
+use Rattle.board_sim.specs.Rig.{levels_of, make_trigger, make_endstop, start_trigger, trigger, bind, home, by_board, rested, happens_at}
 use Rattle.board_sim.specs.RigRuns.{RigStep, Takes, Passes, all_made, rig_after_all, IsThere, IsBehindSetUp, IsTimely, AreBehindSetUp, AreTimely, IsLimitedTo}
 use Rattle.board_sim.proofs.RigPlaces.{there_is, is_there}
 use Rattle.board_sim.proofs.RigCommands.{IsIn, takes_is, passes_is}
-use Rattle.board_sim.proofs.RigShut.{all_left_by, happens_state}
+use Rattle.board_sim.proofs.RigShut.{all_left_by, happens_state, both_none}
 use Rattle.board_sim.proofs.Shut.{pass_left}
-use Rattle.board_sim.proofs.Bound.{halts_is, map_at, same_or_not, one_slot, set_other, slot_range}
+use Rattle.board_sim.proofs.Bound.{halts_is, map_at, same_or_not, set_other}
 
 -- what is asked of a trigger that becomes another one
 abbrev Later : Type 0 → ℕ → Trigger → Trigger → Type 0
@@ -217,9 +207,6 @@ first_timed r i j most clock s running at told there le =
 -- a board that is shut down stays so, and makes no pulse
 abbrev Left : Passed → Type 0
 Left p = (is_shut p.rig.controller.state ≡ true) × (p.pulses ≡ [])
-
-both_none : (xs ys : List Pulse) → xs ≡ [] → ys ≡ [] → xs ++ ys ≡ []
-both_none xs ys e f = rw (e, f) refl
 
 goes_left : (o : Option (ℕ × ℕ)) (r : Rig) (t : ℕ) (rest : Passed) → is_shut r.controller.state ≡ true → (is_shut (happens_at r t (at_of o)).rig.controller.state ≡ true → Left rest)
     → Left (goes_on o (rests_to r t) (passes_by (happens_at r t (at_of o)) rest))

@@ -1,36 +1,18 @@
 -- The commands of a control are control commands while no board homes.
 use Rattle.std.proofs.Common.{◌≡◌, ℕ, suc, ◌+◌, ◌<◌, ◌≤◌, inl, inr, Bool, true, false, cond, List, [], ◌∷◌, length, Option, None, refl, ap, subst, arith}
-use Rattle.std.proofs.lemmas.Bool.{eq-eqb}
-use Rattle.std.proofs.lemmas.Bool.Decides.{leb_tells}
-use Rattle.std.proofs.lemmas.List.Elements.{All-cons, All-nil}
+use Rattle.laws_board.proofs.Names.{eq-eqb, leb_tells, All-cons, All-nil, Level, Machine, IsValidMachine, Cmd, Entry, Switch, Homing, trigger_of, noted, Came, known_by}
 use Rattle.std.specs.List.{All}
 use Rattle.std.specs.Prelude.{◌==◌}
-use Rattle.plan_types.specs.declared.levels.Level.{Level}
-use Rattle.plan_types.specs.declared.machine.Machine.{Machine}
 use Rattle.plan_types.specs.declared.machine.StepperDef.{StepperDef}
-use Rattle.plan_types.specs.Machines.{IsValidMachine}
-use Rattle.msg_code.specs.declared.cmd.Cmd.{Cmd}
 use Rattle.msg_code.specs.declared.cmd.Cmd.TheVariants as cmd
-use Rattle.wire_scene.specs.declared.scene.Entry.{Entry}
-use Rattle.wire_scene.specs.declared.scene.Switch.{Switch}
-use Rattle.axis_homing.specs.declared.homing.Homing.{Homing}
-use Rattle.board_asking.specs.Machine.{steppers_on, trigger_of}
-use Rattle.host_reactor.specs.Notes.{noted}
-use Rattle.host_reactor.specs.Runs.{Came, known_by}
+use Rattle.board_asking.specs.Machine.{steppers_on}
 use Rattle.laws_board.specs.turns.Turns.{BoardTurn}
 use Rattle.laws_board.specs.clocks.Ordered.{MayOrder, commands_in, times_made}
 use Rattle.laws_board.specs.clocks.Runs.{IsInRun}
 use Rattle.laws_board.proofs.clocks.Made.{made_none, times_both}
 use Rattle.laws_board.proofs.clocks.Ordering.{may_order}
 use Rattle.laws_board.specs.sections.Parts.{IsControl}
-
-pub few_on : (b : ℕ) (ss : List StepperDef) → steppers_on b ss ≤ length ss
-few_on b [] = omega arith
-few_on b (s ∷ ss) = one (s.board == b) (few_on b ss)
-  where
-    one : (t : Bool) → steppers_on b ss ≤ length ss → cond t 1 0 + steppers_on b ss ≤ suc (length ss)
-    one true l = omega arith
-    one false l = omega arith
+use Rattle.axis_homing.proofs.Room.{on-few}
 
 -- a command that may be ordered, and makes no stepper with a great number
 pub made_small : (oid : ℕ) (n : ℕ) → (256 ≤ oid → cond (oid == oid) 1 0 + n ≡ 0) → oid < 256
@@ -59,6 +41,6 @@ controls_plain m switches pins entries b c before t turns v r h =
     let may = may_order m switches pins entries b c before t turns r in
     let plain : All (MayOrder None (length before)) t.control.commands = subst (λ (o : Option Homing). All (MayOrder o (length before)) t.control.commands) h may in
     let steppers = v.steppers_few in
-    let few : trigger_of m b ≤ 16 = omega (arith, few_on b m.steppers) in
+    let few : trigger_of m b ≤ 16 = omega (arith, on-few b m.steppers) in
     all_control (length before) t.control.commands plain
     (λ oid l. let none = made_none m switches pins entries b (c ∷ before) (t ∷ turns) v r oid (omega arith) in let both = times_both oid (commands_in turns) t.control.commands in omega arith)

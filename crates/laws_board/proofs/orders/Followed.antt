@@ -1,17 +1,12 @@
 -- Clock lines follow their board.
 use Rattle.std.proofs.Common.{◌≡◌, ◌⊎◌, inl, inr, ℕ, ℤ, ◌+◌, ◌-◌, ◌*◌, ◌/◌, ◌^◌, ◌<◌, ◌≤◌, List, [], ◌∷◌, ◌++◌, length, pos, refl, ap, sym, ◌∙◌, subst, arith}
 use Rattle.std.proofs.Math.Nat.{div-mul-le_self, mul-le-mul_right}
-use Rattle.std.proofs.lemmas.Bool.Decides.{leb_tells}
+use Rattle.laws_board.proofs.Names.{leb_tells, BoardClock, Held, Line, board_tick, tick, turn_ns, Clocks, one_line, AreKept}
 use Rattle.std.specs.Prelude.{max}
-use Rattle.plan_types.specs.declared.clock.BoardClock.{BoardClock}
-use Rattle.plan_types.specs.declared.plan.Held.{Held}
-use Rattle.plan_types.specs.declared.plan.Line.{Line}
-use Rattle.plan_types.specs.Clock.{board_tick, tick, turn_ns}
-use Rattle.plan_types.specs.Lines.{AreHeld, Clocks, one_line, tick_over}
+use Rattle.plan_types.specs.Lines.{AreHeld, tick_over}
 use Rattle.plan_types.specs.Machines.{IsValidFreq}
 use Rattle.plan_types.specs.Valid.{IsValidLine}
 use Rattle.clock_line.specs.declared.sample.Sample.{Sample}
-use Rattle.clock_line.specs.Kept.{AreKept}
 use Rattle.clock_line.specs.Samples.{ppm_size, sampled}
 use Rattle.laws_board.specs.turns.Turns.{BoardTurn}
 use Rattle.laws_board.specs.clocks.Near.{AllKeepUp, KeepsUp, turn_from}

@@ -1,18 +1,12 @@
 -- A clock that goes on without a drift behind a turn.
 use Rattle.std.proofs.Common.{◌≡◌, ◌⊎◌, inl, inr, ℕ, ℤ, ◌+◌, ◌-◌, ◌*◌, ◌/◌, ◌<◌, ◌≤◌, List, [], ◌∷◌, pos, refl, ap, sym, ◌∙◌, subst, arith}
-use Rattle.std.proofs.lemmas.Bool.Decides.{leb_tells}
+use Rattle.laws_board.proofs.Names.{leb_tells, BoardClock, BoardDef, Held, Line, board_tick, clock_of, tick, turn_ns, Clocks, lines_tick, AreKept}
 use Rattle.std.specs.Prelude.{max, min}
-use Rattle.plan_types.specs.declared.clock.BoardClock.{BoardClock}
-use Rattle.plan_types.specs.declared.machine.BoardDef.{BoardDef}
-use Rattle.plan_types.specs.declared.plan.Held.{Held}
-use Rattle.plan_types.specs.declared.plan.Line.{Line}
-use Rattle.plan_types.specs.Clock.{board_tick, clock_of, tick, turn_ns}
-use Rattle.plan_types.specs.Lines.{AreHeld, Clocks, last_from, lines_tick, tick_over}
+use Rattle.plan_types.specs.Lines.{AreHeld, last_from, tick_over}
 use Rattle.plan_types.specs.Machines.{IsValidBoard, IsValidFreq}
 use Rattle.plan_types.proofs.OwnTicks.{rise}
-use Rattle.clock_line.specs.Kept.{AreKept}
 use Rattle.clock_line.specs.Samples.{ppm_size}
-use Rattle.clock_line.proofs.Turns.{tick-turn}
+use Rattle.clock_line.proofs.Turns.{tick-turn, last_from-above}
 use Rattle.laws_board.specs.turns.Turns.{BoardTurn}
 use Rattle.laws_board.specs.clocks.Near.{KeepsUp}
 use Rattle.laws_board.specs.clocks.Samples.{IsSampled}
@@ -78,10 +72,6 @@ abbrev last_line : Line → List Held → Line
 last_line line [] = line
 last_line line (h ∷ held) = last_line h.line held
 
-from_up : (first line : Line) (from keep : ℕ) (held : List Held) → AreHeld first line from keep held → from ≤ last_from from held
-from_up first line from keep [] a = omega arith
-from_up first line from keep (h ∷ held) a = let after = a.0 in omega (arith, after, from_up first h.line h.from h.most held a.4)
-
 last_sampled : (clock : BoardClock) (turns : List BoardTurn) (line : Line) (held : List Held) → IsSampled clock turns line → AreSampled clock turns held → IsSampled clock turns (last_line line held)
 last_sampled clock turns line [] x all = x
 last_sampled clock turns line (h ∷ held) x all = last_sampled clock turns h.line held all.0 all.1
@@ -90,13 +80,13 @@ last_begun : (first line : Line) (from keep time : ℕ) (held : List Held) → A
 last_begun first line from keep time [] a at low = at
 last_begun first line from keep time (h ∷ held) a at low =
     let before = a.5.before in
-    last_begun first h.line h.from h.most time held a.4 (omega (arith, before, low, from_up first h.line h.from h.most held a.4)) low
+    last_begun first h.line h.from h.most time held a.4 (omega (arith, before, low, last_from-above first h.line h.from h.most held a.4)) low
 
 -- it is not too old, where all of them hold by then
 last_young : (drift : ℤ) (first line : Line) (from keep time until : ℕ) (held : List Held) → AreHeld first line from keep held → last_from from held ≤ time → time < (until + 1) * turn_ns → ComeInTime drift line held until
     → until * turn_ns ≤ (last_line line held).at + line_age drift * turn_ns
 last_young drift first line from keep time until [] a low soon c = c
-last_young drift first line from keep time until (h ∷ held) a low soon (inl c) = absurd (let late = c.1 in omega (arith, late, low, soon, from_up first h.line h.from h.most held a.4))
+last_young drift first line from keep time until (h ∷ held) a low soon (inl c) = absurd (let late = c.1 in omega (arith, late, low, soon, last_from-above first h.line h.from h.most held a.4))
 last_young drift first line from keep time until (h ∷ held) a low soon (inr c) = last_young drift first h.line h.from h.most time until held a.4 low soon c.1
 
 -- the lines have its ticks at least, and no more than those, or those of the turn by which all of them hold
@@ -104,7 +94,7 @@ ticks_least : (first line : Line) (from keep most time : ℕ) (held : List Held)
 ticks_least first line from keep most time [] a low = omega arith
 ticks_least first line from keep most time (h ∷ held) a low =
     let more = ticks_least first h.line h.from h.most (max most (tick line h.from)) time held a.4 low in
-    let up = from_up first h.line h.from h.most held a.4 in
+    let up = last_from-above first h.line h.from h.most held a.4 in
     elim (leb_tells h.from time) [ inl p ↦ rw p.0 more | inr p ↦ absurd (let late = p.1 in omega (arith, late, up, low)) ]
 
 ticks_most : (first line : Line) (from keep most early time : ℕ) (held : List Held) → AreHeld first line from keep held → last_from from held ≤ early → early ≤ time
@@ -112,7 +102,7 @@ ticks_most : (first line : Line) (from keep most early time : ℕ) (held : List 
 ticks_most first line from keep most early time [] a low order = omega arith
 ticks_most first line from keep most early time (h ∷ held) a low order =
     let more = ticks_most first h.line h.from h.most (max most (tick line h.from)) early time held a.4 low order in
-    let up = from_up first h.line h.from h.most held a.4 in
+    let up = last_from-above first h.line h.from h.most held a.4 in
     elim (leb_tells h.from early) [
       | inl p ↦ elim (leb_tells h.from time) [ inl q ↦ rw (p.0, q.0) more | inr q ↦ absurd (let late = q.1 in omega (arith, late, up, low, order)) ]
       | inr p ↦ absurd (let late = p.1 in omega (arith, late, up, low))

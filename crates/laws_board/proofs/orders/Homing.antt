@@ -1,22 +1,8 @@
 -- The commands of a control in a run in which axes home.
 use Rattle.std.proofs.Common.{◌≡◌, ℕ, suc, ◌+◌, ◌%◌, ◌^◌, ◌≤◌, inl, inr, true, List, [], ◌∷◌, ◌++◌, length, Option, Some, None, ap, sym, ◌∙◌, subst, arith}
-use Rattle.std.proofs.lemmas.List.Elements.{All-cons, All-head, All-nil, All-tail}
+use Rattle.laws_board.proofs.Names.{All-cons, All-head, All-nil, All-tail, Level, Machine, Clocks, IsValidMachine, clocks_at, turn_tick, Cmd, Entry, Switch, Homing, low, trigger_of, noted, Came, known_by, base_of}
 use Rattle.std.specs.List.{All}
-use Rattle.plan_types.specs.declared.levels.Level.{Level}
-use Rattle.plan_types.specs.declared.machine.Machine.{Machine}
-use Rattle.plan_types.specs.Lines.{Clocks}
-use Rattle.plan_types.specs.Machines.{IsValidMachine}
-use Rattle.plan_types.specs.Sections.{clocks_at}
-use Rattle.clock_line.specs.Early.{turn_tick}
-use Rattle.msg_code.specs.declared.cmd.Cmd.{Cmd}
 use Rattle.msg_code.specs.declared.cmd.Cmd.TheVariants as cmd
-use Rattle.wire_scene.specs.declared.scene.Entry.{Entry}
-use Rattle.wire_scene.specs.declared.scene.Switch.{Switch}
-use Rattle.axis_homing.specs.declared.homing.Homing.{Homing}
-use Rattle.axis_homing.specs.Homing.{low}
-use Rattle.board_asking.specs.Machine.{trigger_of}
-use Rattle.host_reactor.specs.Notes.{noted}
-use Rattle.host_reactor.specs.Runs.{Came, known_by}
 use Rattle.laws_board.specs.turns.Turns.{BoardTurn}
 use Rattle.laws_board.specs.clocks.Clocked.{SetsTo}
 use Rattle.laws_board.specs.clocks.Ordered.{MayOrder, commands_in, times_made}
@@ -26,9 +12,9 @@ use Rattle.laws_board.proofs.clocks.Made.{made_none, times_both}
 use Rattle.laws_board.proofs.clocks.Ordering.{may_order}
 use Rattle.laws_board.specs.sections.Homes.{IsControlIn, RunSection, SetsClock}
 use Rattle.laws_board.specs.sections.Parts.{IsControl}
-use Rattle.section_units.specs.Sections.{base_of}
 use Rattle.laws_board.specs.orders.Homed.{IsOneOf, IsUnderWay}
-use Rattle.laws_board.proofs.orders.Controlled.{controls_plain, few_on, made_small}
+use Rattle.laws_board.proofs.orders.Controlled.{controls_plain, made_small}
+use Rattle.axis_homing.proofs.Room.{on-few}
 
 -- the clock that is set is that of a section among others
 among : (clocks : Clocks) (past : List RunSection) (s : RunSection) (later : List RunSection) (turn clock : ℕ) → s.homes ≡ true → s.section.start ≤ turn + 254 → turn + 252 ≤ s.section.start
@@ -82,6 +68,6 @@ controls_in m switches pins entries b c before t turns (Some h) clocks ss v r is
     let may = subst (λ (o : Option Homing). All (MayOrder o (length before)) t.control.commands) is (may_order m switches pins entries b c before t turns r) in
     let set = clocks_set m switches pins entries b c before t turns h r is in
     let steppers = v.steppers_few in
-    let few : trigger_of m b ≤ 16 = omega (arith, few_on b m.steppers) in
+    let few : trigger_of m b ≤ 16 = omega (arith, on-few b m.steppers) in
     all_in h known clocks ss (length before) t.control.commands u may set
     (λ oid l. let none = made_none m switches pins entries b (c ∷ before) (t ∷ turns) v r oid (omega arith) in let both = times_both oid (commands_in turns) t.control.commands in omega arith)

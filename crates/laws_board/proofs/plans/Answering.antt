@@ -1,19 +1,11 @@
 -- A homing section ends in the turn in which a word tells of its answer.
 use Rattle.std.proofs.Common.{◌≡◌, ℕ, ◌+◌, ◌<◌, ◌≤◌, Bool, true, false, ◌⊎◌, List, [], ◌∷◌, ◌++◌, All, length, Option, None, Some, refl, ap, sym, ◌∙◌, subst, arith, inl, inr, append-nil, length-append}
 use Rattle.std.specs.Prelude.{◌&&◌, nat_le, if◌then◌else◌}
-use Rattle.std.proofs.lemmas.Bool.Decides.{leb_tells}
-use Rattle.std.proofs.lemmas.List.{append_cancel_left}
-use Rattle.std.proofs.lemmas.List.Elements.{All-head}
+use Rattle.laws_board.proofs.Names.{leb_tells, append_cancel_left, All-head, Machine, Section, SectionKind, Home, Moves, NoteNews, WordMsg, Started, Told, MotionTurn}
 use Rattle.plan_types.specs.Sections.{is_home}
-use Rattle.plan_types.specs.declared.machine.Machine.{Machine}
-use Rattle.plan_types.specs.declared.plan.Section.{Section}
-use Rattle.plan_types.specs.declared.plan.SectionKind.{SectionKind}
-use Rattle.plan_types.specs.declared.plan.SectionKind.TheVariants.{Home, Moves}
-use Rattle.msg_code.specs.declared.talk.NoteNews.{NoteNews}
-use Rattle.msg_code.specs.declared.talk.WordMsg.{WordMsg}
 use Rattle.motion_work.specs.Homes.{no_end}
-use Rattle.motion_work.specs.Seen.{AreMoves, Started}
-use Rattle.motion_work.specs.Told.{Told, tells_homed}
+use Rattle.motion_work.specs.Seen.{AreMoves}
+use Rattle.motion_work.specs.Told.{tells_homed}
 use Rattle.motion_stream.specs.declared.course.Course.{Course}
 use Rattle.motion_stream.specs.declared.course.Open.{Open}
 use Rattle.motion_stream.specs.declared.course.Open.TheVariants as opens
@@ -22,18 +14,9 @@ use Rattle.motion_stream.specs.Motions.{IsMore, started_until, begun_with, going
 use Rattle.motion_stream.specs.Puts.{IsSeenBehind}
 use Rattle.motion_stream.specs.Seen.{AreWhole, Going, IsContinued, Seen}
 use Rattle.motion_stream.specs.Wholes.{HasNoAnswer}
-use Rattle.session_work.specs.declared.table.MotionTurn.{MotionTurn}
 use Rattle.laws_board.specs.plans.Answers.{AnyHomed, EndByWords, EndsByWord, TakesAnswer, WaitsIn}
 use Rattle.laws_board.specs.plans.Planned.{LastHomes, words_in}
-
-clash : true ≡ false → ⊥
-clash e = cc
-
-none_some : {X : Type 0} {x : X} → None ≡ Some x → ⊥
-none_some e = cc
-
-some_same : {X : Type 0} (x y : X) → Some x ≡ Some y → x ≡ y
-some_same x y e = cc
+use Rattle.plan_types.proofs.Facts.{true_false, some_same, none_is_some}
 
 -- words of some turns, and of one more
 pub words_snoc : (ts : List MotionTurn) (t : MotionTurn) → length (words_in (ts ++ t ∷ [])) ≡ length (words_in ts) + length t.words
@@ -110,8 +93,8 @@ abbrev pub Homing : ℕ → List Started → Option Going → Type 0
 Homing k begun None = LastHomes k begun
 Homing k begun (Some g) = (is_home g.kind ≡ true) × (g.start ≤ k)
 
-home_axis : (kind : SectionKind) → is_home kind ≡ true → (axis : ℕ) × (kind ≡ Home axis)
-home_axis Moves e = absurd (clash (sym e))
+pub home_axis : (kind : SectionKind) → is_home kind ≡ true → (axis : ℕ) × (kind ≡ Home axis)
+home_axis Moves e = absurd (true_false (sym e))
 home_axis (Home axis) e = (axis, refl)
 
 -- which a word leaves so: it may end the section
@@ -159,7 +142,7 @@ answers_snoc k done ws [] s h one = (λ axis home. one, tt)
 answers_snoc k done ws (x ∷ begun) s h one = (h.0, answers_snoc k done ws begun s h.1 one)
 
 not_late : (a k : ℕ) → nat_le a k ≡ false → a ≤ k → ⊥
-not_late a k e late = elim (leb_tells a k) [ inl p ↦ clash (sym p.0 ∙ e) | inr p ↦ let far = p.1 in omega (arith, far, late) ]
+not_late a k e late = elim (leb_tells a k) [ inl p ↦ true_false (sym p.0 ∙ e) | inr p ↦ let far = p.1 in omega (arith, far, late) ]
 
 -- that tells of an answer: it ends the section that goes on, where that homes and has started
 word_ends : (m : Machine) (k : ℕ) (done : List MotionTurn) (ws : List WordMsg) (w : WordMsg) (begun : List Started) (g : Going) (homes late : Bool) → is_home g.kind ≡ homes → nat_le g.start k ≡ late → k ≤ no_end → tells_homed w.news ≡ true → HaveHeard k done ws begun (Some g)
@@ -172,7 +155,7 @@ word_ends m k done ws w begun g true false home start small tells a = record {
   known = answers_more k done ws w begun a.known;
   waits = λ h. ((a.waits h).0, λ late any. not_late g.start k start late);
 }
-word_ends m k done ws w begun g false late home start small tells a = record { known = answers_more k done ws w begun a.known; waits = λ h. absurd (clash (sym h ∙ home)) }
+word_ends m k done ws w begun g false late home start small tells a = record { known = answers_more k done ws w begun a.known; waits = λ h. absurd (true_false (sym h ∙ home)) }
 
 by_word : (m : Machine) (k : ℕ) (done : List MotionTurn) (ws : List WordMsg) (w : WordMsg) (begun : List Started) (going : Option Going) (tells : Bool) → tells_homed w.news ≡ tells → k ≤ no_end → HaveHeard k done ws begun going
     → HaveHeard k done (ws ++ w ∷ []) (begun_with begun (if tells then hears_answer m k going else None)) (going_with going (if tells then hears_answer m k going else None))
@@ -181,7 +164,7 @@ by_word m k done ws w begun None false t small a = record { known = answers_more
 by_word m k done ws w begun (Some g) true t small a = word_ends m k done ws w begun g (is_home g.kind) (nat_le g.start k) refl refl small t a
 by_word m k done ws w begun (Some g) false t small a = record {
   known = answers_more k done ws w begun a.known;
-  waits = λ h. let v = a.waits h in (v.0, λ late any. elim (any_snoc ws w any) [ inl b ↦ v.1 late b | inr homed ↦ clash (sym homed ∙ t) ]);
+  waits = λ h. let v = a.waits h in (v.0, λ late any. elim (any_snoc ws w any) [ inl b ↦ v.1 late b | inr homed ↦ true_false (sym homed ∙ t) ]);
 }
 
 pub heard_word : (m : Machine) (seen : Seen) (k : ℕ) (done : List MotionTurn) (ws : List WordMsg) (w : WordMsg) → seen.next ≡ k → k ≤ no_end → HaveHeard k done ws seen.begun seen.going
@@ -215,7 +198,7 @@ answers_end k done t (s ∷ begun) long h = (
 )
 
 waiting_now : (m : Machine) (o : Open) (c : Course) (told : Option Told) (begun : List Started) (g : Going) (k : ℕ) → IsGoing m o c told begun (Some g) → is_home g.kind ≡ true → g.start ≤ k → waits_by o c.start k ≡ true
-waiting_now m opens.Nothing c told begun g k i home late = absurd (none_some (sym i.none))
+waiting_now m opens.Nothing c told begun g k i home late = absurd (none_is_some (sym i.none))
 waiting_now m (opens.Goes s homes) c told begun g k i home late =
     let same : i.g ≡ g = sym (some_same g i.g i.is) in
     let start : c.start ≡ g.start = i.start_is ∙ ap (λ (x : Going). x.start) same in

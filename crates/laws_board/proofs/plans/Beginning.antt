@@ -1,20 +1,13 @@
 -- Which section the reactor knows to be begun, by the planner's notes.
 use Rattle.std.proofs.Common.{◌≡◌, ℕ, suc, Bool, ◌+◌, ◌<◌, ◌≤◌, List, [], ◌∷◌, ◌++◌, Option, Some, None, refl, ap, sym, ◌∙◌, subst, arith, inl, inr, append-nil}
-use Rattle.std.proofs.lemmas.Bool.Decides.{leb_tells, eqb_tells}
+use Rattle.laws_board.proofs.Names.{leb_tells, eqb_tells, Machine, Clocks, Note, NoteNews, Known, noted, known_behind, told_all, AreStarted, Started}
 use Rattle.std.specs.Prelude.{◌==◌, nat_lt, if◌then◌else◌}
-use Rattle.plan_types.specs.declared.machine.Machine.{Machine}
-use Rattle.plan_types.specs.Lines.{Clocks}
-use Rattle.msg_code.specs.declared.talk.Note.{Note}
-use Rattle.msg_code.specs.declared.talk.NoteNews.{NoteNews}
 use Rattle.msg_code.specs.declared.talk.NoteNews.TheVariants as news
 use Rattle.report_text.specs.declared.line.ReportLine.TheVariants as report
 use Rattle.host_reactor.specs.declared.ordered.Begun.{Begun}
-use Rattle.host_reactor.specs.declared.ordered.Known.{Known}
-use Rattle.host_reactor.specs.Notes.{noted, known_behind, told_all}
 use Rattle.host_reactor.specs.Report.{section_line}
 use Rattle.motion_work.specs.Further.{AreFurther}
 use Rattle.motion_work.specs.Puts.{IsReadNews, begun_notes}
-use Rattle.motion_work.specs.Seen.{AreStarted, Started}
 use Rattle.motion_work.specs.Turns.{done_notes}
 use Rattle.motion_work.proofs.Turning.{planned_late}
 use Rattle.laws_board.specs.plans.Lines.{starts_at}
@@ -44,7 +37,7 @@ abbrev pub latest : ℕ → ℕ → List Started → Option Begun → Option Beg
 latest k i [] b = b
 latest k i (s ∷ ss) b = if s.start == k + 260 then latest k (i + 1) ss (Some (begun_of i s)) else latest k (i + 1) ss b
 
-all_append : (m : Machine) (xs ys : List NoteNews) (r : Known) → told_all m (xs ++ ys) r ≡ told_all m ys (told_all m xs r)
+pub all_append : (m : Machine) (xs ys : List NoteNews) (r : Known) → told_all m (xs ++ ys) r ≡ told_all m ys (told_all m xs r)
 all_append m [] ys r = refl
 all_append m (x ∷ xs) ys r = all_append m xs ys (known_behind m r x)
 

@@ -1,24 +1,16 @@
 -- A homing section on a board that ends in a turn: the units that are released before it.
 use Rattle.std.proofs.Common.{ℕ, true, ◌+◌, ◌<◌, ◌≤◌, List, [], Option, Some, ◌≡◌, subst, arith}
-use Rattle.plan_types.specs.declared.machine.Machine.{Machine}
-use Rattle.plan_types.specs.declared.plan.Move.{Move}
-use Rattle.plan_types.specs.declared.plan.SectionKind.{SectionKind}
-use Rattle.plan_types.specs.declared.plan.SectionKind.TheVariants.{Home}
-use Rattle.plan_types.specs.Lines.{Clocks}
-use Rattle.plan_types.specs.Machines.{board_at}
-use Rattle.plan_types.specs.Sections.{clocks_at, section_end}
-use Rattle.clock_line.specs.Kept.{AreKept}
+use Rattle.laws_board.proofs.Names.{Machine, Move, SectionKind, Home, Clocks, board_at, clocks_at, AreKept, AreBefore, Release, Started}
+use Rattle.plan_types.specs.Sections.{section_end}
 use Rattle.section_feed.proofs.Staying.{plan-before}
 use Rattle.section_feed.proofs.Taken.{steps-before}
 use Rattle.section_units.specs.Fronts.{IsFrontBy}
 use Rattle.section_units.specs.Merged.{plan_at, section_of}
 use Rattle.section_units.specs.Plans.{IsFrontOnBy, plans_on, section_on}
-use Rattle.section_units.specs.Sections.{AreBefore}
 use Rattle.section_units.proofs.Fronting.{section_front}
-use Rattle.step_feed.specs.Pacing.{Release}
 use Rattle.laws_board.specs.sections.Homes.{IsHomingIn}
 use Rattle.motion_work.specs.Homes.{before_turn}
-use Rattle.motion_work.specs.Seen.{IsHomed, IsPlanned, Started}
+use Rattle.motion_work.specs.Seen.{IsHomed, IsPlanned}
 use Rattle.motion_work.proofs.Sending.{cut_front}
 use Rattle.motion_work.proofs.Turning.{end_after}
 

@@ -1,41 +1,24 @@
 -- The pulses that a report tells of a section fit the stepper's plan of it.
 use Rattle.std.proofs.Common.{◌≡◌, ℕ, zero, suc, inl, inr, ◌+◌, ◌-◌, ◌<◌, not, Bool, true, false, List, [], ◌∷◌, ◌++◌, drop, get_or, length, take, refl, ap, sym, ◌∙◌, subst, arith, append-nil}
-use Rattle.std.proofs.lemmas.Bool.Decides.{eqb_tells}
-use Rattle.std.proofs.lemmas.List.{map-append}
+use Rattle.laws_board.proofs.Names.{eqb_tells, map-append, flat_map, Machine, Move, Planned, Pulse, Clocks, IsValidMachine, stepper_at, Fits, stepper_plan, State, only, machine_line, Started, ReactorTurn, gather, item}
 use Rattle.std.proofs.lemmas.List.FromFn.{length-map-range_with_len, get_or-map-range_with_len}
-use Rattle.std.specs.List.{flat_map}
-use Rattle.plan_types.specs.declared.machine.Machine.{Machine}
-use Rattle.plan_types.specs.declared.plan.Move.{Move}
-use Rattle.plan_types.specs.declared.plan.Planned.{Planned}
-use Rattle.plan_types.specs.declared.plan.Pulse.{Pulse}
-use Rattle.plan_types.specs.Lines.{Clocks}
-use Rattle.plan_types.specs.Machines.{IsValidMachine, no_stepper, stepper_at}
-use Rattle.plan_types.specs.Plan.{Fits}
-use Rattle.plan_types.specs.Sections.{section_plans, stepper_plan}
-use Rattle.msg_code.specs.declared.talk.State.{State}
+use Rattle.plan_types.specs.Machines.{no_stepper}
+use Rattle.plan_types.specs.Sections.{section_plans}
 use Rattle.section_units.specs.Units.{as_sent, sent}
-use Rattle.board_sim.specs.Fair.{only}
 use Rattle.board_sim.proofs.Steps.{only-append}
 use Rattle.laws_board.specs.sections.Boards.{OnBoard, told_in}
 use Rattle.laws_board.specs.sections.Links.{pulses_in}
-use Rattle.host_reactor.specs.Report.{machine_line, turned}
+use Rattle.host_reactor.specs.Report.{turned}
 use Rattle.section_units.specs.Plans.{plans_on}
-use Rattle.motion_work.specs.Seen.{Started}
 use Rattle.section_units.specs.Merged.{plan_at}
-use Rattle.session_work.specs.declared.table.ReactorTurn.{ReactorTurn}
-use Rattle.session_work.specs.Rows.{gather, item}
 use Rattle.laws_board.specs.plans.Boards.{TookStates, as_told, lines_between}
 use Rattle.laws_board.specs.plans.Lines.{TellTurns, TellsTurn, pulses_of, starts_at}
 use Rattle.laws_board.proofs.plans.Placing.{count_is, own_plan, states_pulses}
 use Rattle.laws_board.proofs.plans.Telling.{pulses_append}
-
--- directions turned back
-back_again : (x : Bool) → not (not x) ≡ x
-back_again true = refl
-back_again false = refl
+use Rattle.plan_types.proofs.Facts.{not_not}
 
 turned_back : (inverted up x : Bool) → up ≡ sent inverted x → turned inverted up ≡ x
-turned_back true up x e = ap not e ∙ back_again x
+turned_back true up x e = ap not e ∙ not_not x
 turned_back false up x e = e
 
 pub fits_told : (m : Machine) (place freq before : ℕ) (ps : List Pulse) (plan : List Planned) → Fits freq before ps (as_sent (stepper_at m place).inverted plan) → Fits freq before (as_told m place ps) plan

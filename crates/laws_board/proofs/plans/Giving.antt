@@ -1,20 +1,13 @@
 -- What the planner puts for a board is what its sections release.
 use Rattle.std.proofs.Common.{◌≡◌, ℕ, zero, suc, false, ◌+◌, ◌<◌, ◌≤◌, List, [], ◌∷◌, ◌++◌, length, map, ap, ◌∙◌, subst, arith}
 use Rattle.std.specs.List.{range_with_len}
-use Rattle.plan_types.specs.declared.machine.Machine.{Machine}
-use Rattle.plan_types.specs.Lines.{Clocks}
+use Rattle.laws_board.proofs.Names.{Machine, Clocks, BoardSection, Release, Orders, parts_on, Started, MotionTurn, gather, item}
 use Rattle.msg_code.specs.declared.unit.Batch.{Batch}
-use Rattle.section_units.specs.Sections.{BoardSection}
-use Rattle.step_feed.specs.Pacing.{Release}
-use Rattle.link_work.specs.Turn.{Orders}
 use Rattle.laws_board.specs.sections.Parts.{AreInARow, AreOrdersOf}
-use Rattle.motion_work.specs.Boards.{AreSectionsApart, parts_on}
+use Rattle.motion_work.specs.Boards.{AreSectionsApart}
 use Rattle.motion_work.specs.Feeds.{batches_at, units_at}
 use Rattle.motion_work.specs.Puts.{ArePut}
-use Rattle.motion_work.specs.Seen.{Started}
 use Rattle.motion_work.proofs.Boardwise.{board_units}
-use Rattle.session_work.specs.declared.table.MotionTurn.{MotionTurn}
-use Rattle.session_work.specs.Rows.{gather, item}
 use Rattle.laws_board.specs.plans.Given.{EndBefore, TookControls}
 use Rattle.laws_board.specs.plans.Planned.{puts_of}
 
@@ -22,7 +15,7 @@ use Rattle.laws_board.specs.plans.Planned.{puts_of}
 abbrev batch_of : ℕ → List (List (List Release)) → ℕ → Batch
 batch_of k sections b = record { turn = k; units = units_at b k sections; end = false }
 
-item_at : (f : ℕ → Batch) (i n b : ℕ) → b < n → item b (map f (range_with_len i n)) ≡ f (i + b) ∷ []
+pub item_at : (f : ℕ → Batch) (i n b : ℕ) → b < n → item b (map f (range_with_len i n)) ≡ f (i + b) ∷ []
 item_at f i zero b h = absurd (omega (arith, h))
 item_at f i (suc n) zero h = let e : i ≡ i + 0 = omega arith in ap (λ k. f k ∷ []) e
 item_at f i (suc n) (suc b) h = let e : i + 1 + b ≡ i + suc b = omega arith in rw e at (item_at f (i + 1) n b (omega (arith, h)))
@@ -35,7 +28,7 @@ own_item m k b begun h =
     let At : ℕ → Type 0 = λ i. item b (map f (range_with_len 0 (length m.boards))) ≡ f i ∷ [] in
     subst At e (item_at f 0 (length m.boards) b h)
 
-first_same : (x y : Batch) (xs ys : List Batch) → x ∷ xs ≡ y ∷ ys → (x ≡ y) × (xs ≡ ys)
+pub first_same : (x y : Batch) (xs ys : List Batch) → x ∷ xs ≡ y ∷ ys → (x ≡ y) × (xs ≡ ys)
 first_same x y xs ys e = (cc, cc)
 
 -- orders that took these batches have the units of the sections

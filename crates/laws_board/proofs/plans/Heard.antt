@@ -1,9 +1,6 @@
 -- The turns whose words a planner heard.
 use Rattle.std.proofs.Common.{◌≡◌, ℕ, ◌+◌, ◌≤◌, List, [], ◌∷◌, ◌++◌, length, Option, ap, sym, ◌∙◌, subst, arith, inl, inr, append_assoc, append-nil, length-append}
-use Rattle.plan_types.specs.declared.machine.Machine.{Machine}
-use Rattle.motion_work.specs.Seen.{Started}
-use Rattle.motion_work.specs.Told.{Told}
-use Rattle.session_work.specs.declared.table.MotionTurn.{MotionTurn}
+use Rattle.laws_board.proofs.Names.{Machine, Started, Told, MotionTurn}
 use Rattle.laws_board.specs.plans.Answers.{TookNoneAhead}
 use Rattle.laws_board.specs.plans.Planned.{Plans, StopsAt, words_in}
 

@@ -1,30 +1,17 @@
 -- A board's part of a run in which axes home, from what the planner put.
 use Rattle.std.proofs.Common.{◌≡◌, ◌⊎◌, ℕ, Bool, true, false, ◌+◌, ◌<◌, ◌≤◌, List, [], ◌∷◌, ◌++◌, All, length, map, take, Option, None, Some, refl, ap, sym, ◌∙◌, subst, arith, append_assoc, inl, inr}
 use Rattle.std.specs.Prelude.{◌&&◌, slice_index_or, if◌then◌else◌}
-use Rattle.std.specs.List.{flat_map}
-use Rattle.std.proofs.lemmas.Bool.Decides.{leb_tells}
+use Rattle.laws_board.proofs.Names.{flat_map, leb_tells, All-cons, All-nil, Machine, SectionKind, Moves, Home, Clocks, board_at, clocks_at, AreBefore, Release, batch_at, Orders, AreStarted, Started, Told, MotionTurn, gather, item}
 use Rattle.std.proofs.lemmas.List.Folds.{flat_map-map}
-use Rattle.std.proofs.lemmas.List.Elements.{All-cons, All-nil}
-use Rattle.plan_types.specs.declared.machine.Machine.{Machine}
-use Rattle.plan_types.specs.declared.plan.SectionKind.{SectionKind}
-use Rattle.plan_types.specs.declared.plan.SectionKind.TheVariants.{Moves, Home}
-use Rattle.plan_types.specs.Lines.{Clocks}
-use Rattle.plan_types.specs.Machines.{board_at}
-use Rattle.plan_types.specs.Sections.{clocks_at, section_end, is_home}
-use Rattle.section_units.specs.Sections.{AreBefore}
-use Rattle.step_feed.specs.Pacing.{Release, batch_at}
-use Rattle.link_work.specs.Turn.{Orders}
+use Rattle.plan_types.specs.Sections.{section_end, is_home}
 use Rattle.laws_board.specs.sections.Courses.{IsFrom}
 use Rattle.laws_board.specs.sections.Homes.{AreInTurn, AreOrdersIn, AreSet, HasUnits, IsHomeRun, IsHomingIn, IsSectionBy, RunSection, SetsAny}
 use Rattle.laws_board.specs.sections.Parts.{AreTracked, MakesIn}
 use Rattle.motion_work.specs.Feeds.{units_at}
 use Rattle.motion_work.specs.Homes.{no_end}
-use Rattle.motion_work.specs.Seen.{AreStarted, IsHomed, IsPlanned, Started, part_on}
-use Rattle.motion_work.specs.Told.{Told}
+use Rattle.motion_work.specs.Seen.{IsHomed, IsPlanned, part_on}
 use Rattle.motion_work.proofs.Boardwise.{moved_is}
 use Rattle.motion_work.proofs.Turning.{planned_late}
-use Rattle.session_work.specs.declared.table.MotionTurn.{MotionTurn}
-use Rattle.session_work.specs.Rows.{gather, item}
 use Rattle.laws_board.specs.plans.Given.{TookBatches}
 use Rattle.laws_board.specs.plans.Homed.{AreOutInTime, ArePlannedBefore, TookControlsIn, is_set_in, run_on, runs_on, stops_of}
 use Rattle.laws_board.specs.plans.Planned.{Plans}

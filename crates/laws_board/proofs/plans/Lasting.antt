@@ -1,16 +1,11 @@
 -- The clock lines of a board that a planner was told.
 use Rattle.std.proofs.Common.{◌≡◌, ℕ, zero, suc, ◌+◌, ◌^◌, ◌<◌, List, [], ◌∷◌, length, set, get_or, Option, None, Some, refl, sym, ◌∙◌, subst, arith}
-use Rattle.plan_types.specs.declared.machine.Machine.{Machine}
-use Rattle.plan_types.specs.declared.plan.Line.{Line}
-use Rattle.plan_types.specs.Lines.{Clocks, last_from}
-use Rattle.plan_types.specs.Sections.{clocks_at}
-use Rattle.clock_line.specs.Kept.{AreKept, added}
-use Rattle.msg_code.specs.declared.talk.NoteNews.{NoteNews}
+use Rattle.laws_board.proofs.Names.{Machine, Line, Clocks, clocks_at, AreKept, NoteNews, Told, MotionTurn}
+use Rattle.plan_types.specs.Lines.{last_from}
+use Rattle.clock_line.specs.Kept.{added}
 use Rattle.msg_code.specs.declared.talk.NoteNews.TheVariants as news
 use Rattle.section_feed.specs.Boards.{most_ns}
 use Rattle.motion_work.specs.Further.{noted_line, noted_lines, told_on}
-use Rattle.motion_work.specs.Told.{Told}
-use Rattle.session_work.specs.declared.table.MotionTurn.{MotionTurn}
 use Rattle.laws_board.specs.plans.Planned.{AllInRange, AreKnown, BeginInRange, Plans, connecting_heard, told_of}
 
 -- The clock lines of a board hold one after the other, from times of the next 500 years on.

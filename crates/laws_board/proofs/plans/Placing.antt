@@ -1,24 +1,17 @@
 -- Steppers by their places among all, and by their object ids on a board.
 use Rattle.std.proofs.Common.{◌≡◌, ◌≢◌, ℕ, zero, suc, ◌+◌, ◌<◌, ◌≤◌, ◌&&◌, Bool, true, false, cond, eqb, List, [], ◌∷◌, ◌++◌, length, get_or, take, count_by, Option, Some, None, refl, ap, sym, ◌∙◌, subst, arith, inl, inr}
-use Rattle.std.proofs.lemmas.Bool.{eq-eqb}
-use Rattle.std.proofs.lemmas.Bool.Decides.{eqb_tells}
+use Rattle.laws_board.proofs.Names.{eq-eqb, eqb_tells, flat_map, Machine, Planned, Pulse, IsValidMachine, stepper_at, State, only, item}
 use Rattle.std.proofs.lemmas.List.Recursion.{is_count_by}
 use Rattle.std.specs.Prelude.{◌==◌, if◌then◌else◌}
-use Rattle.std.specs.List.{flat_map}
-use Rattle.plan_types.specs.declared.machine.Machine.{Machine}
 use Rattle.plan_types.specs.declared.machine.StepperDef.{StepperDef}
-use Rattle.plan_types.specs.declared.plan.Planned.{Planned}
-use Rattle.plan_types.specs.declared.plan.Pulse.{Pulse}
-use Rattle.plan_types.specs.Machines.{IsValidMachine, stepper_at, no_stepper}
-use Rattle.msg_code.specs.declared.talk.State.{State}
+use Rattle.plan_types.specs.Machines.{no_stepper}
 use Rattle.section_units.specs.Units.{as_sent}
-use Rattle.board_sim.specs.Fair.{only}
 use Rattle.host_reactor.specs.Report.{stepper_place, pulse_at, pulse_line, pulse_lines, turned}
 use Rattle.section_units.specs.Plans.{board_plans}
-use Rattle.session_work.specs.Rows.{item}
 use Rattle.laws_board.specs.plans.Boards.{as_told}
 use Rattle.laws_board.specs.plans.Lines.{pulses_of}
 use Rattle.laws_board.proofs.plans.Telling.{pulses_append}
+use Rattle.plan_types.proofs.Facts.{none_some, some_same}
 
 -- how many of some steppers are on a board
 abbrev pub count_on : ℕ → List StepperDef → ℕ
@@ -97,13 +90,6 @@ found c i (s ∷ ss) (suc j) n h =
       ]
       | inr p ↦ rw p.0 (rest ∙ ap (λ x. Some x) e)
     ]
-
--- and what is found at a place is the stepper there
-some_same : (x y : ℕ) → Some x ≡ Some y → x ≡ y
-some_same x y e = cc
-
-none_some : (x : ℕ) → None ≡ Some x → ⊥
-none_some x e = cc
 
 behind : (i b o : ℕ) (ss : List StepperDef) (q : ℕ) → stepper_place i b o ss ≡ Some q → i ≤ q
 behind i b o [] q e = absurd (none_some q e)

@@ -1,24 +1,18 @@
 -- The turns of a planner in a run.
 use Rattle.std.proofs.Common.{◌≡◌, ℕ, suc, ◌+◌, ◌^◌, ◌<◌, ◌≤◌, Bool, true, false, ◌⊎◌, List, [], ◌∷◌, ◌++◌, All, length, Option, None, Some, refl, ap, sym, ◌∙◌, subst, arith, inl, inr, append_assoc, append-nil, length-append}
 use Rattle.std.specs.Prelude.{◌-◌, ◌&&◌, cond, is_none, nat_lt}
-use Rattle.std.proofs.lemmas.Bool.Decides.{leb_tells}
-use Rattle.plan_types.specs.declared.machine.Machine.{Machine}
+use Rattle.laws_board.proofs.Names.{leb_tells, Machine, Note, NoteNews, WordMsg, Started, Told, clocks_at, MotionTurn}
 use Rattle.plan_types.specs.declared.plan.ReadEnd.{ReadEnd}
-use Rattle.msg_code.specs.declared.talk.Note.{Note}
-use Rattle.msg_code.specs.declared.talk.NoteNews.{NoteNews}
 use Rattle.msg_code.specs.declared.talk.Piece.{Piece}
-use Rattle.msg_code.specs.declared.talk.WordMsg.{WordMsg}
 use Rattle.motion_work.specs.Homes.{no_end}
 use Rattle.motion_work.specs.Puts.{Put}
-use Rattle.motion_work.specs.Seen.{Started}
 use Rattle.motion_work.specs.declared.told.BoardLine.{BoardLine}
 use Rattle.motion_work.specs.Further.{WereHeard, told_on}
-use Rattle.motion_work.specs.Told.{Told, heard, lines_in}
+use Rattle.motion_work.specs.Told.{heard, lines_in}
 use Rattle.motion_stream.specs.declared.course.Course.{Course}
 use Rattle.motion_stream.specs.declared.course.Open.{Open}
 use Rattle.motion_stream.specs.declared.course.Open.TheVariants as opens
 use Rattle.motion_stream.specs.Courses.{IsGoing, KnowsConnecting}
-use Rattle.plan_types.specs.Sections.{clocks_at}
 use Rattle.motion_stream.specs.Motions.{AreEarly, IsMore, IsPlannerOf, Planner, TakesText, lines_kept, waits_by, wants, with_word}
 use Rattle.motion_stream.specs.Motions as motion
 use Rattle.motion_stream.specs.Puts.{ArePutBy}
@@ -28,7 +22,6 @@ use Rattle.motion_stream.specs.Uptakes.{IsNotLost}
 use Rattle.motion_stream.proofs.Laying.{none_put, text_kept, turn_kept, word_put}
 use Rattle.session_work.specs.declared.machines.MotionMachine.{Ghosts as Motion}
 use Rattle.session_work.specs.declared.seat.Seat.{Seat}
-use Rattle.session_work.specs.declared.table.MotionTurn.{MotionTurn}
 use Rattle.session_work.specs.Motions.{MotionStep, seated}
 use Rattle.session_work.specs.Seats.{MakeStep, PieceStep, Told as ToldTo, WordStep, hungers, is_wanted, needs}
 use Rattle.session_work.specs.Turns.{Goes}
@@ -36,9 +29,7 @@ use Rattle.laws_board.specs.plans.Planned.{AnyEnds, AnyStops, AreBare, AreReadIn
 use Rattle.laws_board.specs.plans.Answers.{TookNoneAhead}
 use Rattle.laws_board.proofs.plans.Answering.{HaveHeard, Homing, heard_piece, heard_turn, heard_word, homing_word, none_heard, words_end, words_snoc}
 use Rattle.laws_board.proofs.plans.Wholes.{Ran, whole_plans}
-
-clash : true ≡ false → ⊥
-clash e = cc
+use Rattle.plan_types.proofs.Facts.{true_false, some_none}
 
 -- a worker that is asked no more
 abbrev Dead : {M : Type 0} → Seat M → Type 0
@@ -62,8 +53,8 @@ record Live {M : Type 0} (view : M → Planner) (m : Machine) (k : ℕ) (done : 
 -- what is dead stays so
 told_dead : {M : Type 0} (g : Motion M) (x y : Seat M) (w : WordMsg) → x.quiet ≡ true → ToldTo g.hears x w y → y.quiet ≡ true
 told_dead g x y w e (inl q) = let (_, same) = q in let (_, quiet, _) = same in quiet ∙ e
-told_dead g x y w e (inr (inl q)) = absurd (clash (sym e ∙ q.0))
-told_dead g x y w e (inr (inr q)) = absurd (clash (sym e ∙ q.0))
+told_dead g x y w e (inr (inl q)) = absurd (true_false (sym e ∙ q.0))
+told_dead g x y w e (inr (inr q)) = absurd (true_false (sym e ∙ q.0))
 
 word_dead : {M : Type 0} (g : Motion M) (x y : Seat M) (w : WordMsg) → Dead x → WordStep g.hears x w y → Dead y
 word_dead g x y w d (_, inl s) = inl s.1
@@ -75,10 +66,10 @@ words_dead g k i [] x a d h = subst Dead h d
 words_dead g k i (w ∷ ws) x a d (y, step, more) = let (_, is) = step in words_dead g k (i + 1) ws y a (word_dead g x y w d is) more
 
 not_hungry : (a b c : Bool) → (a ≡ true) ⊎ (b ≡ true) → cond a false (cond b false c) ≡ true → ⊥
-not_hungry true b c d e = clash (sym e)
-not_hungry false true c d e = clash (sym e)
-not_hungry false false c (inl d) e = clash (sym d)
-not_hungry false false c (inr d) e = clash (sym d)
+not_hungry true b c d e = true_false (sym e)
+not_hungry false true c d e = true_false (sym e)
+not_hungry false false c (inl d) e = true_false (sym d)
+not_hungry false false c (inr d) e = true_false (sym d)
 
 pieces_dead : {M : Type 0} (g : Motion M) (k i : ℕ) (ps : List Piece) (x b : Seat M) → Dead x → Goes (λ _ y p z. (hungers g.hungry k y ≡ true) × PieceStep g.reads y p z) i x ps b → Dead b
 pieces_dead g k i [] x b d h = subst Dead h d
@@ -102,7 +93,7 @@ pieces_out g k i (p ∷ ps) x b e (y, (_, (_, _, inr (inl s))), more) = pieces_o
 pieces_out g k i (p ∷ ps) x b e (y, (_, (_, _, inr (inr s))), more) = pieces_out g k (i + 1) ps y b s.2 more
 
 note_out : {M : Type 0} (g : Motion M) (n k : ℕ) (b y : Seat M) (t : MotionTurn) → Dead b → b.out ≡ true → MakeStep n g.turns k b t.batches t.note y → t.note.out ≡ true
-note_out g n k b y t d e (_, halted, _, inl s) = elim d [ inl h ↦ absurd (clash (sym h ∙ s.0)) | inr h ↦ absurd (clash (sym h ∙ s.1)) ]
+note_out g n k b y t d e (_, halted, _, inl s) = elim d [ inl h ↦ absurd (true_false (sym h ∙ s.0)) | inr h ↦ absurd (true_false (sym h ∙ s.1)) ]
 note_out g n k b y t d e (_, halted, _, inr s) =
     let (batches, note, how) = s in
     ap (λ (o : Note). o.out) note ∙ elim how [
@@ -121,7 +112,7 @@ word_heard g view m k done us puts text told fresh x y w is long l (_, inl s) = 
 word_heard g view m k done us puts text told fresh x y w is long l (_, inr s) =
     let (_, halted, to) = s in
     elim to [
-      | inl q ↦ absurd (clash (sym q.0 ∙ l.quiet))
+      | inl q ↦ absurd (true_false (sym q.0 ∙ l.quiet))
       | inr q ↦ elim q [
         | inl r ↦
             let (_, quiet, _, hears) = r in
@@ -157,28 +148,28 @@ word_heard g view m k done us puts text told fresh x y w is long l (_, inr s) =
 -- that has started waits for its answer.
 by_word : (h q c w : Bool) (k n : ℕ) → cond h false (cond q (nat_lt (n + 63) k) (is_wanted (cond c (cond w (Some k) (cond (nat_lt k 64) None (Some (k - 64)))) (Some k)) n)) ≡ true → q ≡ false
     → (n ≤ k) × (n ≡ k → (c ≡ false) ⊎ (w ≡ true))
-by_word true q c w k n e f = absurd (clash (sym e))
-by_word false true c w k n e f = absurd (clash f)
-by_word false false false w k n e f = elim (leb_tells (suc n) (k + 1)) [ inl p ↦ (omega (arith, p.1), λ z. inl refl) | inr p ↦ absurd (clash (sym e ∙ p.0)) ]
-by_word false false true true k n e f = elim (leb_tells (suc n) (k + 1)) [ inl p ↦ (omega (arith, p.1), λ z. inr refl) | inr p ↦ absurd (clash (sym e ∙ p.0)) ]
+by_word true q c w k n e f = absurd (true_false (sym e))
+by_word false true c w k n e f = absurd (true_false f)
+by_word false false false w k n e f = elim (leb_tells (suc n) (k + 1)) [ inl p ↦ (omega (arith, p.1), λ z. inl refl) | inr p ↦ absurd (true_false (sym e ∙ p.0)) ]
+by_word false false true true k n e f = elim (leb_tells (suc n) (k + 1)) [ inl p ↦ (omega (arith, p.1), λ z. inr refl) | inr p ↦ absurd (true_false (sym e ∙ p.0)) ]
 by_word false false true false k n e f = elim (leb_tells (suc k) 64) [
-  | inl p ↦ let At : Bool → Type 0 = λ b. is_wanted (cond b None (Some (k - 64))) n ≡ true in absurd (clash (sym (subst At p.0 e)))
+  | inl p ↦ let At : Bool → Type 0 = λ b. is_wanted (cond b None (Some (k - 64))) n ≡ true in absurd (true_false (sym (subst At p.0 e)))
   | inr p ↦
       let At : Bool → Type 0 = λ b. is_wanted (cond b None (Some (k - 64))) n ≡ true in
       let late = p.1 in
-      elim (leb_tells (suc n) (k - 64 + 1)) [ inl q ↦ (omega (arith, q.1, late), λ z. absurd (omega (arith, z, q.1, late))) | inr q ↦ absurd (clash (sym (subst At p.0 e) ∙ q.0)) ]
+      elim (leb_tells (suc n) (k - 64 + 1)) [ inl q ↦ (omega (arith, q.1, late), λ z. absurd (omega (arith, z, q.1, late))) | inr q ↦ absurd (true_false (sym (subst At p.0 e) ∙ q.0)) ]
 ]
 
 untold : (m : Machine) (c : Course) (o : Option Told) (begun : List Started) (going : Option Going) → KnowsConnecting m c o begun going → c.connected ≡ false → o ≡ None
 untold m c None begun going h e = refl
-untold m c (Some t) begun going h e = absurd (clash (sym h.connected ∙ e))
+untold m c (Some t) begun going h e = absurd (true_false (sym h.connected ∙ e))
 
 waiting : (m : Machine) (o : Open) (c : Course) (told : Option Told) (begun : List Started) (going : Option Going) (k : ℕ) → IsGoing m o c told begun going → waits_by o c.start k ≡ true → Homing k begun going
-waiting m opens.Nothing c told begun going k h e = absurd (clash (sym e))
+waiting m opens.Nothing c told begun going k h e = absurd (true_false (sym e))
 waiting m (opens.Goes s true) c told begun going k h e =
     let start = h.start_is in
-    elim (leb_tells c.start k) [ inl p ↦ (let late = p.1 in subst (Homing k begun) (sym h.is) (sym h.homes_is, omega (arith, start, late))) | inr p ↦ absurd (clash (sym e ∙ p.0)) ]
-waiting m (opens.Goes s false) c told begun going k h e = absurd (clash (sym e))
+    elim (leb_tells c.start k) [ inl p ↦ (let late = p.1 in subst (Homing k begun) (sym h.is) (sym h.homes_is, omega (arith, start, late))) | inr p ↦ absurd (true_false (sym e ∙ p.0)) ]
+waiting m (opens.Goes s false) c told begun going k h e = absurd (true_false (sym e))
 
 wanted : {M : Type 0} (g : Motion M) (view : M → Planner) (m : Machine) (k : ℕ) (done : List MotionTurn) (words : List WordMsg) (puts : List Put) (text : TextSofar) (told : Option Told) (fresh : List BoardLine) (x : Seat M) → IsPlanning g view → (l : Live view m k done words puts text told fresh x)
     → needs g.wants k x ≡ true → (x.heard ≤ k) × (x.heard ≡ k → (told ≡ None) ⊎ Homing k l.seen.begun l.seen.going)
@@ -249,15 +240,15 @@ hunger_is g view k x is halted quiet = live_hunger x.halted x.quiet (g.hungry x.
 -- it reads only as long as it is not known how the text is read
 still_read : (o : Option ReadEnd) (b : Bool) → is_none o && b ≡ true → o ≡ None
 still_read None b e = refl
-still_read (Some r) b e = absurd (clash (sym e))
+still_read (Some r) b e = absurd (true_false (sym e))
 
 text_more : (ended : Bool) (text bytes : List ℕ) → ended ≡ false → text_after text ended bytes ≡ text ++ bytes
 text_more false text bytes e = refl
-text_more true text bytes e = absurd (clash e)
+text_more true text bytes e = absurd (true_false e)
 
 ended_then : (ended end : Bool) → ended ≡ false → ended_after ended end ≡ end
 ended_then false end e = refl
-ended_then true end e = absurd (clash e)
+ended_then true end e = absurd (true_false e)
 
 -- a piece says that no more can be read, behind so many words
 abbrev Stops : ℕ → Piece → Type 0
@@ -315,7 +306,7 @@ pieces_read g view m k now i done words puts text told fresh (p ∷ ps) x b is l
 -- what a dead worker puts is bare
 dead_makes : {M : Type 0} (g : Motion M) (n k : ℕ) (b y : Seat M) (t : MotionTurn) → Dead b → MakeStep n g.turns k b t.batches t.note y → IsBare n k t × Dead y
 dead_makes g n k b y t d (_, halted, _, inl s) =
-    elim d [ inl e ↦ absurd (clash (sym e ∙ s.0)) | inr e ↦ absurd (clash (sym e ∙ s.1)) ]
+    elim d [ inl e ↦ absurd (true_false (sym e ∙ s.0)) | inr e ↦ absurd (true_false (sym e ∙ s.1)) ]
 dead_makes g n k b y t d (_, halted, _, inr s) =
     let (batches, note, how) = s in (
       (b.halted, y.out, batches, note),
@@ -388,7 +379,7 @@ live_makes g view m n k all puts text told fresh b y t is size l (_, halted, _, 
 live_makes g view m n k all puts text told fresh b y t is size l (_, halted, _, inr s) =
     let (batches, note, how) = s in
     elim how [
-      | inl q ↦ let (d, _) = q in elim d [ inl e ↦ absurd (clash (sym e ∙ l.halted)) | inr e ↦ absurd (clash (sym e ∙ l.quiet)) ]
+      | inl q ↦ let (d, _) = q in elim d [ inl e ↦ absurd (true_false (sym e ∙ l.halted)) | inr e ↦ absurd (true_false (sym e ∙ l.quiet)) ]
       | inr q ↦ let (_, wants) = q in inr ((b.halted, y.out, batches, note), inr wants.1, ap (λ (o : Note). o.out) note ∙ wants.2)
     ]
 
@@ -403,23 +394,23 @@ pieces_taken g k i (p ∷ ps) x b (y, step, more) = let (_, is) = step in pieces
 
 -- a live worker that knows of no lines takes the word of the same turn
 live_wants : (h q c w : Bool) (k n : ℕ) → h ≡ false → q ≡ false → c ≡ false → cond h false (cond q (nat_lt (n + 63) k) (is_wanted (cond c (cond w (Some k) (cond (nat_lt k 64) None (Some (k - 64)))) (Some k)) n)) ≡ false → k < n
-live_wants true q c w k n a b d e = absurd (clash a)
-live_wants false true c w k n a b d e = absurd (clash b)
-live_wants false false true w k n a b d e = absurd (clash d)
-live_wants false false false w k n a b d e = elim (leb_tells (suc n) (k + 1)) [ inl p ↦ absurd (clash (sym p.0 ∙ e)) | inr p ↦ omega (arith, p.1) ]
+live_wants true q c w k n a b d e = absurd (true_false a)
+live_wants false true c w k n a b d e = absurd (true_false b)
+live_wants false false true w k n a b d e = absurd (true_false d)
+live_wants false false false w k n a b d e = elim (leb_tells (suc n) (k + 1)) [ inl p ↦ absurd (true_false (sym p.0 ∙ e)) | inr p ↦ omega (arith, p.1) ]
 
 -- any live worker takes the word of 64 turns before, or a later one
 soon_wants : (h q c w : Bool) (k n : ℕ) → h ≡ false → q ≡ false → cond h false (cond q (nat_lt (n + 63) k) (is_wanted (cond c (cond w (Some k) (cond (nat_lt k 64) None (Some (k - 64)))) (Some k)) n)) ≡ false → k < n + 64
-soon_wants true q c w k n a b e = absurd (clash a)
-soon_wants false true c w k n a b e = absurd (clash b)
-soon_wants false false false w k n a b e = elim (leb_tells (suc n) (k + 1)) [ inl p ↦ absurd (clash (sym p.0 ∙ e)) | inr p ↦ omega (arith, p.1) ]
-soon_wants false false true true k n a b e = elim (leb_tells (suc n) (k + 1)) [ inl p ↦ absurd (clash (sym p.0 ∙ e)) | inr p ↦ omega (arith, p.1) ]
+soon_wants true q c w k n a b e = absurd (true_false a)
+soon_wants false true c w k n a b e = absurd (true_false b)
+soon_wants false false false w k n a b e = elim (leb_tells (suc n) (k + 1)) [ inl p ↦ absurd (true_false (sym p.0 ∙ e)) | inr p ↦ omega (arith, p.1) ]
+soon_wants false false true true k n a b e = elim (leb_tells (suc n) (k + 1)) [ inl p ↦ absurd (true_false (sym p.0 ∙ e)) | inr p ↦ omega (arith, p.1) ]
 soon_wants false false true false k n a b e = elim (leb_tells (suc k) 64) [
   | inl p ↦ omega (arith, p.1)
   | inr p ↦
       let At : Bool → Type 0 = λ b. is_wanted (cond b None (Some (k - 64))) n ≡ false in
       let late = p.1 in
-      elim (leb_tells (suc n) (k - 64 + 1)) [ inl q ↦ absurd (clash (sym q.0 ∙ subst At p.0 e)) | inr q ↦ omega (arith, q.1, late) ]
+      elim (leb_tells (suc n) (k - 64 + 1)) [ inl q ↦ absurd (true_false (sym q.0 ∙ subst At p.0 e)) | inr q ↦ omega (arith, q.1, late) ]
 ]
 
 wants_more : {M : Type 0} (g : Motion M) (view : M → Planner) (m : Machine) (k : ℕ) (done : List MotionTurn) (words : List WordMsg) (puts : List Put) (text : TextSofar) (told : Option Told) (fresh : List BoardLine) (a : Seat M) → IsPlanning g view → Live view m k done words puts text told fresh a
@@ -436,11 +427,11 @@ wants_more g view m k done words puts text told fresh a is l enough =
 
 -- a live worker whose section waits for its answer takes the word of the same turn
 waits_now : (h q c w : Bool) (k n : ℕ) → h ≡ false → q ≡ false → w ≡ true → cond h false (cond q (nat_lt (n + 63) k) (is_wanted (cond c (cond w (Some k) (cond (nat_lt k 64) None (Some (k - 64)))) (Some k)) n)) ≡ false → k < n
-waits_now true q c w k n a b d e = absurd (clash a)
-waits_now false true c w k n a b d e = absurd (clash b)
-waits_now false false c false k n a b d e = absurd (clash (sym d))
-waits_now false false true true k n a b d e = elim (leb_tells (suc n) (k + 1)) [ inl p ↦ absurd (clash (sym p.0 ∙ e)) | inr p ↦ omega (arith, p.1) ]
-waits_now false false false true k n a b d e = elim (leb_tells (suc n) (k + 1)) [ inl p ↦ absurd (clash (sym p.0 ∙ e)) | inr p ↦ omega (arith, p.1) ]
+waits_now true q c w k n a b d e = absurd (true_false a)
+waits_now false true c w k n a b d e = absurd (true_false b)
+waits_now false false c false k n a b d e = absurd (true_false (sym d))
+waits_now false false true true k n a b d e = elim (leb_tells (suc n) (k + 1)) [ inl p ↦ absurd (true_false (sym p.0 ∙ e)) | inr p ↦ omega (arith, p.1) ]
+waits_now false false false true k n a b d e = elim (leb_tells (suc n) (k + 1)) [ inl p ↦ absurd (true_false (sym p.0 ∙ e)) | inr p ↦ omega (arith, p.1) ]
 
 answers_over : {M : Type 0} (g : Motion M) (view : M → Planner) (m : Machine) (k : ℕ) (done : List MotionTurn) (puts : List Put) (text : TextSofar) (told : Option Told) (fresh : List BoardLine) (t : MotionTurn) (a : Seat M) → IsPlanning g view → length done ≡ k
     → a.heard ≡ length (words_in (done ++ t ∷ [])) → (l : Live view m k done t.words puts text told fresh a) → needs g.wants k a ≡ false → HaveHeard (k + 1) (done ++ t ∷ []) [] l.seen.begun l.seen.going
@@ -501,12 +492,9 @@ ends_here view m n k done puts text told x ts l bare why =
     }
 
 -- what is known of connecting stays so
-heard_some : (m : Machine) (k : ℕ) (ws : List WordMsg) (t : Told) → connecting_heard m k ws (Some t) ≡ Some t
+pub heard_some : (m : Machine) (k : ℕ) (ws : List WordMsg) (t : Told) → connecting_heard m k ws (Some t) ≡ Some t
 heard_some m k [] t = refl
 heard_some m k (w ∷ ws) t = heard_some m k ws t
-
-some_none : {X : Type 0} {x : X} → Some x ≡ None → ⊥
-some_none e = cc
 
 -- from a turn on, in which no more of the text could be read
 stops_here : {M : Type 0} (view : M → Planner) (m : Machine) (n k : ℕ) (done : List MotionTurn) (puts : List Put) (text : TextSofar) (told : Option Told) (fresh : List BoardLine) (x a : Seat M) (t : MotionTurn) (ts : List MotionTurn) → (l : Live view m k done [] puts text told [] x)

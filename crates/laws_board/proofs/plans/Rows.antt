@@ -1,8 +1,6 @@
 -- Sections in a row.
 use Rattle.std.proofs.Common.{◌≡◌, ◌≤◌, ◌+◌, ◌⊎◌, ℕ, List, [], ◌∷◌, ◌++◌, ap, arith, inl, inr, refl, subst, sym}
-use Rattle.plan_types.specs.declared.machine.Machine.{Machine}
-use Rattle.plan_types.specs.Lines.{Clocks}
-use Rattle.motion_work.specs.Seen.{AreStarted, Started}
+use Rattle.laws_board.proofs.Names.{Machine, Clocks, AreStarted, Started}
 use Rattle.motion_work.proofs.Turning.{planned_late}
 use Rattle.laws_board.specs.plans.Rows.{AreInARow}
 

@@ -1,25 +1,14 @@
 -- A board's part of a run, from what the planner put.
 use Rattle.std.proofs.Common.{◌≡◌, ◌≢◌, ℕ, ◌+◌, ◌<◌, ◌≤◌, List, [], ◌∷◌, ◌++◌, length, map, take, All, Some, subst}
 use Rattle.std.specs.Prelude.{slice_index_or}
-use Rattle.plan_types.specs.declared.machine.Machine.{Machine}
-use Rattle.std.proofs.lemmas.List.{length-map}
-use Rattle.std.proofs.lemmas.List.Elements.{All-cons, All-nil}
-use Rattle.plan_types.specs.Lines.{Clocks}
-use Rattle.plan_types.specs.Machines.{board_at}
-use Rattle.plan_types.specs.Sections.{clocks_at}
-use Rattle.section_units.specs.Sections.{IsSection, of_stepper}
+use Rattle.laws_board.proofs.Names.{Machine, length-map, All-cons, All-nil, Clocks, board_at, clocks_at, of_stepper, units_of, Orders, parts_on, AreStarted, Started, Told, MotionTurn, gather, item}
+use Rattle.section_units.specs.Sections.{IsSection}
 use Rattle.section_units.specs.Plans.{AreSentToOn}
 use Rattle.section_units.specs.Sent.{AreSentTo}
-use Rattle.step_feed.specs.Pacing.{units_of}
-use Rattle.link_work.specs.Turn.{Orders}
 use Rattle.laws_board.specs.sections.Parts.{AreOrdersOf, AreTracked, IsBoardRun, MakesIn}
-use Rattle.motion_work.specs.Boards.{parts_on}
-use Rattle.motion_work.specs.Seen.{AreMoves, AreSentBy, AreStarted, Started, planning_lines, part_on}
+use Rattle.motion_work.specs.Seen.{AreMoves, AreSentBy, planning_lines, part_on}
 use Rattle.motion_stream.specs.Wholes.{AreSentIn}
-use Rattle.motion_work.specs.Told.{Told}
 use Rattle.motion_work.proofs.Boardwise as boardwise
-use Rattle.session_work.specs.declared.table.MotionTurn.{MotionTurn}
-use Rattle.session_work.specs.Rows.{gather, item}
 use Rattle.laws_board.specs.plans.Given.{EndBefore, TookBatches, TookControls}
 use Rattle.laws_board.specs.plans.Planned.{AreToldBy, Plans, put_of, puts_of}
 use Rattle.laws_board.proofs.plans.Giving.{given, in_a_row}

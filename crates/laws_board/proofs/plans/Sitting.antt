@@ -1,18 +1,14 @@
 -- Units of a stepper have steps; and an object id that has a plan on a board is that of a stepper of the board.
 use Rattle.std.proofs.Common.{◌≡◌, ◌≢◌, ℕ, zero, suc, ◌+◌, ◌<◌, ◌≤◌, Bool, true, false, cond, List, [], ◌∷◌, ◌++◌, get_or, map, take, length, refl, ap, sym, ◌∙◌, arith, inl, inr}
 use Rattle.std.specs.Prelude.{◌==◌}
-use Rattle.std.proofs.lemmas.Bool.Decides.{eqb_tells}
+use Rattle.laws_board.proofs.Names.{eqb_tells, Planned, Pulse, Clocks, StepUnit}
 use Rattle.plan_types.specs.Plan.{pulse_of}
 use Rattle.plan_types.specs.declared.machine.StepperDef.{StepperDef}
-use Rattle.plan_types.specs.declared.plan.Planned.{Planned}
-use Rattle.plan_types.specs.declared.plan.Pulse.{Pulse}
 use Rattle.plan_types.specs.Board.{steps_of}
-use Rattle.plan_types.specs.Lines.{Clocks}
 use Rattle.plan_types.specs.Machines.{no_stepper}
 use Rattle.section_units.specs.Plans.{board_plans}
 use Rattle.section_units.specs.Sections.{AreBegunBy, dir_after, steps_said, ticks_meant}
 use Rattle.section_units.specs.Units.{as_sent}
-use Rattle.step_feed.specs.Units.{StepUnit}
 use Rattle.laws_board.proofs.plans.Placing.{count_on}
 
 -- units have steps

@@ -2,15 +2,10 @@
 use Rattle.std.proofs.Common.{ℕ, ◌+◌, ◌≤◌, List, [], ◌∷◌, Option, Some, None, sym, subst, arith}
 use Rattle.std.specs.Prelude.{max}
 use Rattle.plan_types.specs.Sections.{first_start}
-use Rattle.plan_types.specs.declared.machine.Machine.{Machine}
-use Rattle.plan_types.specs.Lines.{Clocks}
-use Rattle.msg_code.specs.declared.talk.NoteNews.{NoteNews}
-use Rattle.msg_code.specs.declared.talk.WordMsg.{WordMsg}
+use Rattle.laws_board.proofs.Names.{Machine, Clocks, NoteNews, WordMsg, Started, Told, MotionTurn}
 use Rattle.motion_work.specs.Further.{told_on}
-use Rattle.motion_work.specs.Seen.{Started}
-use Rattle.motion_work.specs.Told.{Told, heard, told_at}
+use Rattle.motion_work.specs.Told.{heard, told_at}
 use Rattle.motion_work.specs.Told as told
-use Rattle.session_work.specs.declared.table.MotionTurn.{MotionTurn}
 use Rattle.laws_board.specs.plans.Planned.{AreToldBy, Plans, connecting_heard, told_behind, told_of}
 use Rattle.laws_board.proofs.plans.Beginning.{Spread, spread_of}
 

@@ -1,28 +1,11 @@
 -- The lines of the reactor's turns, section by section.
 use Rattle.std.proofs.Common.{◌≡◌, ℕ, ◌+◌, ◌<◌, ◌≤◌, All, List, [], ◌∷◌, ◌++◌, length, map, Option, Some, None, refl, ap, sym, ◌∙◌, subst, arith, inl, inr, append_assoc, append-nil}
-use Rattle.std.proofs.lemmas.Bool.Decides.{eqb_tells}
-use Rattle.std.proofs.lemmas.Grind.{flat_map-append}
-use Rattle.std.proofs.lemmas.List.Elements.{All-head, All-tail}
-use Rattle.plan_types.specs.declared.machine.Machine.{Machine}
-use Rattle.plan_types.specs.declared.plan.Pulse.{Pulse}
-use Rattle.msg_code.specs.declared.talk.Note.{Note}
-use Rattle.msg_code.specs.declared.talk.NoteNews.{NoteNews}
+use Rattle.laws_board.proofs.Names.{eqb_tells, flat_map-append, All-head, All-tail, Machine, Pulse, Note, NoteNews, State, ReportLine, flat_map, Switch, Known, noted, news_of, known_behind, told_all, reacts, first_lines, machine_line, Came, known_by, Started, MotionTurn, ReactorTurn}
 use Rattle.msg_code.specs.declared.talk.NoteNews.TheVariants as news
-use Rattle.msg_code.specs.declared.talk.State.{State}
-use Rattle.report_text.specs.declared.line.ReportLine.{ReportLine}
 use Rattle.report_text.specs.declared.line.ReportLine.TheVariants as report
-use Rattle.std.specs.List.{flat_map}
-use Rattle.wire_scene.specs.declared.scene.Switch.{Switch}
 use Rattle.host_reactor.specs.declared.ordered.Begun.{Begun}
-use Rattle.host_reactor.specs.declared.ordered.Known.{Known}
-use Rattle.host_reactor.specs.Notes.{noted, news_of, known_behind, told_all}
-use Rattle.host_reactor.specs.Reactor.{reacts}
-use Rattle.host_reactor.specs.Report.{drift_line, drift_lines, first_lines, machine_line, pulse_at, pulse_line, pulse_lines, stepper_place, section_line}
-use Rattle.host_reactor.specs.Runs.{Came, known_by}
+use Rattle.host_reactor.specs.Report.{drift_line, drift_lines, pulse_at, pulse_line, pulse_lines, stepper_place, section_line}
 use Rattle.motion_work.specs.Puts.{ArePut}
-use Rattle.motion_work.specs.Seen.{Started}
-use Rattle.session_work.specs.declared.table.MotionTurn.{MotionTurn}
-use Rattle.session_work.specs.declared.table.ReactorTurn.{ReactorTurn}
 use Rattle.laws_board.specs.plans.Lines.{AreLinesOf, TellTurns, TellsTurn, TookEach, TookNotes, came_in, head_in, heads_of, pulse_in, pulses_of, starts_at}
 use Rattle.laws_board.specs.plans.Planned.{puts_of}
 use Rattle.laws_board.proofs.plans.Shaping.{ArePlain, IsPlain, shaped}
@@ -57,7 +40,7 @@ drifts_plain [] = tt
 drifts_plain (n ∷ ns) = plain_both (drift_line n) (drift_lines ns) (drift_plain n) (drifts_plain ns)
 
 -- pulses begin no section
-heads_append : (xs ys : List ReportLine) → heads_of (xs ++ ys) ≡ heads_of xs ++ heads_of ys
+pub heads_append : (xs ys : List ReportLine) → heads_of (xs ++ ys) ≡ heads_of xs ++ heads_of ys
 heads_append xs ys = flat_map-append head_in xs ys
 
 pub pulses_append : (place : ℕ) (xs ys : List ReportLine) → pulses_of place (xs ++ ys) ≡ pulses_of place xs ++ pulses_of place ys

@@ -1,21 +1,16 @@
 -- What a planner put in the turns of a run is told by the first sections of a whole text.
 use Rattle.std.proofs.Common.{◌≡◌, ℕ, zero, suc, ◌+◌, ◌<◌, ◌^◌, ◌⊎◌, List, [], ◌++◌, length, Option, None, Some, All, refl, sym, subst, arith, inl, inr}
 use Rattle.std.proofs.lemmas.Grind.{merely}
-use Rattle.std.proofs.Math.Logic.{∥∥₁_elim, ∥∥₁_map, ∥∥₁_prop}
-use Rattle.plan_types.specs.declared.machine.Machine.{Machine}
+use Rattle.laws_board.proofs.Names.{∥∥₁_map, Machine, Started, clocks_at, AreKept, leb_tells, Told, MotionTurn}
+use Rattle.std.proofs.Math.Logic.{∥∥₁_elim, ∥∥₁_prop}
 use Rattle.motion_work.specs.Puts.{Put}
-use Rattle.motion_work.specs.Seen.{AreBoardClocks, Started}
-use Rattle.plan_types.specs.Sections.{clocks_at}
-use Rattle.clock_line.specs.Kept.{AreKept}
-use Rattle.std.proofs.lemmas.Bool.Decides.{leb_tells}
-use Rattle.motion_work.specs.Told.{Told}
+use Rattle.motion_work.specs.Seen.{AreBoardClocks}
 use Rattle.motion_stream.specs.Motions.{IsPlannerOf, Planner}
 use Rattle.motion_stream.specs.Puts.{ArePutBy}
 use Rattle.motion_stream.specs.Seen as stream
 use Rattle.motion_stream.specs.Texts.{MayBecome}
 use Rattle.motion_stream.specs.Wholes.{ArePlanned, IsToldOf, AreSentIn}
 use Rattle.motion_stream.proofs.Planning.{are_planned}
-use Rattle.session_work.specs.declared.table.MotionTurn.{MotionTurn}
 use Rattle.laws_board.specs.plans.Answers.{TookNoneAhead}
 use Rattle.laws_board.proofs.plans.Answering.{HaveHeard, Homing, all_end, all_homing}
 use Rattle.laws_board.specs.plans.Planned.{AllInRange, AreBare, AreKnown, AreReadInOrder, AreToldBy, LastHomes, Plans, StopsAt, TakeUpLines, TextSofar, TookInTime, nothing_read, puts_of, read_by, told_of, words_in}

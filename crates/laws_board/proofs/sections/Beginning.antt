@@ -1,13 +1,9 @@
 -- A run from its first turn on: until the boards are ready only control commands are queued.
 use Rattle.std.proofs.Common.{◌≡◌, ◌≢◌, ℕ, zero, suc, true, ◌+◌, ◌≤◌, ◌⊎◌, List, [], ◌∷◌, ◌++◌, length, map, take, All, refl, ap, sym, ◌∙◌, subst, arith, inl, inr, append-nil}
-use Rattle.std.proofs.lemmas.List.Elements.{All-head, All-tail}
-use Rattle.plan_types.specs.Lines.{Clocks}
-use Rattle.board_world.specs.Orders.{plain, units_orders}
-use Rattle.step_feed.specs.Pacing.{units_of}
-use Rattle.link_work.specs.Turn.{Orders}
+use Rattle.laws_board.proofs.Names.{All-head, All-tail, Clocks, plain, units_orders, units_of, Orders, BoardSection, of_stepper}
 use Rattle.laws_board.specs.sections.Events.{AreTicks}
 use Rattle.laws_board.specs.sections.Known.{Sent, sent_at, sent_in, Known, unknown, known_from, AreBelow}
-use Rattle.section_units.specs.Sections.{BoardSection, IsSection, of_stepper, all_steps, AreReleased}
+use Rattle.section_units.specs.Sections.{IsSection, all_steps, AreReleased}
 use Rattle.laws_board.specs.sections.Parts.{AreTracked, IsControl, MakesIn, IsBoardRun, AreOrdersOf, AreInARow}
 use Rattle.laws_board.proofs.sections.Controlling.{stays_made, controls_good, controls_known, controls_make}
 use Rattle.laws_board.proofs.sections.Sectioning.{AreLater, none_later, nothing_sent, row_later, none_done, Splits, prepend, Needs}

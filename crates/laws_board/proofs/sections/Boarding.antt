@@ -1,13 +1,7 @@
 -- A board of a run of several, cut at two turns.
 use Rattle.std.proofs.Common.{◌≡◌, ℕ, true, ◌+◌, ◌-◌, List, [], ◌∷◌, ◌++◌, length, take, drop, Option, Some, None, refl, ap, sym, ◌∙◌, subst, arith}
-use Rattle.plan_types.specs.declared.clock.BoardClock.{BoardClock}
-use Rattle.plan_types.specs.declared.plan.BoardState.{BoardState}
-use Rattle.plan_types.specs.declared.plan.BoardState.TheVariants.{Running, Shut}
-use Rattle.msg_code.specs.declared.talk.ShutNews.{ShutNews}
-use Rattle.msg_code.specs.declared.talk.State.{State}
+use Rattle.laws_board.proofs.Names.{BoardClock, BoardState, Running, Shut, ShutNews, State, Core, LinkState, Orders}
 use Rattle.link_core.specs.Core.{sent}
-use Rattle.board_world.specs.World.{Core}
-use Rattle.link_work.specs.Turn.{LinkState, Orders}
 use Rattle.link_work.specs.Told.{IsShutNews}
 use Rattle.laws_board.specs.sections.Links.{AreTold}
 

@@ -1,19 +1,12 @@
 -- On lines without entries no turn is spoiled.
 use Rattle.std.proofs.Common.{◌≡◌, ℕ, zero, suc, ◌+◌, ◌≤◌, Bool, true, false, cond, List, [], ◌∷◌, ◌++◌, take, Option, Some, None, refl, ap, sym, ◌∙◌, subst, arith}
 use Rattle.std.specs.Prelude.{◌&&◌, nat_le}
+use Rattle.laws_board.proofs.Names.{and_from, BoardClock, BoardDef, Level, Entry, Down, Up, run_world, AreTurns, first_state, IsTurn, LinkState, Orders, after_board, after_host}
 use Rattle.std.proofs.lemmas.Bool.{le-leb}
-use Rattle.plan_types.specs.declared.clock.BoardClock.{BoardClock}
-use Rattle.plan_types.specs.declared.machine.BoardDef.{BoardDef}
-use Rattle.plan_types.specs.declared.levels.Level.{Level}
 use Rattle.wire_scene.specs.declared.scene.Deed.{Deed}
-use Rattle.wire_scene.specs.declared.scene.Entry.{Entry}
-use Rattle.wire_scene.specs.declared.scene.Way.TheVariants.{Down, Up}
 use Rattle.wire_scene.specs.Wire.{Copy, Line, entries_behind, connect_if, deed_of, put_on, put_with}
-use Rattle.board_world.specs.World.{run_world}
 use Rattle.link_work.specs.Ends.{Ended, is_quiet, is_quiet_line, no_copies, some_idle, spoiled, stretch, unquiet}
-use Rattle.link_work.specs.Runs.{AreTurns}
-use Rattle.link_work.specs.Stands.{first_state}
-use Rattle.link_work.specs.Turn.{IsTurn, LinkState, Orders, after_board, after_host, board_steps, host_steps, line_for, newly, put_all, still}
+use Rattle.link_work.specs.Turn.{board_steps, host_steps, line_for, newly, put_all, still}
 use Rattle.laws_board.specs.sections.Links.{ends_of}
 
 -- blocks that are due
@@ -97,14 +90,11 @@ abbrev pub AllQuiet : List Ended → Type 0
 AllQuiet [] = Unit {0}
 AllQuiet (e ∷ ends) = (is_quiet e ≡ true) × AllQuiet ends
 
-pub both_quiet : (a b : Bool) → a ≡ true → b ≡ true → (a && b) ≡ true
-both_quiet a b e f = rw e f
-
 pub turns_quiet : (clock : BoardClock) (turn : ℕ) (os : List Orders) (l m : LinkState) (t : AreTurns clock turn os l m) → AreClear l turn → AllQuiet (ends_of clock turn os l m t)
 turns_quiet clock turn [] l m t c = tt
 turns_quiet clock turn (o ∷ os) l m t c =
     let next = clear_turn clock turn o l t.0 t.1 c in
-    (both_quiet (is_quiet_line t.0.down turn) (is_quiet_line t.0.up turn) (quiet_now t.0.down turn next.0) (quiet_now t.0.up turn next.1), turns_quiet clock (turn + 1) os t.0 m t.2 next)
+    (and_from (is_quiet_line t.0.down turn) (is_quiet_line t.0.up turn) (quiet_now t.0.down turn next.0) (quiet_now t.0.up turn next.1), turns_quiet clock (turn + 1) os t.0 m t.2 next)
 
 pub take_quiet : (k : ℕ) (ends : List Ended) → AllQuiet ends → AllQuiet (take k ends)
 take_quiet zero ends q = tt

@@ -1,8 +1,7 @@
 -- Ticks by the clock lines and by the board.
 use Rattle.std.proofs.Common.{◌≡◌, ℕ, zero, suc, ◌+◌, ◌*◌, ◌^◌, ◌<◌, ◌≤◌, arith, inl, inr}
-use Rattle.std.proofs.lemmas.Bool.Decides.{leb_tells}
-use Rattle.plan_types.specs.Clock.{turn_ns}
-use Rattle.plan_types.specs.Lines.{Clocks, lines_tick, lines_turn}
+use Rattle.laws_board.proofs.Names.{leb_tells, turn_ns, Clocks, lines_tick}
+use Rattle.plan_types.specs.Lines.{lines_turn}
 use Rattle.clock_line.proofs.Turns.{turn-after}
 use Rattle.laws_board.specs.sections.Events.{AreTicks}
 use Rattle.laws_board.specs.sections.Parts.{AreTracked}

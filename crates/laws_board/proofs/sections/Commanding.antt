@@ -1,15 +1,10 @@
 -- A board takes good commands, those of triggers among them, one behind the other.
 use Rattle.std.proofs.Common.{◌≡◌, ℕ, Bool, true, false, cond, ◌≤◌, ◌==◌, ◌⊎◌, List, [], ◌∷◌, ◌++◌, Option, Some, refl, ap, sym, ◌∙◌, subst, arith, inl, inr, append-nil}
-use Rattle.std.proofs.lemmas.Bool.{eq-eqb}
-use Rattle.plan_types.specs.declared.plan.BoardState.{BoardState}
-use Rattle.plan_types.specs.declared.plan.BoardState.TheVariants.{Running}
-use Rattle.plan_types.specs.declared.plan.Pulse.{Pulse}
-use Rattle.msg_code.specs.declared.cmd.Cmd.{Cmd}
+use Rattle.laws_board.proofs.Names.{eq-eqb, BoardState, Running, Pulse, Cmd, Controller, is_shut, Rig, acts_running, takes, takes_all, Meant, commands_of}
 use Rattle.msg_code.specs.declared.cmd.Cmd.TheVariants as cmd
-use Rattle.board_sim.specs.Board.{Controller, stepper_at, is_shut, acts, command_request}
-use Rattle.board_sim.specs.Rig.{Rig, acts_running, takes, takes_all}
+use Rattle.board_sim.specs.Board.{stepper_at, acts, command_request}
 use Rattle.board_sim.specs.Rig as rig
-use Rattle.board_sim.specs.Fair.{Meant, commands_of, IsFairCommand, IsFairRunning, AreFair}
+use Rattle.board_sim.specs.Fair.{IsFairCommand, IsFairRunning, AreFair}
 use Rattle.board_sim.proofs.RigShut.{all_left_by}
 use Rattle.board_sim.proofs.RigStates.{all_tick}
 use Rattle.laws_board.specs.sections.Known.{AreQueued, Known, Sent, orders_sent, IsLostFor}

@@ -1,11 +1,8 @@
 -- Control commands change nothing that counts, but that steppers are made.
 use Rattle.std.proofs.Common.{◌≡◌, ℕ, Bool, true, List, [], ◌∷◌, map, refl, ap, ◌∙◌, inl, inr}
-use Rattle.std.proofs.lemmas.Bool.Decides.{eqb_tells}
-use Rattle.std.proofs.lemmas.List.Elements.{All-head, All-tail}
+use Rattle.laws_board.proofs.Names.{eqb_tells, All-head, All-tail, Cmd, plain}
 use Rattle.std.specs.Prelude.{All}
-use Rattle.msg_code.specs.declared.cmd.Cmd.{Cmd}
 use Rattle.msg_code.specs.declared.cmd.Cmd.TheVariants as cmd
-use Rattle.board_world.specs.Orders.{plain}
 use Rattle.laws_board.specs.sections.Known.{Sent, sent_at, Known, knows, knows_of, known_from, IsGoodFor, AreGoodFrom}
 use Rattle.laws_board.specs.sections.Parts.{IsControl, IsMaking, Makes}
 

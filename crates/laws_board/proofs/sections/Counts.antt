@@ -1,30 +1,25 @@
 -- Counting triples that have steps at or after a tick.
 use Rattle.std.proofs.Common.{◌≡◌, ℕ, suc, ◌+◌, ◌<◌, ◌≤◌, List, [], ◌∷◌, ◌++◌, length, refl, ap, sym, ◌∙◌, arith, inl, inr, append-nil}
-use Rattle.std.proofs.lemmas.Bool.Decides.{leb_tells}
+use Rattle.laws_board.proofs.Names.{leb_tells}
 use Rattle.std.specs.Prelude.{Bool}
 use Rattle.plan_types.specs.Numbers.{UpFrom}
 use Rattle.plan_types.specs.Board.{Group, last_of, end_of, ticks_before, ticks_from, with_left, unless_left, groups_from, last_before}
 use Rattle.board_sim.specs.Fair.{GroupsRiseFrom}
-use Rattle.board_sim.proofs.Steps.{split_ticks}
+use Rattle.board_sim.proofs.Steps.{split_ticks, last_from, last_any}
 use Rattle.step_feed.specs.Rings.{one_from, count_from}
 use Rattle.laws_board.specs.sections.Known.{AreBelow}
+use Rattle.step_feed.proofs.Rings.{one-behind, one-before}
 
 -- how many groups end at or after a tick
 abbrev pub ends_from : ℕ → List Group → ℕ
 ends_from x [] = 0
 ends_from x (g ∷ gs) = one_from x (last_of 0 g.ticks) + ends_from x gs
 
-pub one_at : (x e : ℕ) → x ≤ e → one_from x e ≡ 1
-one_at x e h = elim (leb_tells x e) [ inl p ↦ rw p.0 refl | inr p ↦ absurd (omega (arith, p.1, h)) ]
-
-pub one_low : (x e : ℕ) → e < x → one_from x e ≡ 0
-one_low x e h = elim (leb_tells x e) [ inl p ↦ absurd (omega (arith, p.1, h)) | inr p ↦ rw p.0 refl ]
-
 pub one_falls : (x y e : ℕ) → x ≤ y → one_from y e ≤ one_from x e
 one_falls x y e h =
     elim (leb_tells y e) [
-      | inl p ↦ omega (arith, one_at y e p.1, one_at x e (omega (arith, p.1, h)))
-      | inr p ↦ omega (arith, one_low y e (omega (arith, p.1)))
+      | inl p ↦ omega (arith, one-behind y e p.1, one-behind x e (omega (arith, p.1, h)))
+      | inr p ↦ omega (arith, one-before y e (omega (arith, p.1)))
     ]
 
 pub counts_fall : (x y : ℕ) (es : List ℕ) → x ≤ y → count_from y es ≤ count_from x es
@@ -33,7 +28,7 @@ counts_fall x y (e ∷ es) h = omega (arith, one_falls x y e h, counts_fall x y 
 
 pub none_from : (x y : ℕ) (es : List ℕ) → x ≤ y → AreBelow x es → count_from y es ≡ 0
 none_from x y [] h b = refl
-none_from x y (e ∷ es) h b = omega (arith, one_low y e (omega (arith, b.0, h)), none_from x y es h b.1)
+none_from x y (e ∷ es) h b = omega (arith, one-before y e (omega (arith, b.0, h)), none_from x y es h b.1)
 
 -- the last of ticks that don't fall
 pub last_least : (low x : ℕ) (ts : List ℕ) → UpFrom low ts → 0 < length ts → low ≤ last_of x ts
@@ -44,17 +39,13 @@ last_least low x (t ∷ v ∷ ts) u some = omega (arith, u.0, last_least t t (v 
 pub all_counted : (now low : ℕ) (gs : List Group) → now ≤ low → GroupsRiseFrom low gs → length gs ≤ ends_from now gs
 all_counted now low [] h r = omega arith
 all_counted now low (g ∷ gs) h r =
-    let one = one_at now (last_of 0 g.ticks) (omega (arith, h, last_least low 0 g.ticks r.1 r.0)) in
+    let one = one-behind now (last_of 0 g.ticks) (omega (arith, h, last_least low 0 g.ticks r.1 r.0)) in
     let rest = all_counted now (last_of low g.ticks) gs (omega (arith, h, last_least low low g.ticks r.1 r.0)) r.2 in
     omega (arith, one, rest)
 
 pub ends_push : (x : ℕ) (gs : List Group) (g : Group) → ends_from x (gs ++ g ∷ []) ≡ one_from x (last_of 0 g.ticks) + ends_from x gs
 ends_push x [] g = refl
 ends_push x (h ∷ gs) g = omega (arith, ends_push x gs g)
-
-last_from : (x low t : ℕ) (ts : List ℕ) → 0 < length (ticks_from t ts) → last_of x (ticks_from t ts) ≡ last_of low ts
-last_from x low t [] h = absurd (omega arith)
-last_from x low t (u ∷ us) h = elim (leb_tells (suc u) t) [ inl p ↦ rw p.0 (last_from x u t us (rw p.0 at h)) | inr p ↦ rw p.0 refl ]
 
 left_ends : (x e : ℕ) (up : Bool) (ls : List ℕ) (gs gf : List Group) → ends_from x gf ≤ ends_from x gs → (0 < length ls → last_of 0 ls ≡ e)
     → ends_from x (with_left up ls gs gf) ≤ one_from x e + ends_from x gs
@@ -72,10 +63,6 @@ ends_fall x t (g ∷ gs) =
 pub last_append : (x : ℕ) (ts us : List ℕ) → last_of x (ts ++ us) ≡ last_of (last_of x ts) us
 last_append x [] us = refl
 last_append x (t ∷ ts) us = last_append t ts us
-
-pub last_any : (x y : ℕ) (ts : List ℕ) → 0 < length ts → last_of x ts ≡ last_of y ts
-last_any x y [] h = absurd (omega arith)
-last_any x y (t ∷ ts) h = refl
 
 end_left : (last t : ℕ) (up : Bool) (bs ls ts : List ℕ) (gs : List Group) → bs ++ ls ≡ ts
     → end_of (last_before (last_of last bs) t gs) (groups_from t gs) ≡ end_of (last_of last bs) gs

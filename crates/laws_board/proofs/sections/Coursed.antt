@@ -1,23 +1,15 @@
 -- Turns keep what steps keep, and the pulses of a turn lie within it.
 use Rattle.std.proofs.Common.{◌≡◌, ℕ, ◌+◌, ◌≤◌, ◌⊎◌, List, [], ◌∷◌, ◌++◌, length, map, Option, Some, None, refl, ap, sym, ◌∙◌, subst, arith, inl, inr, append_assoc, append-nil}
-use Rattle.plan_types.specs.declared.levels.Level.{Level}
-use Rattle.plan_types.specs.declared.machine.BoardDef.{BoardDef}
-use Rattle.plan_types.specs.declared.plan.Pulse.{Pulse}
-use Rattle.msg_code.specs.declared.cmd.Cmd.{Cmd}
+use Rattle.laws_board.proofs.Names.{Level, BoardDef, Pulse, Cmd, is_shut, only, plain, units_orders, Core, Step, Do, Turn, does, after_event, world_after, run_world, new_world, Orders, queued_in, run_append}
 use Rattle.msg_code.specs.declared.cmd.Cmd.TheVariants as cmd
-use Rattle.board_sim.specs.Board.{new_controller, is_shut, stepper_at}
-use Rattle.board_sim.specs.Fair.{only}
+use Rattle.board_sim.specs.Board.{new_controller, stepper_at}
 use Rattle.board_sim.proofs.HaltedTime.{time_keeps, whole_part}
-use Rattle.board_sim.proofs.Keeps.{first_kept}
+use Rattle.board_sim.proofs.Keeps.{first_kept, none_at}
 use Rattle.board_sim.proofs.RigShut.{passes_left}
 use Rattle.board_sim.proofs.Steps.{only-append}
 use Rattle.board_world.specs.declared.event.Event.TheVariants.{Put, Control, Pass}
-use Rattle.board_world.specs.Orders.{plain, units_orders}
-use Rattle.board_world.specs.World.{Core, Step, Do, Turn, does, after_event, world_after, run_world, new_world, AllFair}
+use Rattle.board_world.specs.World.{AllFair}
 use Rattle.board_world.proofs.Runs.{ordered_by, start_ordered}
-use Rattle.link_work.specs.Turn.{Orders}
-use Rattle.link_work.specs.Runs.{queued_in}
-use Rattle.link_work.proofs.Sending.{run_append}
 use Rattle.link_work.proofs.Steps.{tick_passed}
 use Rattle.laws_board.specs.sections.Events.{AreQuiet, IsTurnOf, AreTurnsOf}
 use Rattle.laws_board.specs.sections.Known.{Sent, sent_at, sent_in}
@@ -25,7 +17,7 @@ use Rattle.laws_board.specs.sections.Timely.{AllTimely}
 use Rattle.laws_board.specs.sections.Courses.{courses, IsFrom, IsStopped, IsInTime, AreInTime, IsSettled, AreSettled, FindStopped, AllHeed}
 use Rattle.laws_board.proofs.sections.Lists.{up_at, up_later, sent_append, own_up}
 use Rattle.laws_board.proofs.sections.Passes.{AreBetween, between_append, between_wide}
-use Rattle.laws_board.proofs.sections.Turning.{fair_append, timely_front, timely_behind, none_at, places_length}
+use Rattle.laws_board.proofs.sections.Turning.{fair_append, timely_front, timely_behind, places_length}
 use Rattle.laws_board.proofs.sections.Windows.{quiet_made, Makes}
 use Rattle.laws_board.proofs.sections.Moving.{SlotMoves, BoardMoves}
 use Rattle.laws_board.proofs.sections.MovingRigs.{passes_move}

@@ -1,14 +1,14 @@
 -- What each command makes of a board that stands as the host knows it.
 use Rattle.std.proofs.Common.{◌≡◌, ◌≢◌, ℕ, Bool, true, false, ◌+◌, ◌^◌, ◌<◌, ◌≤◌, ◌⊎◌, ◌&&◌, List, [], ◌++◌, length, map, set, get_or, Option, Some, None, refl, ap, sym, ◌∙◌, subst, arith, inl, inr, append_assoc, append-nil}
-use Rattle.std.proofs.lemmas.List.{get_or-set_same, get_or-set_other, length-set, map-append}
+use Rattle.laws_board.proofs.Names.{get_or-set_same, map-append, Pulse, Pending, Controller}
+use Rattle.std.proofs.lemmas.List.{get_or-set_other, length-set}
 use Rattle.std.specs.Prelude.{slice_index, nat_lt, ◌==◌, if◌then◌else◌}
 use Rattle.plan_types.specs.Plan.{pulse_of}
-use Rattle.plan_types.specs.declared.plan.Pulse.{Pulse}
 use Rattle.plan_types.specs.declared.plan.Triple.{Triple}
 use Rattle.plan_types.specs.Board.{pending_steps, steps_of}
-use Rattle.board_step.specs.Steps.{Pending, IsFair, ticks_at, with_ticks}
+use Rattle.board_step.specs.Steps.{IsFair, ticks_at, with_ticks}
 use Rattle.board_step.proofs.Whole.{whole}
-use Rattle.board_sim.specs.Board.{Controller, Done, stepper_at, with_stepper, quiet, is_none_pending, first_of, refusal, takes_triple, queue_step, set_dir, reset, make_stepper, timer_too_close}
+use Rattle.board_sim.specs.Board.{Done, stepper_at, with_stepper, quiet, is_none_pending, first_of, refusal, takes_triple, queue_step, set_dir, reset, make_stepper, timer_too_close}
 use Rattle.board_sim.specs.Fair.{IsFairOn, pending_at}
 use Rattle.board_sim.specs.Halted.{is_halted}
 use Rattle.board_sim.specs.RigRuns.{IsHalted}
@@ -17,6 +17,7 @@ use Rattle.laws_board.specs.sections.Known.{Known, unknown, more_steps, AreBelow
 use Rattle.laws_board.specs.sections.Courses.{Course, no_course, next_part, IsFrom, IsStopped, IsMadeBy, MaySetClock}
 use Rattle.laws_board.proofs.sections.Fits.{StepperFits, IsShutBy, split_at, within, at_own, at_others, room_left, fair_for, refusal_is, not_late, first_is, none_pends, one_more, queue_lost}
 use Rattle.laws_board.proofs.sections.Standing.{QueueStands, SlotStands, BoardStands, IsHeld, fits_of, made_for, none_held, stop_none}
+use Rattle.plan_types.proofs.Facts.{true_false}
 
 -- what each stepper has made stands as before
 abbrev pub MadeOn : (ℕ → ℕ) → (ℕ → Option ℕ) → (ℕ → Course) → (ℕ → Course) → Controller → Controller → Type 0
@@ -141,9 +142,6 @@ dir_stands own stops slots by turn cs b other dir (Some q) at f made =
 -- a stepper is made
 abbrev made_known : ℕ → Known → Known
 made_known oid k = record k { made = true }
-
-true_false : true ≡ false → ⊥
-true_false e = cc
 
 pub make_stands : (own : ℕ → ℕ) (stops : ℕ → Option ℕ) (slots by turn : ℕ) (cs : ℕ → Course) (b : Controller) (other : ℕ) (o : Option Pending) → stepper_at b other ≡ o → BoardStands own stops slots by turn cs b → other < 256
     → StandsOn own stops slots by turn cs (changed made_known other cs) b (make_stepper b other o).board

@@ -1,27 +1,20 @@
 -- A section begins: its units wait, and all are inside of it.
 use Rattle.std.proofs.Common.{◌≡◌, ◌≢◌, ℕ, Bool, true, false, ◌+◌, ◌*◌, ◌<◌, ◌≤◌, List, [], ◌∷◌, ◌++◌, length, map, All, Option, Some, None, refl, ap, sym, subst, arith, inl, inr, append_assoc, append-nil}
-use Rattle.std.proofs.lemmas.Bool.Decides.{eqb_tells}
-use Rattle.std.proofs.lemmas.List.Elements.{All-head, All-tail}
+use Rattle.laws_board.proofs.Names.{eqb_tells, All-head, All-tail, Pulse, Planned, turn_ns, Clocks, lines_tick, Fits, StepUnit, Release, units_of, AreBefore, BoardSection, base_of, of_stepper, section_steps, cons_same}
 use Rattle.std.specs.Prelude.{slice_index}
-use Rattle.plan_types.specs.declared.plan.Pulse.{Pulse}
-use Rattle.plan_types.specs.declared.plan.Planned.{Planned}
 use Rattle.plan_types.specs.Board.{last_of, steps_of, TicksRise}
-use Rattle.plan_types.specs.Clock.{turn_ns}
-use Rattle.plan_types.specs.Lines.{Clocks, lines_tick}
-use Rattle.plan_types.specs.Plan.{Fits, pulse_of}
+use Rattle.plan_types.specs.Plan.{pulse_of}
 use Rattle.board_sim.proofs.Steps.{rise_up}
-use Rattle.step_feed.specs.Units.{StepUnit}
-use Rattle.step_feed.specs.Pacing.{Release, units_of}
 use Rattle.laws_board.specs.sections.Events.{AreTicks}
 use Rattle.laws_board.specs.sections.Known.{Sent, sent_in, Known, known_from, AreBelow}
-use Rattle.section_units.specs.Sections.{AreBefore, AreBegun, AreBegunBy, AreChained, AreReleased, BoardSection, IsSection, IsUnit, all_steps, base_of, dir_after, of_stepper, section_steps, steps_said, ticks_meant}
+use Rattle.section_units.specs.Sections.{AreBegun, AreBegunBy, AreChained, AreReleased, IsSection, IsUnit, all_steps, dir_after, steps_said, ticks_meant}
 use Rattle.laws_board.specs.sections.Parts.{AreTracked, AreInARow}
 use Rattle.laws_board.proofs.sections.Counts.{last_least}
 use Rattle.laws_board.proofs.sections.Taking.{IsFront, all_grow}
-use Rattle.laws_board.proofs.sections.Lists.{cons_same}
 use Rattle.laws_board.proofs.sections.Waiting.{Frame, base, IsInside, AreInside}
 use Rattle.laws_board.proofs.sections.Sectioning.{cur, orders_as, HeadLater, section_from, AtCut, Splits, Stands}
 use Rattle.laws_board.proofs.sections.Spreading.{GoesOn, section_run}
+use Rattle.section_units.proofs.Ordering.{ends_up}
 
 -- pulses before a tick
 abbrev pub AreEarly : ℕ → List Pulse → Type 0
@@ -48,10 +41,6 @@ early_last x oid from up [] some a = absurd (omega arith)
 early_last x oid from up (t ∷ []) some a = a.0
 early_last x oid from up (t ∷ u ∷ ts) some a = early_last x oid t up (u ∷ ts) (omega arith) a.1
 
-pub first_last : (ts : List ℕ) → TicksRise ts → 0 < length ts → slice_index ts 0 ≤ last_of 0 ts
-first_last [] r some = absurd (omega arith)
-first_last (t ∷ ts) r some = last_least t 0 (t ∷ ts) (rise_up t t ts r (omega arith)) (omega arith)
-
 -- all units of a stepper are inside
 abbrev pub AllInside : Frame → List StepUnit → Type 0
 AllInside f [] = Unit {0}
@@ -63,7 +52,7 @@ one_inside f oid behind up u unit low early =
     let some : 0 < length (ticks_meant u) = omega (arith, unit.expands.ticks_of.number, unit.expands.ticks_of.some) in
     record {
       low = omega (arith, low, unit.expands.behind, unit.first);
-      up = omega (arith, unit.first, unit.last, first_last (ticks_meant u) unit.rise some);
+      up = omega (arith, unit.first, unit.last, ends_up (ticks_meant u) unit.rise some);
       high = rw unit.last (early_last (lines_tick f.clocks ((f.end + 1) * turn_ns)) oid 0 up (ticks_meant u) some early);
       due = unit.due;
     }

@@ -1,10 +1,8 @@
 -- What the laws say of a run.
 use Rattle.std.proofs.Common.{◌≡◌, ◌+◌, ◌-◌, List, [], ◌++◌, length, take, ap, sym, ◌∙◌, arith, append-nil}
-use Rattle.std.proofs.lemmas.List.{take_all, length-map}
-use Rattle.std.specs.List.{flat_map}
-use Rattle.plan_types.specs.declared.levels.Level.{Level}
-use Rattle.plan_types.specs.declared.machine.BoardDef.{BoardDef}
-use Rattle.board_world.specs.World.{Step, on_wire, run_world, new_world}
+use Rattle.laws_board.proofs.Names.{length-map, flat_map, Level, BoardDef, Step, run_world, new_world}
+use Rattle.std.proofs.lemmas.List.{take_all}
+use Rattle.board_world.specs.World.{on_wire}
 use Rattle.board_world.proofs.Runs.{ordered, start_ordered}
 use Rattle.link_core.specs.Core.{Link, queued, sent, InStep}
 

@@ -1,20 +1,17 @@
 -- A board that fits what the host knows, command by command.
 use Rattle.std.proofs.Common.{◌≡◌, ◌≢◌, ℕ, suc, Bool, true, false, ◌+◌, ◌^◌, ◌<◌, ◌≤◌, ◌⊎◌, ◌&&◌, List, [], ◌∷◌, ◌++◌, length, map, set, get_or, Option, Some, None, refl, ap, sym, ◌∙◌, subst, arith, inl, inr, append-nil}
-use Rattle.std.proofs.lemmas.List.{get_or-set_same, get_or-set_other, get_or_past, length-set}
-use Rattle.std.proofs.lemmas.Bool.Decides.{leb_tells, eqb_tells}
+use Rattle.laws_board.proofs.Names.{get_or-set_same, leb_tells, eqb_tells, Running, Shut, Pulse, Pending, Cmd, Controller, only}
+use Rattle.std.proofs.lemmas.List.{get_or-set_other, get_or_past, length-set}
 use Rattle.std.specs.Prelude.{slice_index, nat_lt, ◌==◌, if◌then◌else◌}
 use Rattle.plan_types.specs.Numbers.{UpFrom}
 use Rattle.plan_types.specs.Plan.{pulse_of}
-use Rattle.plan_types.specs.declared.plan.BoardState.TheVariants.{Running, Shut}
-use Rattle.plan_types.specs.declared.plan.Pulse.{Pulse}
 use Rattle.plan_types.specs.declared.plan.Triple.{Triple}
 use Rattle.plan_types.specs.Board.{Group, last_of, end_of, steps_of, TicksRise}
-use Rattle.board_step.specs.Steps.{Pending, IsFair, Follows, ticks_at, with_ticks}
+use Rattle.board_step.specs.Steps.{IsFair, Follows, ticks_at, with_ticks}
 use Rattle.board_step.proofs.Whole.{whole}
-use Rattle.msg_code.specs.declared.cmd.Cmd.{Cmd}
 use Rattle.msg_code.specs.declared.cmd.Cmd.TheVariants as cmd
-use Rattle.board_sim.specs.Board.{Controller, Done, stepper_at, with_stepper, quiet, is_none_pending, first_of, refusal, takes_triple, queue_step, set_dir, reset, make_stepper, acts, timer_too_close, command_request}
-use Rattle.board_sim.specs.Fair.{IsFairOn, IsFairCommand, steps_taken, meant_on, meant_by, only, GroupsRiseFrom}
+use Rattle.board_sim.specs.Board.{Done, stepper_at, with_stepper, quiet, is_none_pending, first_of, refusal, takes_triple, queue_step, set_dir, reset, make_stepper, acts, timer_too_close, command_request}
+use Rattle.board_sim.specs.Fair.{IsFairOn, IsFairCommand, steps_taken, meant_on, meant_by, GroupsRiseFrom}
 use Rattle.board_sim.proofs.Steps.{only_same, only_other, rise_push, rise_up, end_any}
 use Rattle.board_sim.specs.Halted.{is_halted}
 use Rattle.board_world.specs.Units.{IsMade, FindsStepper}
@@ -23,6 +20,8 @@ use Rattle.laws_board.specs.sections.Known.{Known, unknown, more_steps, knows_of
 use Rattle.laws_board.specs.sections.Timely.{IsTimely}
 use Rattle.laws_board.specs.sections.Ends.{MayEnd}
 use Rattle.laws_board.proofs.sections.Counts.{ends_from, counts_fall, none_from, all_counted, ends_push, end_push, end_least}
+use Rattle.plan_types.proofs.Facts.{true_false}
+use Rattle.board_sim.proofs.Parts.{clash as none_some}
 
 pub record StepperFits (now slots : ℕ) (q : Pending) (k : Known) : Type 0 where
   pub made : k.made ≡ true
@@ -91,9 +90,6 @@ replaced now slots ks next b other q small f here there = record {
       (λ oid ne. rw (get_or-set_other b.steppers other oid (Some q) None ne, there oid ne) (f.each oid));
 }
 
-pub none_some : (q : Pending) → None ≡ Some q → ⊥
-none_some q e = cc
-
 -- a stepper that is there has one of the board's places
 pub within : (b : Controller) (other : ℕ) (q : Pending) → length b.steppers ≡ 256 → stepper_at b other ≡ Some q → other < 256
 within b other q places at =
@@ -113,9 +109,9 @@ here : (b : Controller) (other now slots : ℕ) (k : Known) (o : Option Pending)
 here b other now slots k o at f = let At : Option Pending → Type 0 = λ x. SlotFits now slots x k in subst At at f
 
 pub not_made : (k : Known) → k ≡ unknown → k.made ≡ true → ⊥
-not_made k e made = clash (sym (ap (λ (x : Known). x.made) e) ∙ made) where
-  clash : false ≡ true → ⊥
-  clash e = cc
+not_made k e made = true_false (sym (ap (λ (x : Known). x.made) e) ∙ made) where
+  true_false : false ≡ true → ⊥
+  true_false e = cc
 
 -- the direction is set
 dir_goes : (now slots : ℕ) (ks : ℕ → Known) (b : Controller) (other dir : ℕ) (o : Option Pending) → stepper_at b other ≡ o → BoardFits now slots ks b → (ks other).made ≡ true
@@ -201,9 +197,6 @@ reset_goes own turn now slots ks b other clock (Some q) at f h good =
           (λ oid ne. rw (at_others other oid (record (ks oid) { clock = clock }) (ks oid) ne) (append-nil (ks oid).steps)),
     ))
 
-clash : true ≡ false → ⊥
-clash e = cc
-
 -- a triple that is good finds its stepper, which has room
 pub room_left : (own : ℕ → ℕ) (slots turn now : ℕ) (q : Pending) (k : Known) (t : Triple) (ticks : List ℕ) → StepperFits now slots q k → own turn ≤ now
     → IsGoodTriple own slots turn k t ticks → length q.groups < q.slots
@@ -246,7 +239,7 @@ goes_on now last (g ∷ gs) (t ∷ ts) r h rise at some =
     rise_up (end_of now (g ∷ gs)) t ts rise (omega (arith, behind, e))
 
 pub not_late : (now first : ℕ) (gs : List Group) → (is_none_pending gs && nat_lt first now) ≡ false → gs ≡ [] → now ≤ first
-not_late now first [] h e = elim (leb_tells (suc first) now) [ inl p ↦ absurd (clash (sym p.0 ∙ h)) | inr p ↦ omega (arith, p.1) ]
+not_late now first [] h e = elim (leb_tells (suc first) now) [ inl p ↦ absurd (true_false (sym p.0 ∙ h)) | inr p ↦ omega (arith, p.1) ]
 not_late now first (g ∷ gs) h e = absurd (some_none e) where
   some_none : g ∷ gs ≡ [] → ⊥
   some_none e = cc
@@ -296,7 +289,7 @@ first_is now q t ticks small fair = ap (λ ts. slice_index ts 0) (whole now q t 
 runs_if : (h : Bool) (now slots : ℕ) (ks next : ℕ → Known) (b : Controller) (d : Done) (new : List Pulse) → h ≡ false → Goes now slots ks next d.board new
     → Goes now slots ks next (if h then quiet b else d).board (if h then [] else new)
 runs_if false now slots ks next b d new e g = g
-runs_if true now slots ks next b d new e g = absurd (clash e)
+runs_if true now slots ks next b d new e g = absurd (true_false e)
 
 -- with what the refusal and the ticks are
 with_is : (now slots : ℕ) (ks next : ℕ → Known) (b : Controller) (other : ℕ) (up : Bool) (q : Pending) (r s : Option (ℕ × ℕ)) (own ticks : List ℕ) → r ≡ s → own ≡ ticks
@@ -340,7 +333,7 @@ late_is now first (g ∷ gs) e h = absurd (some_none e) where
 
 lost_if : (h : Bool) (b : Controller) (d : Done) → h ≡ false → IsShutBy d.board → IsShutBy (if h then quiet b else d).board
 lost_if false b d e k = k
-lost_if true b d e k = absurd (clash e)
+lost_if true b d e k = absurd (true_false e)
 
 lost_as : (b : Controller) (other first : ℕ) (q : Pending) (r : Option (ℕ × ℕ)) (ticks : List ℕ) → r ≡ Some (timer_too_close, first) → IsShutBy (takes_triple r b other q ticks).board
 lost_as b other first q r ticks e =

@@ -1,18 +1,15 @@
 -- A board of which no trigger has a stepper bound: its triggers leave the steppers alone.
 use Rattle.std.proofs.Common.{◌≡◌, ℕ, Bool, true, false, ◌&&◌, not, List, [], ◌∷◌, Option, Some, None, refl, ap, ◌∙◌, inl, inr}
 use Rattle.std.specs.Prelude.{slice_index_or}
-use Rattle.std.proofs.lemmas.Bool.Decides.{eqb_tells}
-use Rattle.plan_types.specs.declared.plan.BoardState.TheVariants.{Running}
+use Rattle.laws_board.proofs.Names.{eqb_tells, Running, Trigger, Cmd, Controller, Rig, Slot, slot_at, becomes, expires_at_once, set_timeout, happens_to, acts, acts_running, takes}
 use Rattle.board_trig.specs.declared.sampling.Homing.{Homing}
-use Rattle.board_trig.specs.declared.trigger.Trigger.{Trigger}
 use Rattle.board_trig.specs.Trigger as trig
-use Rattle.msg_code.specs.declared.cmd.Cmd.{Cmd}
 use Rattle.msg_code.specs.declared.cmd.Cmd.TheVariants as cmd
-use Rattle.board_sim.specs.Board.{Controller}
 use Rattle.board_sim.specs.Board as board
-use Rattle.board_sim.specs.Rig.{Rig, Slot, slot_at, levels_of, halts, becomes, make_trigger, make_endstop, start_trigger, expires_at_once, set_timeout, trigger, home, happens_to, acts, acts_running, takes}
+use Rattle.board_sim.specs.Rig.{levels_of, halts, make_trigger, make_endstop, start_trigger, trigger, home}
 use Rattle.board_sim.specs.RigRuns.{has, IsUnbound, IsNoBind}
 use Rattle.board_sim.proofs.Unbound.{takes_free}
+use Rattle.laws_board.proofs.causes.Made.{made_same, endstop_same}
 
 -- no trigger has a stepper bound
 abbrev pub IsFree : Rig → Type 0
@@ -40,14 +37,6 @@ becomes_same r oid s t free at =
     let x = s.trigger.can && not t.can in
     ap (λ bs. halts x bs r.controller) (bound_none r oid s free at) ∙ halts_none x r.controller
 
-made_same : (r : Rig) (oid : ℕ) (o : Option Slot) → (make_trigger r oid o).controller ≡ r.controller
-made_same r oid None = refl
-made_same r oid (Some s) = refl
-
-endstop_same : (r : Rig) (oid pin : ℕ) (o : Option ℕ) → (make_endstop r oid pin o).controller ≡ r.controller
-endstop_same r oid pin None = refl
-endstop_same r oid pin (Some p) = refl
-
 start_same : (r : Rig) (oid : ℕ) (o : Option Slot) (clock every reason : ℕ) → IsFree r → slot_at r oid ≡ o → (start_trigger r oid o clock every reason).controller ≡ r.controller
 start_same r oid None clock every reason free at = refl
 start_same r oid (Some s) clock every reason free at = becomes_same r oid s (trig.started r.controller.tick clock every reason s.trigger) free at
@@ -66,7 +55,7 @@ trigger_same : (r : Rig) (oid : ℕ) (o : Option Slot) (reason : ℕ) → IsFree
 trigger_same r oid None reason free at = refl
 trigger_same r oid (Some s) reason free at = becomes_same r oid s (trig.triggered r.controller.tick reason s.trigger) free at
 
-home_same : (r : Rig) (p : Option ℕ) (other : ℕ) (o : Option Slot) (h : Homing) → (home r p other o h).controller ≡ r.controller
+pub home_same : (r : Rig) (p : Option ℕ) (other : ℕ) (o : Option Slot) (h : Homing) → (home r p other o h).controller ≡ r.controller
 home_same r None other o h = refl
 home_same r (Some p) other None h = refl
 home_same r (Some p) other (Some s) h = refl

@@ -1,16 +1,9 @@
 -- What the laws say of a run in which triggers halt steppers.
 use Rattle.std.proofs.Common.{◌≡◌, ℕ, ◌+◌, List, [], ◌∷◌, ◌++◌, length, Option, Some, refl, ap, sym, ◌∙◌, subst, inl, inr, append-nil}
-use Rattle.std.proofs.lemmas.Bool.Decides.{eqb_tells}
-use Rattle.plan_types.specs.declared.levels.Level.{Level}
-use Rattle.plan_types.specs.declared.machine.BoardDef.{BoardDef}
-use Rattle.plan_types.specs.declared.plan.BoardState.{BoardState}
-use Rattle.plan_types.specs.declared.plan.Pulse.{Pulse}
-use Rattle.msg_code.specs.declared.cmd.Cmd.{Cmd}
+use Rattle.laws_board.proofs.Names.{eqb_tells, Level, BoardDef, BoardState, Pulse, Cmd, only, Core, Step, run_world, new_world, Orders}
 use Rattle.msg_code.specs.declared.cmd.Cmd.TheVariants as cmd
 use Rattle.board_sim.specs.Board.{stepper_at}
-use Rattle.board_sim.specs.Fair.{only}
-use Rattle.board_world.specs.World.{Core, Step, AllFair, run_world, new_world}
-use Rattle.link_work.specs.Turn.{Orders}
+use Rattle.board_world.specs.World.{AllFair}
 use Rattle.laws_board.specs.sections.Ends.{MayBe}
 use Rattle.laws_board.specs.sections.Known.{Sent, sent_in, knows_of}
 use Rattle.laws_board.specs.sections.Runs.{Begins}

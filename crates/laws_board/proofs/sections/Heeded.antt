@@ -1,18 +1,10 @@
 -- The units that a board is sent of its sections, cut before the first one that is five turns late.
 use Rattle.std.proofs.Common.{◌≡◌, ℕ, false, ◌+◌, ◌-◌, ◌*◌, ◌^◌, ◌<◌, ◌≤◌, List, [], ◌∷◌, ◌++◌, length, All, refl, ap, sym, ◌∙◌, subst, arith, inl, inr, append-nil}
-use Rattle.std.proofs.lemmas.Bool.Decides.{eqb_tells}
-use Rattle.std.proofs.lemmas.List.Elements.{All-head, All-tail}
-use Rattle.plan_types.specs.declared.levels.Level.{Level}
-use Rattle.plan_types.specs.declared.machine.BoardDef.{BoardDef}
-use Rattle.plan_types.specs.Clock.{turn_ns}
-use Rattle.plan_types.specs.Lines.{Clocks, lines_tick}
-use Rattle.board_world.specs.World.{Step, new_world}
-use Rattle.step_feed.specs.Units.{StepUnit}
-use Rattle.step_feed.specs.Pacing.{ArePaced, Release, batch_at, units_of}
-use Rattle.link_work.specs.Turn.{Orders}
+use Rattle.laws_board.proofs.Names.{eqb_tells, All-head, All-tail, Level, BoardDef, turn_ns, Clocks, lines_tick, Step, new_world, StepUnit, Release, batch_at, units_of, Orders, BoardSection, base_of, of_stepper, section_steps}
+use Rattle.step_feed.specs.Pacing.{ArePaced}
 use Rattle.section_units.specs.Late.{LateOneByOne}
 use Rattle.section_units.specs.Merged.{AreBehind, AreInOrder}
-use Rattle.section_units.specs.Sections.{BoardSection, IsSection, base_of, of_stepper, section_steps}
+use Rattle.section_units.specs.Sections.{IsSection}
 use Rattle.section_units.specs.Sent.{AreSentTo}
 use Rattle.section_units.proofs.Fronting.{of_front, paced_front}
 use Rattle.section_units.proofs.Lateness.{late_one_by_one}
@@ -32,6 +24,7 @@ use Rattle.laws_board.proofs.sections.Sectioning.{HeadLater, section_from, units
 use Rattle.laws_board.proofs.sections.Seeking.{TellFirst, begun_tell}
 use Rattle.laws_board.proofs.sections.Shutting.{IsTimed, timed}
 use Rattle.laws_board.proofs.sections.Waiting.{AreInside, Frame}
+use Rattle.section_feed.proofs.Telling.{batch-join}
 
 -- the first ones of a list
 inside_front : (f : Frame) (rs qs : List Release) → AreInside f (rs ++ qs) → AreInside f rs
@@ -118,17 +111,13 @@ none_behind k turns (r ∷ rs) a h =
     let first = All-head P r rs a in
     elim (eqb_tells r.turn k) [ inl p ↦ absurd (omega (arith, p.1, first, h)) | inr p ↦ rw p.0 (none_behind k turns rs (All-tail P r rs a) h) ]
 
-batch_append : (k : ℕ) (rs qs : List Release) → batch_at k (rs ++ qs) ≡ batch_at k rs ++ batch_at k qs
-batch_append k [] qs = refl
-batch_append k (r ∷ rs) qs = elim (eqb_tells r.turn k) [ inl p ↦ rw p.0 (ap (λ x. r.unit ∷ x) (batch_append k rs qs)) | inr p ↦ rw p.0 (batch_append k rs qs) ]
-
 same_units : (clocks : Clocks) (freq turns k : ℕ) (ss : List BoardSection) (a : All (AreSentTo clocks freq turns) ss) → k < turns → units_at k ss ≡ units_at k (sents clocks freq turns ss a)
 same_units clocks freq turns k [] a h = refl
 same_units clocks freq turns k (s ∷ ss) a h =
     let P : BoardSection → Type 0 = λ x. AreSentTo clocks freq turns x in
     let x = All-head P s ss a in
     let one : batch_at k s.releases ≡ batch_at k x.sent =
-    ap (batch_at k) x.are ∙ batch_append k x.sent x.later ∙ ap (λ us. batch_at k x.sent ++ us) (none_behind k turns x.later x.behind h) ∙ append-nil (batch_at k x.sent) in
+    ap (batch_at k) x.are ∙ batch-join k x.sent x.later ∙ ap (λ us. batch_at k x.sent ++ us) (none_behind k turns x.later x.behind h) ∙ append-nil (batch_at k x.sent) in
     ap (λ us. us ++ units_at k ss) one ∙ ap (λ us. batch_at k x.sent ++ us) (same_units clocks freq turns k ss (All-tail P s ss a) h)
 
 orders_to : (ss ts : List BoardSection) (turns turn : ℕ) (os : List Orders) → ((k : ℕ) → k < turns → units_at k ss ≡ units_at k ts) → turn + length os ≤ turns → AreOrdersOf ss turn os → AreOrdersOf ts turn os

@@ -1,23 +1,10 @@
 -- Where few turns of each busy stretch are spoiled, a board takes all units in time, as long as it runs.
 use Rattle.std.proofs.Common.{◌≡◌, ℕ, suc, zero, ◌+◌, ◌-◌, ◌^◌, ◌<◌, ◌≤◌, List, [], ◌∷◌, ◌++◌, All, length, take, drop, refl, ap, sym, ◌∙◌, subst, arith, append_assoc, length-append, inl, inr}
-use Rattle.std.proofs.lemmas.Bool.Decides.{leb_tells}
-use Rattle.std.proofs.lemmas.List.{length-take-le, take-append-drop, take-append-le}
-use Rattle.std.specs.List.{flat_map}
-use Rattle.plan_types.specs.declared.machine.BoardDef.{BoardDef}
-use Rattle.plan_types.specs.declared.clock.BoardClock.{BoardClock}
-use Rattle.plan_types.specs.declared.levels.Level.{Level}
-use Rattle.plan_types.specs.Clock.{board_tick, clock_of}
-use Rattle.plan_types.specs.Lines.{Clocks}
-use Rattle.wire_scene.specs.declared.scene.Entry.{Entry}
-use Rattle.board_world.specs.World.{Core, Step, run_world, new_world}
+use Rattle.laws_board.proofs.Names.{leb_tells, take-append-drop, flat_map, BoardDef, BoardClock, Level, board_tick, clock_of, Clocks, Entry, Core, Step, run_world, new_world, AllKeepLimits, AreTurns, queued_in, first_state, IsTurn, LinkState, Orders, BoardSection}
+use Rattle.std.proofs.lemmas.List.{length-take-le, take-append-le}
 use Rattle.link_work.specs.Ends.{EndSo, Ended, last_link, spoiled}
-use Rattle.link_work.specs.Limits.{AllKeepLimits}
-use Rattle.link_work.specs.Runs.{AreTurns, queued_in}
-use Rattle.link_work.specs.Stands.{first_state}
-use Rattle.link_work.specs.Turn.{IsTurn, LinkState, Orders}
 use Rattle.link_work.proofs.Late.{last_append}
 use Rattle.link_work.proofs.Limits.{units_bytes}
-use Rattle.section_units.specs.Sections.{BoardSection}
 use Rattle.section_units.specs.Sent.{AreSentTo}
 use Rattle.laws_board.specs.sections.Events.{AreOwn, AreTurnsOf}
 use Rattle.laws_board.specs.sections.Known.{Sent, sent_in}
@@ -25,11 +12,11 @@ use Rattle.laws_board.specs.sections.Links.{ends_of, steps_of, steps_of_turn}
 use Rattle.laws_board.specs.sections.Parts.{IsBoardRun}
 use Rattle.laws_board.specs.sections.Timely.{AllTimely, ControlsKeep}
 use Rattle.laws_board.proofs.sections.Heeded.{run_walked}
-use Rattle.laws_board.proofs.sections.Heeding.{TakesEnough, orders_length, timed_timely}
+use Rattle.laws_board.proofs.sections.Heeding.{TakesEnough, timed_timely}
 use Rattle.laws_board.proofs.sections.Latest.{AreFew, Reaches}
 use Rattle.laws_board.proofs.sections.Limiting.{text_sum}
 use Rattle.laws_board.proofs.sections.Linking.{next_within, own_few, own_first, turn_runs, turns_are, turns_owned}
-use Rattle.laws_board.proofs.sections.Lists.{cuts}
+use Rattle.laws_board.proofs.sections.Lists.{cuts, orders_long}
 use Rattle.laws_board.proofs.sections.Shutting.{AreSince, since_behind, since_in}
 use Rattle.laws_board.proofs.sections.Spans.{sent_in_append}
 use Rattle.laws_board.proofs.sections.Spoiled.{end_snoc, most_at, take_all}
@@ -60,7 +47,7 @@ reach_more count os front (s ∷ tail) is short r =
     let xs = take count os in
     let ys = drop count os in
     let long : length xs ≡ count = length-take-le count os (omega (arith, short)) in
-    let many : length (flat_map queued_in xs) ≡ length (sent_in 0 xs) = ap length (sym (sent_orders 0 xs)) ∙ orders_length (sent_in 0 xs) in
+    let many : length (flat_map queued_in xs) ≡ length (sent_in 0 xs) = ap length (sym (sent_orders 0 xs)) ∙ orders_long (sent_in 0 xs) in
     let whole : sent_in 0 xs ++ sent_in (0 + length xs) ys ≡ front ++ s ∷ tail = sym (sent_in_append 0 xs ys) ∙ ap (sent_in 0) (take-append-drop count os) ∙ is in
     elim (cuts (sent_in 0 xs) (sent_in (0 + length xs) ys) front (s ∷ tail) whole) [
       | inl p ↦

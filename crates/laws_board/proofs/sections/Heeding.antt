@@ -1,26 +1,16 @@
 -- A board that takes soon what is queued takes all its units in time for the 32-bit clock, as long as it runs.
 use Rattle.std.proofs.Common.{◌≡◌, ℕ, ◌+◌, ◌-◌, ◌<◌, ◌≤◌, ◌⊎◌, List, [], ◌∷◌, ◌++◌, length, map, take, drop, refl, ap, sym, ◌∙◌, subst, arith, inl, inr, append_assoc, append-nil, length-append}
-use Rattle.std.proofs.lemmas.List.{append_cancel_left, length-take-le, take-append-drop}
-use Rattle.std.specs.List.{flat_map}
-use Rattle.plan_types.specs.declared.levels.Level.{Level}
-use Rattle.plan_types.specs.declared.machine.BoardDef.{BoardDef}
-use Rattle.plan_types.specs.declared.plan.BoardState.{BoardState}
-use Rattle.plan_types.specs.declared.plan.BoardState.TheVariants.{Running, Shut}
-use Rattle.board_sim.specs.Fair.{Meant}
-use Rattle.board_world.specs.declared.event.Event.{Event}
+use Rattle.laws_board.proofs.Names.{append_cancel_left, take-append-drop, flat_map, Level, BoardDef, BoardState, Running, Shut, Meant, Event, plain, units_orders, Core, Step, Do, Turn, takes_in, after_event, world_after, run_world, new_world, Orders, queued_in, run_append}
+use Rattle.std.proofs.lemmas.List.{length-take-le}
 use Rattle.board_world.specs.declared.event.Event.TheVariants.{Put, Control, Pass}
-use Rattle.board_world.specs.Orders.{plain, units_orders}
-use Rattle.board_world.specs.World.{Core, Step, Do, Turn, takes_in, orders_of, after_event, world_after, run_world, new_world}
+use Rattle.board_world.specs.World.{orders_of}
 use Rattle.board_world.proofs.Runs.{ordered_by}
-use Rattle.link_work.specs.Turn.{Orders}
-use Rattle.link_work.specs.Runs.{queued_in}
-use Rattle.link_work.proofs.Sending.{run_append}
 use Rattle.laws_board.specs.sections.Events.{AreQuiet, AreTicks, AreTurnsOf, QueuesNothing}
 use Rattle.laws_board.specs.sections.Known.{Sent, sent_at, sent_in, orders_sent}
 use Rattle.laws_board.specs.sections.Timely.{AllTimely, AreTimely, IsTimelyAt, TakesSoon}
 use Rattle.laws_board.proofs.sections.Clocks.{ticks_up}
 use Rattle.laws_board.proofs.sections.Latest.{AllLast, BeginPast}
-use Rattle.laws_board.proofs.sections.Lists.{cuts, orders_append, own_up, sent_append}
+use Rattle.laws_board.proofs.sections.Lists.{cuts, orders_append, own_up, sent_append, orders_long}
 use Rattle.laws_board.proofs.sections.Running.{Holds, Plan, left_first, queues_on, quiet_holds}
 use Rattle.laws_board.proofs.sections.Shutting.{AreSince, IsTimed, last_behind, last_front, last_timely, since_behind, since_in}
 use Rattle.laws_board.proofs.sections.Soon.{all_before, one_before, part_front, timely_append}
@@ -44,11 +34,7 @@ pub record HasEnough (p : Plan) (n turn most : ℕ) : Type 0 where
   pub taken : length first ≤ most
   pub enough : (turn ≤ low + n) ⊎ (length p.front < length first)
 
-pub orders_length : (ss : List Sent) → length (orders_sent ss) ≡ length ss
-orders_length [] = refl
-orders_length (s ∷ ss) = omega (arith, orders_length ss)
-
-shut_runs : (o : BoardState) (reason tick first : ℕ) → o ≡ Running → o ≡ Shut reason tick first → ⊥
+pub shut_runs : (o : BoardState) (reason tick first : ℕ) → o ≡ Running → o ≡ Shut reason tick first → ⊥
 shut_runs o reason tick first a b = cc
 
 -- what a board that runs takes next
@@ -74,7 +60,7 @@ next_timely p n turn most by sent h e heed has now taken k none running = elim k
       append_cancel_left r.done (l ++ (others ++ k.rest)) (r.more ++ p.tail)
       (ap (λ x. r.done ++ x) (sym (append_assoc l others k.rest)) ∙ sym (append_assoc r.done (l ++ others) k.rest) ∙ ap (λ x. (r.done ++ x) ++ k.rest) (sym left) ∙ ap (λ x. x ++ k.rest) (sym r.sent_is)
       ∙ k.all ∙ ap (λ x. x ++ p.tail) (sym r.front_is) ∙ append_assoc r.done r.more p.tail) in
-      let many : length h.taken ≡ length r.done = ap length (sym r.taken) ∙ orders_length r.done in
+      let many : length h.taken ≡ length r.done = ap length (sym r.taken) ∙ orders_long r.done in
       let whole : has.first ++ has.others ≡ r.done ++ (l ++ (others ++ k.rest)) =
       has.all ∙ ap (λ x. x ++ p.tail) (sym r.front_is) ∙ append_assoc r.done r.more p.tail ∙ ap (λ x. r.done ++ x) (sym here) in
       let since : AreSince has.low (l ++ (others ++ k.rest)) = elim (cuts has.first has.others r.done (l ++ (others ++ k.rest)) whole) [
@@ -191,7 +177,7 @@ has_enough p n turn low most all is short taken enough =
     let xs = take low all in
     let ys = drop low all in
     let long : length xs ≡ low = length-take-le low all short in
-    let many : length (flat_map queued_in xs) ≡ length (sent_in 0 xs) = ap length (sym (sent_orders 0 xs)) ∙ orders_length (sent_in 0 xs) in
+    let many : length (flat_map queued_in xs) ≡ length (sent_in 0 xs) = ap length (sym (sent_orders 0 xs)) ∙ orders_long (sent_in 0 xs) in
     let Since : ℕ → Type 0 = λ k. AreSince k (sent_in (0 + length xs) ys) in
     record {
       first = sent_in 0 xs;

@@ -1,16 +1,7 @@
 -- All sections of a run, of moves or homing, from its first turn on.
 use Rattle.std.proofs.Common.{◌≡◌, ℕ, ℤ, zero, suc, Bool, true, false, ◌+◌, ◌-◌, ◌*◌, ◌≤◌, ◌⊎◌, List, [], ◌∷◌, ◌++◌, All, length, map, take, Option, None, refl, ap, sym, ◌∙◌, subst, arith, inl, inr, append-nil}
-use Rattle.std.proofs.lemmas.Bool.Decides.{eqb_tells}
-use Rattle.std.proofs.lemmas.List.Elements.{All-nil, All-cons, All-head, All-tail}
-use Rattle.plan_types.specs.declared.plan.Pulse.{Pulse}
-use Rattle.plan_types.specs.Clock.{turn_ns}
-use Rattle.plan_types.specs.Lines.{Clocks, lines_tick}
-use Rattle.msg_code.specs.declared.cmd.Cmd.{Cmd}
+use Rattle.laws_board.proofs.Names.{eqb_tells, All-nil, All-cons, All-head, All-tail, Pulse, turn_ns, Clocks, lines_tick, Cmd, plain, units_orders, units_of, BoardSection, base_of, of_stepper, section_steps, Orders, queued_in}
 use Rattle.msg_code.specs.declared.cmd.Cmd.TheVariants as cmd
-use Rattle.board_world.specs.Orders.{plain, units_orders}
-use Rattle.step_feed.specs.Pacing.{units_of}
-use Rattle.section_units.specs.Sections.{BoardSection, base_of, of_stepper, section_steps}
-use Rattle.link_work.specs.Turn.{Orders}
 use Rattle.laws_board.specs.sections.Events.{AreTicks}
 use Rattle.laws_board.specs.sections.Known.{Sent, sent_at, sent_in, AreBelow, IsLostFor}
 use Rattle.laws_board.specs.sections.Parts.{AreTracked, IsMaking, Makes, MakesIn}
@@ -27,7 +18,6 @@ use Rattle.laws_board.proofs.sections.HomeControls.{now_of, none_sets}
 use Rattle.laws_board.proofs.sections.HomeSections.{Sound, OrdersOn, bare, ahead_sound, orders_on, Promise, GoesBehind, EndsBy, no_fronts, none_later, set_next, Split, ahead, split_from, split_until, IsLeftOn, IsLostOf, LeftOn, LostOn}
 use Rattle.laws_board.proofs.sections.HomeCut.{until_out}
 use Rattle.laws_board.proofs.sections.HomeRuns.{Ground, section_on}
-use Rattle.link_work.specs.Runs.{queued_in}
 use Rattle.laws_board.proofs.sections.Lists.{sent_append}
 
 -- control commands alone, of which none sets a clock

@@ -1,20 +1,7 @@
 -- A board of a run in which axes home, cut at two turns.
 use Rattle.std.proofs.Common.{◌≡◌, ℕ, ◌+◌, ◌-◌, ◌≤◌, List, [], ◌∷◌, ◌++◌, length, take, drop, Option, refl, ap, sym, ◌∙◌, subst, arith, append_assoc, append-nil, length-append}
-use Rattle.std.proofs.lemmas.List.{append_cancel_left, length-take-le, length-drop, take-append-drop}
-use Rattle.plan_types.specs.declared.clock.BoardClock.{BoardClock}
-use Rattle.plan_types.specs.declared.machine.BoardDef.{BoardDef}
-use Rattle.plan_types.specs.declared.plan.Pulse.{Pulse}
-use Rattle.plan_types.specs.Clock.{board_tick, clock_of}
-use Rattle.plan_types.specs.Plan.{Fits}
-use Rattle.msg_code.specs.declared.talk.State.{State}
-use Rattle.section_units.specs.Sections.{base_of}
-use Rattle.wire_scene.specs.declared.scene.Entry.{Entry}
-use Rattle.board_sim.specs.Fair.{only}
-use Rattle.board_world.specs.World.{Core, Step, run_world, new_world}
-use Rattle.link_work.specs.Runs.{AreTurns, queued_in}
-use Rattle.link_work.specs.Stands.{first_state}
-use Rattle.link_work.specs.Turn.{LinkState, Orders}
-use Rattle.link_work.proofs.Sending.{run_append}
+use Rattle.laws_board.proofs.Names.{append_cancel_left, take-append-drop, BoardClock, BoardDef, Pulse, board_tick, clock_of, Fits, State, base_of, Entry, only, Core, Step, run_world, new_world, AreTurns, queued_in, first_state, LinkState, Orders, run_append}
+use Rattle.std.proofs.lemmas.List.{length-take-le, length-drop}
 use Rattle.laws_board.specs.sections.Boards.{OnBoard, told_in}
 use Rattle.laws_board.specs.sections.Courses.{IsSettled, AreSettled, AllHeed}
 use Rattle.laws_board.specs.sections.Events.{AreOwn, AreTurnsOf}

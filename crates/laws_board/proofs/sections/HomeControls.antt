@@ -1,15 +1,7 @@
 -- The control commands of a turn, for a stepper in a section.
 use Rattle.std.proofs.Common.{◌≡◌, ℕ, Bool, true, false, ◌+◌, ◌*◌, ◌%◌, ◌^◌, ◌≤◌, ◌⊎◌, List, [], ◌∷◌, All, map, Option, Some, refl, ap, sym, ◌∙◌, subst, arith, inl, inr}
-use Rattle.std.proofs.lemmas.Bool.Decides.{eqb_tells}
-use Rattle.std.proofs.lemmas.List.Elements.{All-head, All-tail}
-use Rattle.plan_types.specs.declared.plan.Pulse.{Pulse}
-use Rattle.plan_types.specs.Clock.{turn_ns}
-use Rattle.plan_types.specs.Lines.{Clocks, lines_tick}
-use Rattle.msg_code.specs.declared.cmd.Cmd.{Cmd}
+use Rattle.laws_board.proofs.Names.{eqb_tells, All-head, All-tail, Pulse, turn_ns, Clocks, lines_tick, Cmd, plain, StepUnit, BoardSection}
 use Rattle.msg_code.specs.declared.cmd.Cmd.TheVariants as cmd
-use Rattle.board_world.specs.Orders.{plain}
-use Rattle.step_feed.specs.Units.{StepUnit}
-use Rattle.section_units.specs.Sections.{BoardSection}
 use Rattle.laws_board.specs.sections.Known.{sent_at, AreBelow}
 use Rattle.laws_board.specs.sections.Courses.{Part, Course, course_parts, next_part, course_of, course_from, AreMadeFor, MaySetClock, IsGoodOn, AreGoodOn}
 use Rattle.laws_board.specs.sections.Homes.{RunSection, AreInTurn, SetsClock, IsControlIn, IsSetting, SomeSets}

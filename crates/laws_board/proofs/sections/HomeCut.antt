@@ -1,13 +1,6 @@
 -- Where the first unit that is queued too late stands, in a run in which axes home, and what is over by its turn.
 use Rattle.std.proofs.Common.{◌≡◌, ℕ, zero, suc, Bool, true, false, ◌+◌, ◌<◌, ◌≤◌, ◌⊎◌, List, [], ◌∷◌, ◌++◌, All, length, Option, sym, ◌∙◌, subst, arith, inl, inr, append-nil}
-use Rattle.std.proofs.lemmas.Bool.Decides.{leb_tells}
-use Rattle.std.proofs.lemmas.List.Elements.{All-head, All-tail}
-use Rattle.plan_types.specs.Lines.{Clocks}
-use Rattle.msg_code.specs.declared.cmd.Cmd.{Cmd}
-use Rattle.step_feed.specs.Pacing.{Release}
-use Rattle.section_units.specs.Sections.{AreBefore}
-use Rattle.link_work.specs.Turn.{Orders}
-use Rattle.link_work.specs.Runs.{queued_in}
+use Rattle.laws_board.proofs.Names.{leb_tells, All-head, All-tail, Clocks, Cmd, Release, AreBefore, Orders, queued_in}
 use Rattle.laws_board.specs.sections.Courses.{Course}
 use Rattle.laws_board.specs.sections.Known.{AreQueued, Sent, sent_at, sent_in}
 use Rattle.laws_board.specs.sections.Homes.{RunSection, IsSectionBy, AreInTurn, AreReleasedBy, AreSoonBy, AreSoon, BeginLeftOf, IsLeftOf, lost_at}
@@ -109,7 +102,7 @@ later_past until e [] cs c row i = absurd i
 later_past until e (s ∷ ss) cs c row (inl i) = omega (arith, row.0, row.1, i.1)
 later_past until e (s ∷ ss) cs c row (inr i) = omega (arith, row.0, row.1, later_past until s.section.end ss cs c row.2 i.1)
 
-start_behind : (e : ℕ) (past : List RunSection) (s : RunSection) (later : List RunSection) → AreInTurn e (past ++ s ∷ later) → e + 260 ≤ s.section.start
+pub start_behind : (e : ℕ) (past : List RunSection) (s : RunSection) (later : List RunSection) → AreInTurn e (past ++ s ∷ later) → e + 260 ≤ s.section.start
 start_behind e [] s later row = row.0
 start_behind e (x ∷ past) s later row = omega (arith, row.0, row.1, start_behind x.section.end past s later row.2)
 

@@ -1,24 +1,9 @@
 -- In a run in which axes home, a board takes all its units in time for the 32-bit clock, as long as it runs, where few turns of each busy
 -- stretch are spoiled.
 use Rattle.std.proofs.Common.{◌≡◌, ℕ, suc, true, ◌+◌, ◌^◌, ◌<◌, ◌≤◌, ◌⊎◌, List, [], ◌∷◌, ◌++◌, length, map, take, drop, Option, refl, ap, sym, ◌∙◌, subst, arith, inl, inr, append_assoc, append-nil, length-append}
-use Rattle.std.proofs.lemmas.Bool.Decides.{leb_tells}
-use Rattle.std.proofs.lemmas.Grind.{flat_map-append}
-use Rattle.std.proofs.lemmas.List.{append_cancel_left, length-take-le, take-append-drop}
-use Rattle.std.specs.List.{flat_map}
-use Rattle.plan_types.specs.declared.levels.Level.{Level}
-use Rattle.plan_types.specs.declared.machine.BoardDef.{BoardDef}
-use Rattle.plan_types.specs.declared.plan.BoardState.{BoardState}
-use Rattle.plan_types.specs.declared.plan.BoardState.TheVariants.{Running}
-use Rattle.plan_types.specs.Clock.{clock_of}
-use Rattle.plan_types.specs.Lines.{Clocks}
-use Rattle.board_sim.specs.Board.{is_shut}
-use Rattle.board_sim.specs.Fair.{Meant}
-use Rattle.board_world.specs.World.{Core, Step, Do, Turn, world_after, run_world, new_world}
-use Rattle.wire_scene.specs.declared.scene.Entry.{Entry}
+use Rattle.laws_board.proofs.Names.{leb_tells, flat_map-append, append_cancel_left, take-append-drop, flat_map, Level, BoardDef, BoardState, Running, clock_of, Clocks, is_shut, Meant, Core, Step, Do, Turn, world_after, run_world, new_world, Entry, AreTurns, queued_in, first_state, LinkState, Orders}
+use Rattle.std.proofs.lemmas.List.{length-take-le}
 use Rattle.link_work.specs.Ends.{spoiled}
-use Rattle.link_work.specs.Runs.{AreTurns, queued_in}
-use Rattle.link_work.specs.Stands.{first_state}
-use Rattle.link_work.specs.Turn.{LinkState, Orders}
 use Rattle.laws_board.specs.sections.Courses.{AllHeed, AreSettled, courses}
 use Rattle.laws_board.specs.sections.Events.{AreOwn, AreTurnsOf, IsTurnOf}
 use Rattle.laws_board.specs.sections.Homes.{AreSettledOn, IsHomeRun, IsSplitIn, RunSection, lost_at}
@@ -36,12 +21,12 @@ use Rattle.laws_board.proofs.sections.HomeLimits.{home_few}
 use Rattle.laws_board.proofs.sections.HomeTimes.{home_lasting}
 use Rattle.laws_board.proofs.sections.Latest.{AreFew}
 use Rattle.laws_board.proofs.sections.Linking.{own_first, turns_are, turns_owned}
-use Rattle.laws_board.proofs.sections.Lists.{orders_append, orders_at}
+use Rattle.laws_board.proofs.sections.Lists.{orders_append, orders_at, orders_long}
 use Rattle.laws_board.proofs.sections.Soon.{part_front}
 use Rattle.laws_board.proofs.sections.Spoiled as spoiled
 use Rattle.laws_board.proofs.sections.Stepping.{Going, Keeps, Script, heed_behind, heed_front, shut_step}
 use Rattle.laws_board.proofs.sections.Timing.{AreLasting, timely_join, turn_steps_soon}
-use Rattle.laws_board.proofs.sections.Wholes.{orders_length, sent_orders}
+use Rattle.laws_board.proofs.sections.Wholes.{sent_orders}
 
 -- a board that is shut down takes none
 not_running : (s : BoardState) → is_shut s ≡ true → s ≡ Running → ⊥
@@ -93,7 +78,7 @@ one_turn : (p : Script) (n turn : ℕ) (all sofar os : List Orders) (sent : List
 one_turn p n turn all sofar os sent o steps h t is lasting whole queue k (low, short, taken, enough) = elim k.state [
   | inl r ↦ elim enough [
     | inl soon ↦ going_turn p n turn low all sofar os sent o steps h t is lasting whole queue k r short taken soon
-    | inr many ↦ absurd (omega (arith, many, taken, ap length r.taken, orders_length r.done, ap length r.front_is, length-append r.done r.more))
+    | inr many ↦ absurd (omega (arith, many, taken, ap length r.taken, orders_long r.done, ap length r.front_is, length-append r.done r.more))
   ]
   | inr e ↦
       let (reason, tick, first, state, may) = e.shut in

@@ -1,20 +1,14 @@
 -- A unit of a section of moves that is left five turns behind its end: for a stepper it is good, and comes too late.
 use Rattle.std.proofs.Common.{◌≡◌, ◌≢◌, ℕ, Bool, false, ◌+◌, ◌-◌, ◌*◌, ◌<◌, ◌≤◌, List, [], ◌∷◌, ◌++◌, Option, None, Some, refl, ap, sym, ◌∙◌, subst, arith, inl, inr}
-use Rattle.std.proofs.lemmas.Bool.Decides.{eqb_tells}
+use Rattle.laws_board.proofs.Names.{eqb_tells, turn_ns, lines_tick, step_command, unit_orders, StepUnit, Release, units_of, BoardSection, of_stepper, cons_same}
 use Rattle.std.specs.Prelude.{slice_index}
 use Rattle.plan_types.specs.Board.{last_of}
-use Rattle.plan_types.specs.Clock.{turn_ns}
-use Rattle.plan_types.specs.Lines.{lines_tick}
-use Rattle.msg_code.specs.Units.{step_command}
-use Rattle.board_world.specs.Orders.{unit_orders}
-use Rattle.step_feed.specs.Units.{StepUnit}
-use Rattle.step_feed.specs.Pacing.{Release, pending, units_of}
+use Rattle.step_feed.specs.Pacing.{pending}
 use Rattle.step_feed.specs.Rings.{count_from}
-use Rattle.section_units.specs.Sections.{BoardSection, of_stepper, ticks_meant}
+use Rattle.section_units.specs.Sections.{ticks_meant}
 use Rattle.laws_board.specs.sections.Known.{Sent, sent_at, AreBelow}
 use Rattle.laws_board.specs.sections.Courses.{Course, IsSince, course_from, AreGoodOn}
 use Rattle.laws_board.proofs.sections.Clocks.{bound_made}
-use Rattle.laws_board.proofs.sections.Lists.{cons_same}
 use Rattle.laws_board.proofs.sections.Stepping.{course_append, good_behind, good_front}
 use Rattle.laws_board.proofs.sections.Units.{ahead_of_step, step_sent, unit_is}
 use Rattle.laws_board.proofs.sections.Waiting.{Frame, IsInside, AreInside, few_pend, lasts}

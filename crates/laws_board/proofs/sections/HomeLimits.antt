@@ -1,13 +1,7 @@
 -- In a run in which axes home, few units are queued in each turn up to that of the first that comes too late.
 use Rattle.std.proofs.Common.{◌≡◌, ℕ, ◌+◌, ◌≤◌, Bool, true, false, List, [], ◌∷◌, ◌++◌, All, length, Option, refl, ap, sym, ◌∙◌, subst, arith, inl, inr, append-nil}
-use Rattle.std.specs.List.{flat_map}
-use Rattle.std.proofs.lemmas.Bool.Decides.{eqb_tells, leb_tells}
-use Rattle.std.proofs.lemmas.List.Elements.{All-head, All-tail}
-use Rattle.plan_types.specs.Lines.{Clocks}
-use Rattle.step_feed.specs.Units.{StepUnit}
-use Rattle.step_feed.specs.Pacing.{ArePaced, Release, batch_at}
-use Rattle.link_work.specs.Turn.{Orders}
-use Rattle.section_units.specs.Sections.{AreBefore, BoardSection}
+use Rattle.laws_board.proofs.Names.{flat_map, eqb_tells, leb_tells, All-head, All-tail, Clocks, StepUnit, Release, batch_at, Orders, AreBefore, BoardSection}
+use Rattle.step_feed.specs.Pacing.{ArePaced}
 use Rattle.laws_board.specs.sections.Homes.{AreInTurn, AreOrdersIn, AreReleasedIn, AreSoon, AreSoonBy, IsHomeRun, IsSectionBy, RunSection}
 use Rattle.laws_board.proofs.sections.Latest.{AreFew}
 use Rattle.laws_board.proofs.sections.Limiting.{paced_few, sum_of}

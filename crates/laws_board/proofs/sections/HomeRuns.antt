@@ -1,15 +1,8 @@
 -- A stepper over the sections of a run, of moves or homing.
 use Rattle.std.proofs.Common.{◌≡◌, ℕ, Bool, true, false, ◌+◌, ◌-◌, ◌≤◌, ◌⊎◌, List, [], ◌∷◌, ◌++◌, All, map, Option, Some, None, refl, ap, sym, ◌∙◌, subst, arith, inl, inr, append_assoc, append-nil, suc, ◌<◌, drop}
-use Rattle.std.proofs.lemmas.Bool.Decides.{eqb_tells, leb_tells}
-use Rattle.std.specs.List.{flat_map}
-use Rattle.msg_code.specs.Units.{step_command}
-use Rattle.msg_code.specs.declared.cmd.Cmd.{Cmd}
+use Rattle.laws_board.proofs.Names.{eqb_tells, leb_tells, flat_map, step_command, Cmd, plain, units_orders, StepUnit, Release, batch_at, units_of, AreBefore, BoardSection, of_stepper, Orders, Pulse, queued_in}
 use Rattle.msg_code.specs.declared.cmd.Cmd.TheVariants as cmd
-use Rattle.board_world.specs.Orders.{plain, units_orders}
-use Rattle.step_feed.specs.Units.{StepUnit}
-use Rattle.step_feed.specs.Pacing.{Release, ArePaced, batch_at, units_of, pending}
-use Rattle.section_units.specs.Sections.{AreBefore, BoardSection, of_stepper}
-use Rattle.link_work.specs.Turn.{Orders}
+use Rattle.step_feed.specs.Pacing.{ArePaced, pending}
 use Rattle.laws_board.specs.sections.Known.{Sent, sent_at, sent_in, AreBelow}
 use Rattle.laws_board.specs.sections.Courses.{Course, course_of, course_behind, course_from, IsFrom, IsStopped, AreGoodOn, AreMadeFor, course_parts}
 use Rattle.laws_board.specs.sections.Courses as course
@@ -26,12 +19,11 @@ use Rattle.laws_board.proofs.sections.HomeControls.{now_of, controls_went, begun
 use Rattle.laws_board.proofs.sections.HomeSections.{Sound, OrdersOn, bare, cur, ahead_sound, orders_as, orders_later, sets_late, set_next, none_later, pushed_none, Promise, GoesBehind, no_fronts, EndsBy, stage_fronts, Split, all_of, ahead, split_over, split_on, IsBegunOn, IsLeftOn, LeftOn, LostOn}
 use Rattle.laws_board.proofs.sections.Spreading.{lasts_below, first_part, late_released}
 use Rattle.laws_board.proofs.sections.Sectioning.{before_back, before_down}
-use Rattle.plan_types.specs.declared.plan.Pulse.{Pulse}
-use Rattle.link_work.specs.Runs.{queued_in}
 use Rattle.laws_board.proofs.sections.Lists.{sent_append}
 use Rattle.laws_board.proofs.sections.Units.{ahead_of_step, step_sent, unit_is}
 use Rattle.laws_board.proofs.sections.HomeLate.{late_unit}
 use Rattle.laws_board.proofs.sections.Halted.{all_grow_on}
+use Rattle.plan_types.proofs.Facts.{true_or_false}
 
 -- what is known of a section and those behind it
 pub record Ground (f : Frame) (stops : ℕ → Option ℕ) (oid : ℕ) (homes : Bool) (s : BoardSection) (nx : ℕ → List Orders → Split) (later : List RunSection) : Type 0 where
@@ -162,11 +154,6 @@ pub before_least : (j k : ℕ) (rs : List Release) → j ≤ k → AreBefore j r
 before_least j k [] h a = tt
 before_least j k (r ∷ rs) h a = (omega (arith, a.0, h), before_least j k rs h a.1)
 
--- five turns behind the end of a section: nothing is left of it, or one of moves has a unit that comes too late
-tells : (b : Bool) → (b ≡ true) ⊎ (b ≡ false)
-tells true = inl refl
-tells false = inr refl
-
 over_on : (f : Frame) (stops : ℕ → Option ℕ) (oid : ℕ) (homes : Bool) (s : BoardSection) (nx : ℕ → List Orders → Split) (later : List RunSection) (g : Ground f stops oid homes s nx later) (o : Orders) (os : List Orders) (turn from : ℕ) (c0 c : Course) (before rs : List Release)
     → f.start ≤ from + 250 → StageWith f stops oid homes s c0 (Promise oid homes s turn (o ∷ os)) c (lasts oid before) (of_stepper oid (units_of rs)) → ArePaced f.clocks f.slots from before rs → AreInside f before → AreInside f rs → AreFrom turn rs
     → (turn + 250 ≤ f.start → before ≡ []) → (homes ≡ true → AreBefore s.end rs) → AreBefore turn before → (from ≤ f.end) ⊎ (from < turn) → s.end + 5 ≤ turn → turn ≤ s.end + 5 → (HasUnits oid later ⊎ SetsAny oid (o ∷ os) → c.known.made ≡ true)
@@ -179,7 +166,7 @@ over_on f stops oid homes s nx later g o os turn from c0 c before [] soon st pac
     (g.next (o ∷ os) turn c (omega (arith, now))
     (λ n h. stage_over f stops oid n homes s c0 c before [] (Promise oid homes s turn (o ∷ os)) g.end_is g.start_is g.order behind h st) made behind_it set)
 over_on f stops oid homes s nx later g o os turn from c0 c before (r ∷ rs) soon st paced behind inside far young home earlier early over now made orders set part back =
-    elim (tells homes) [
+    elim (true_or_false homes) [
       | inl e ↦ absurd (omega (arith, (home e).0, far.0, over))
       | inr e ↦
           let over_f : f.end + 5 ≤ turn = omega (arith, g.end_is e, over) in

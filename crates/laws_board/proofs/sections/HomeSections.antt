@@ -1,16 +1,8 @@
 -- The sections of a run, of moves or homing, one behind the other: what is queued for a stepper is good, and its parts are those of the sections.
 use Rattle.std.proofs.Common.{◌≡◌, ◌≢◌, ℕ, zero, suc, Bool, true, false, ◌+◌, ◌-◌, ◌≤◌, ◌⊎◌, List, [], ◌∷◌, ◌++◌, All, length, map, Option, Some, refl, ap, sym, ◌∙◌, subst, arith, inl, inr, append_assoc, append-nil, ◌<◌, drop}
-use Rattle.std.proofs.lemmas.Bool.Decides.{eqb_tells}
-use Rattle.std.proofs.lemmas.List.Elements.{All-nil, All-cons, All-head, All-tail}
-use Rattle.std.specs.List.{flat_map}
-use Rattle.plan_types.specs.declared.plan.Pulse.{Pulse}
-use Rattle.plan_types.specs.Lines.{Clocks}
-use Rattle.msg_code.specs.declared.cmd.Cmd.{Cmd}
+use Rattle.laws_board.proofs.Names.{eqb_tells, All-nil, All-cons, All-head, All-tail, flat_map, Pulse, Clocks, Cmd, StepUnit, Release, batch_at, AreBefore, BoardSection, section_steps, Orders, plain, units_orders, queued_in}
 use Rattle.msg_code.specs.declared.cmd.Cmd.TheVariants as cmd
-use Rattle.step_feed.specs.Units.{StepUnit}
-use Rattle.step_feed.specs.Pacing.{Release, batch_at}
-use Rattle.section_units.specs.Sections.{AreBefore, BoardSection, section_steps, steps_said}
-use Rattle.link_work.specs.Turn.{Orders}
+use Rattle.section_units.specs.Sections.{steps_said}
 use Rattle.laws_board.specs.sections.Known.{Sent, sent_in, AreBelow, sent_at}
 use Rattle.laws_board.specs.sections.Runs.{Begins}
 use Rattle.laws_board.specs.sections.Courses.{Part, Course, course_parts, course_from, IsSince, IsStopped, AreBeforeStop, AreMadeFor, IsGoodOn, AreGoodOn}
@@ -22,8 +14,6 @@ use Rattle.laws_board.proofs.sections.Releasing.{AreFrom, pushed, from_down, non
 use Rattle.laws_board.proofs.sections.HomeUnits.{good_on_append}
 use Rattle.laws_board.proofs.sections.HomeTurns.{StageWith, stop_of}
 use Rattle.std.specs.Prelude.{nat_lt, slice_index, if◌then◌else◌}
-use Rattle.board_world.specs.Orders.{plain, units_orders}
-use Rattle.link_work.specs.Runs.{queued_in}
 use Rattle.laws_board.proofs.sections.Units.{ahead_of_step, step_sent}
 
 -- what is queued, in two parts: the first unit that comes too late, and those ahead of it

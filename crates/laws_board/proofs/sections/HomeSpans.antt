@@ -1,17 +1,8 @@
 -- The pulses of each section of a run, of moves or homing.
 use Rattle.std.proofs.Common.{◌≡◌, ℕ, Bool, true, false, ◌+◌, ◌-◌, ◌<◌, ◌≤◌, List, [], ◌∷◌, ◌++◌, All, length, Option, refl, ap, sym, ◌∙◌, subst, arith, append_assoc, append-nil}
-use Rattle.std.proofs.lemmas.List.Elements.{All-head, All-tail}
-use Rattle.plan_types.specs.declared.levels.Level.{Level}
-use Rattle.plan_types.specs.declared.machine.BoardDef.{BoardDef}
-use Rattle.plan_types.specs.declared.plan.Pulse.{Pulse}
-use Rattle.plan_types.specs.Lines.{Clocks}
-use Rattle.plan_types.specs.Plan.{AreSpaced, Fits}
-use Rattle.board_sim.specs.Fair.{only}
+use Rattle.laws_board.proofs.Names.{All-head, All-tail, Level, BoardDef, Pulse, Clocks, Fits, only, Core, Step, run_world, new_world, Orders, run_append, BoardSection, base_of, section_steps}
+use Rattle.plan_types.specs.Plan.{AreSpaced}
 use Rattle.board_sim.proofs.Steps.{only-append}
-use Rattle.board_world.specs.World.{Core, Step, run_world, new_world}
-use Rattle.link_work.specs.Turn.{Orders}
-use Rattle.link_work.proofs.Sending.{run_append}
-use Rattle.section_units.specs.Sections.{BoardSection, base_of, section_steps}
 use Rattle.laws_board.specs.sections.Events.{AreTicks}
 use Rattle.laws_board.specs.sections.Known.{sent_in}
 use Rattle.laws_board.specs.sections.Parts.{AreTracked}
@@ -28,6 +19,7 @@ use Rattle.laws_board.proofs.sections.Stepping.{Script, Keeps, heed_front, heed_
 use Rattle.laws_board.proofs.sections.Coursed.{begins, turns_keep}
 use Rattle.laws_board.proofs.sections.Halted.{keeps_fronts}
 use Rattle.laws_board.proofs.sections.Standing.{no_front}
+use Rattle.laws_board.proofs.sections.Unmoved.{none_own}
 
 -- what a run is made of
 abbrev pub script_of : (b : BoardDef) (pins : List (List Level)) (own : ℕ → ℕ) (clocks : Clocks) (ready : ℕ) (stops : ℕ → Option ℕ) (ss : List RunSection) (before during behind : List Orders) (first second : List Step)
@@ -192,13 +184,6 @@ section_is b pins own clocks ready stops past s later before during behind first
           (subst Fit (sym (sym (append_assoc (only oid q.new.0) cut.0 begun.0) ∙ ap (λ y. y ++ begun.0) cut.1 ∙ begun.1)) (plan oid).fits),
     )
 
--- of no stepper there are any
-none_of_all : (ps : List Pulse) → ((oid : ℕ) → only oid ps ≡ []) → ps ≡ []
-none_of_all [] none = refl
-none_of_all (p ∷ ps) none = absurd (some p (only p.stepper ps) (sym (first_of_own p ps) ∙ none p.stepper)) where
-  some : (p : Pulse) (ps : List Pulse) → p ∷ ps ≡ [] → ⊥
-  some p ps e = cc
-
 row_behind : (e : ℕ) (past later : List RunSection) → AreInTurn e (past ++ later) → (end : ℕ) × (e ≤ end) × AreInTurn end later
 row_behind e [] later row = (e, omega arith, row)
 row_behind e (t ∷ past) later row =
@@ -230,4 +215,4 @@ between_is b pins own clocks ready stops past later before during behind first s
     (laters a (next_down a d later (omega arith) ends)) (laters d ends)
     (append-nil (only oid h1.made ++ only oid q.new.0) ∙ sym made ∙ is) in
     no_front (only oid q.new.0) cut.0 cut.1 in
-    q.new.1 ∙ ap (λ x. h1.made ++ x) (none_of_all q.new.0 none) ∙ append-nil h1.made
+    q.new.1 ∙ ap (λ x. h1.made ++ x) (none_own q.new.0 none) ∙ append-nil h1.made

@@ -1,17 +1,7 @@
 -- Units of a run in which axes home are timely for some turns.
 use Rattle.std.proofs.Common.{◌≡◌, ℕ, Bool, true, false, ◌+◌, ◌*◌, ◌^◌, ◌<◌, ◌≤◌, List, [], ◌∷◌, ◌++◌, length, map, All, Option, ap, sym, ◌∙◌, subst, arith, length-append}
-use Rattle.std.proofs.lemmas.List.Elements.{All-head, All-tail}
-use Rattle.std.specs.List.{flat_map}
-use Rattle.plan_types.specs.Clock.{turn_ns}
-use Rattle.plan_types.specs.Lines.{Clocks, lines_tick}
-use Rattle.msg_code.specs.declared.cmd.Cmd.{Cmd}
+use Rattle.laws_board.proofs.Names.{All-head, All-tail, flat_map, turn_ns, Clocks, lines_tick, Cmd, plain, units_orders, StepUnit, batch_at, units_of, queued_in, Orders, BoardSection, base_of, of_stepper, section_steps}
 use Rattle.msg_code.specs.declared.cmd.Cmd.TheVariants as cmd
-use Rattle.board_world.specs.Orders.{plain, units_orders}
-use Rattle.step_feed.specs.Units.{StepUnit}
-use Rattle.step_feed.specs.Pacing.{batch_at, units_of}
-use Rattle.link_work.specs.Runs.{queued_in}
-use Rattle.link_work.specs.Turn.{Orders}
-use Rattle.section_units.specs.Sections.{BoardSection, base_of, of_stepper, section_steps}
 use Rattle.laws_board.specs.sections.Events.{AreTicks}
 use Rattle.laws_board.specs.sections.Homes.{AreInTurn, AreOrdersIn, IsControlIn, IsHomeRun, IsSectionBy, RunSection}
 use Rattle.laws_board.specs.sections.Parts.{AreTracked}

@@ -1,13 +1,9 @@
 -- A stepper in a section, of moves or homing, turn by turn.
 use Rattle.std.proofs.Common.{◌≡◌, ◌≢◌, ℕ, Bool, true, false, ◌+◌, ◌%◌, ◌^◌, ◌<◌, ◌≤◌, ◌⊎◌, List, [], ◌∷◌, ◌++◌, Option, Some, None, refl, ap, sym, ◌∙◌, subst, arith, inl, inr, append-nil}
-use Rattle.std.proofs.lemmas.Bool.Decides.{eqb_tells}
-use Rattle.plan_types.specs.declared.plan.Pulse.{Pulse}
-use Rattle.plan_types.specs.Lines.{Clocks}
-use Rattle.board_world.specs.Orders.{unit_orders, units_orders}
-use Rattle.step_feed.specs.Units.{StepUnit}
-use Rattle.step_feed.specs.Pacing.{Release, ArePaced, batch_at, pending, units_of}
+use Rattle.laws_board.proofs.Names.{eqb_tells, Pulse, Clocks, unit_orders, units_orders, StepUnit, Release, batch_at, units_of, BoardSection, of_stepper, section_steps}
+use Rattle.step_feed.specs.Pacing.{ArePaced, pending}
 use Rattle.step_feed.specs.Rings.{count_from}
-use Rattle.section_units.specs.Sections.{AreBegunBy, AreChained, BoardSection, IsUnit, of_stepper, section_steps, steps_said}
+use Rattle.section_units.specs.Sections.{AreBegunBy, AreChained, IsUnit, steps_said}
 use Rattle.laws_board.specs.sections.Known.{Sent, sent_at, AreBelow}
 use Rattle.laws_board.specs.sections.Courses.{Part, Course, course_parts, next_part, course_behind, course_from, IsStopped, AreMadeFor, MaySetClock, AreGoodOn}
 use Rattle.laws_board.proofs.sections.Entering.{said_told, told_by}
@@ -17,6 +13,8 @@ use Rattle.laws_board.proofs.sections.Units.{at_own, behind_unit}
 use Rattle.laws_board.proofs.sections.Waiting.{Frame, base, IsInside, AreInside, lasts, few_pend}
 use Rattle.laws_board.proofs.sections.Releasing.{AreFrom, after_turn, pushed, from_down, none_at, paced_from}
 use Rattle.laws_board.proofs.sections.HomeUnits.{Goes, clock_ahead, good_on_append, other_unit, set_at, unclocked, unit_on}
+use Rattle.plan_types.proofs.Facts.{true_false}
+use Rattle.laws_board.proofs.sections.Standing.{no_front}
 
 -- the turn in which the parts stop that are begun in a section
 abbrev pub stop_of : Bool → BoardSection → Option ℕ
@@ -74,9 +72,6 @@ chained_apart clocks b (u ∷ us) a = (a.0, wrapped_unit clocks b u a.2, a.3)
 no_list : (x : ℕ) (xs : List ℕ) → x ∷ xs ≡ [] → ⊥
 no_list x xs e = cc
 
-true_false : true ≡ false → ⊥
-true_false e = cc
-
 -- a command sets the clock for a homing section
 pub begins_apart : (f : Frame) (stops : ℕ → Option ℕ) (oid : ℕ) (s : BoardSection) (c0 c : Course) (us : List StepUnit) (turn : ℕ) → AreBegunBy true f.clocks (base f) us → steps_said oid false us ≡ section_steps oid s
     → (us ≢ [] → c.known.made ≡ true) → stops turn ≡ Some s.end → ((ps : List Pulse) → AreMadeFor f.own stops (course_parts c) ps → AreMadeFor f.own stops (course_parts c0) ps)
@@ -96,18 +91,11 @@ begins_apart f stops oid s c0 c us turn units all made stop past = record {
   again = λ _ _. (units, all, refl);
 }
 
--- nothing was made for a part without steps
-no_late : (late rest : List Pulse) → late ++ rest ≡ [] → late ≡ []
-no_late [] rest e = refl
-no_late (p ∷ late) rest e = absurd (clash p (late ++ rest) e) where
-  clash : (p : Pulse) (qs : List Pulse) → p ∷ qs ≡ [] → ⊥
-  clash p qs e = cc
-
 pub empty_part : (own : ℕ → ℕ) (stops : ℕ → Option ℕ) (since : Option ℕ) (steps : List Pulse) (past : List Part) (ps : List Pulse) → steps ≡ [] → AreMadeFor own stops (record { since = since; steps = steps } ∷ past) ps
     → AreMadeFor own stops past ps
 empty_part own stops since steps past ps none (early, late, is, old, begins, before) =
     let (rest, same) = begins in
-    let nothing : late ≡ [] = no_late late rest (same ∙ none) in
+    let nothing : late ≡ [] = no_front late rest (same ∙ none) in
     let all : ps ≡ early = is ∙ ap (λ x. early ++ x) nothing ∙ append-nil early in
     let At : List Pulse → Type 0 = λ x. AreMadeFor own stops past x in
     subst At (sym all) old

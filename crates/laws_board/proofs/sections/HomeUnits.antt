@@ -1,22 +1,18 @@
 -- The commands of a unit, for a stepper whose steps go part by part.
 use Rattle.std.proofs.Common.{◌≡◌, ◌≢◌, ℕ, true, ◌+◌, ◌%◌, ◌^◌, ◌<◌, ◌≤◌, List, [], ◌∷◌, ◌++◌, length, map, Bool, Option, Some, None, refl, ap, sym, ◌∙◌, subst, arith, inr, append-nil}
-use Rattle.plan_types.specs.declared.plan.Pulse.{Pulse}
+use Rattle.laws_board.proofs.Names.{Pulse, Cmd, reset_commands, dir_commands, step_command, plain, unit_orders, StepUnit}
 use Rattle.plan_types.specs.Board.{last_of}
-use Rattle.msg_code.specs.declared.cmd.Cmd.{Cmd}
 use Rattle.msg_code.specs.declared.cmd.Cmd.TheVariants as cmd
-use Rattle.msg_code.specs.Units.{reset_commands, dir_commands, step_command}
-use Rattle.board_world.specs.Orders.{plain, unit_orders}
-use Rattle.step_feed.specs.Units.{StepUnit}
 use Rattle.step_feed.specs.Rings.{count_from}
 use Rattle.section_units.specs.Sections.{AreChained, steps_said, ticks_meant}
 use Rattle.laws_board.specs.sections.Known.{Sent, sent_at, Known, knows, knows_of, known_from, IsGoodFor, AreGoodFrom}
 use Rattle.laws_board.specs.sections.Courses.{Course, next_part, course_of, course_behind, course_from, IsGoodOn, AreGoodOn}
-use Rattle.laws_board.proofs.sections.Counts.{last_any}
 use Rattle.laws_board.proofs.sections.Lists.{sent_append}
 use Rattle.laws_board.proofs.sections.Stepping.{course_append}
 use Rattle.laws_board.proofs.sections.Ticks.{orders_are}
 use Rattle.laws_board.proofs.sections.Units.{at_others, behind_unit, good_unit, own_known, clock_after}
 use Rattle.laws_board.proofs.sections.Waiting.{Frame, IsInside, Waits, unit_goes}
+use Rattle.board_sim.proofs.Steps.{last_any}
 
 -- a command that sets no clock and binds no stepper
 abbrev pub IsPlain : Cmd → Type 0

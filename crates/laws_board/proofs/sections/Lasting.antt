@@ -1,20 +1,12 @@
 -- Units that are queued in some turns are timely for as many turns more.
 use Rattle.std.proofs.Common.{◌≡◌, ℕ, suc, Bool, ◌+◌, ◌-◌, ◌*◌, ◌^◌, ◌<◌, ◌≤◌, List, [], ◌∷◌, ◌++◌, map, All, Option, Some, None, refl, sym, subst, arith, inl, inr}
-use Rattle.std.proofs.lemmas.Bool.Decides.{leb_tells, eqb_tells}
-use Rattle.std.proofs.lemmas.List.Elements.{All-head, All-tail}
+use Rattle.laws_board.proofs.Names.{leb_tells, eqb_tells, All-head, All-tail, turn_ns, Clocks, lines_tick, Cmd, reset_commands, dir_commands, step_command, Meant, plain, unit_orders, units_orders, StepUnit, Release, batch_at, units_of, of_stepper}
 use Rattle.std.specs.Prelude.{slice_index}
-use Rattle.plan_types.specs.Clock.{turn_ns}
-use Rattle.plan_types.specs.Lines.{Clocks, lines_tick, lines_turn}
+use Rattle.plan_types.specs.Lines.{lines_turn}
 use Rattle.clock_line.proofs.Turns.{turn-below}
-use Rattle.msg_code.specs.declared.cmd.Cmd.{Cmd}
 use Rattle.msg_code.specs.declared.cmd.Cmd.TheVariants as cmd
-use Rattle.msg_code.specs.Units.{reset_commands, dir_commands, step_command}
-use Rattle.board_sim.specs.Fair.{Meant}
-use Rattle.board_world.specs.Orders.{plain, unit_orders, units_orders}
-use Rattle.step_feed.specs.Units.{StepUnit}
-use Rattle.step_feed.specs.Pacing.{Release, batch_at, units_of}
 use Rattle.laws_board.specs.sections.Timely.{IsTimely, AreTimely}
-use Rattle.section_units.specs.Sections.{of_stepper, ticks_meant}
+use Rattle.section_units.specs.Sections.{ticks_meant}
 use Rattle.laws_board.specs.sections.Parts.{IsControl}
 use Rattle.laws_board.specs.sections.Runs.{IsSpilled}
 use Rattle.laws_board.proofs.sections.Clocks.{ticks_rise, turn_least}

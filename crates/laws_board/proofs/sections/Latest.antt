@@ -1,21 +1,11 @@
 -- Where what is queued is cut before the first unit that is five turns late: all before it is less late, and it is just so late.
 use Rattle.std.proofs.Common.{◌≡◌, ℕ, suc, ◌+◌, ◌-◌, ◌*◌, ◌^◌, ◌<◌, ◌≤◌, List, [], ◌∷◌, ◌⊎◌, ◌++◌, length, take, map, refl, ap, sym, ◌∙◌, subst, arith, inl, inr, append_assoc, append-nil}
-use Rattle.std.proofs.lemmas.Bool.Decides.{eqb_tells, leb_tells}
+use Rattle.laws_board.proofs.Names.{eqb_tells, leb_tells, turn_ns, Clocks, lines_tick, Cmd, dir_commands, reset_commands, Meant, plain, unit_orders, units_orders, StepUnit, Release, batch_at, Orders, queued_in, BoardSection}
 use Rattle.std.specs.Prelude.{slice_index}
-use Rattle.plan_types.specs.Clock.{turn_ns}
-use Rattle.plan_types.specs.Lines.{Clocks, lines_tick}
 use Rattle.clock_line.proofs.Turns.{tick_over-mono, turn-below}
-use Rattle.msg_code.specs.declared.cmd.Cmd.{Cmd}
 use Rattle.msg_code.specs.declared.cmd.Cmd.TheVariants as cmd
-use Rattle.msg_code.specs.Units.{dir_commands, reset_commands}
-use Rattle.board_sim.specs.Fair.{Meant}
-use Rattle.board_world.specs.Orders.{plain, unit_orders, units_orders}
-use Rattle.step_feed.specs.Units.{StepUnit}
-use Rattle.step_feed.specs.Pacing.{Release, batch_at}
-use Rattle.link_work.specs.Turn.{Orders}
-use Rattle.link_work.specs.Runs.{queued_in}
 use Rattle.section_units.specs.Late.{LateOneByOne}
-use Rattle.section_units.specs.Sections.{BoardSection, ticks_meant}
+use Rattle.section_units.specs.Sections.{ticks_meant}
 use Rattle.laws_board.specs.sections.Events.{AreTicks}
 use Rattle.laws_board.specs.sections.Known.{Sent, sent_at, sent_in, orders_sent}
 use Rattle.laws_board.specs.sections.Parts.{AreOrdersOf, AreTracked}

@@ -1,20 +1,16 @@
 -- The units of a turn keep their limit.
 use Rattle.std.proofs.Common.{◌≡◌, ◌⊎◌, ℕ, suc, ◌+◌, ◌<◌, ◌≤◌, List, [], ◌∷◌, ◌++◌, All, length, map, refl, ap, ◌∙◌, subst, arith, inl, inr, append-nil, length-append}
-use Rattle.std.specs.List.{flat_map}
+use Rattle.laws_board.proofs.Names.{flat_map, eqb_tells, leb_tells, All-cons, All-head, All-nil, All-tail, Clocks, units_orders, StepUnit, Release, batch_at, AreBefore, BoardSection}
 use Rattle.std.specs.Prelude.{if◌then◌else◌}
-use Rattle.std.proofs.lemmas.Bool.Decides.{eqb_tells, leb_tells}
-use Rattle.std.proofs.lemmas.List.Elements.{All-cons, All-head, All-nil, All-tail}
-use Rattle.plan_types.specs.Lines.{Clocks}
 use Rattle.msg_code.specs.Units.{unit_text}
-use Rattle.board_world.specs.Orders.{units_orders}
 use Rattle.board_world.specs.World.{on_wire}
-use Rattle.step_feed.specs.Units.{StepUnit, unit_bytes}
+use Rattle.step_feed.specs.Units.{unit_bytes}
 use Rattle.step_feed.specs.Pacing as pacing
-use Rattle.step_feed.specs.Pacing.{ArePaced, Release, batch_at}
+use Rattle.step_feed.specs.Pacing.{ArePaced}
 use Rattle.step_feed.proofs.Sent.{sent}
 use Rattle.link_work.specs.Limits.{bytes_in}
 use Rattle.link_work.proofs.Limits.{units_bytes}
-use Rattle.section_units.specs.Sections.{AreBefore, BoardSection, IsSection}
+use Rattle.section_units.specs.Sections.{IsSection}
 use Rattle.laws_board.specs.sections.Events.{AreTicks}
 use Rattle.laws_board.specs.sections.Parts.{AreInARow, AreTracked}
 use Rattle.laws_board.specs.sections.Runs.{AreSpilled}

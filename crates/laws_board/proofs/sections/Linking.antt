@@ -4,27 +4,17 @@ use Rattle.std.proofs.Common.{◌≡◌, ℕ, ℤ, zero, suc, pos, negsuc, Bool,
 use Rattle.laws_board.proofs.sections.Windows.{quiet_made}
 use Rattle.board_sim.proofs.RigShut.{passes_left}
 use Rattle.board_sim.proofs.RigStates.{passes_state}
-use Rattle.board_sim.specs.Board.{is_shut}
-use Rattle.board_sim.specs.Rig.{Rig, passes}
-use Rattle.plan_types.specs.declared.plan.BoardState.TheVariants.{Running, Shut}
-use Rattle.plan_types.specs.declared.plan.BoardState.{BoardState}
-use Rattle.plan_types.specs.declared.machine.BoardDef.{BoardDef}
-use Rattle.plan_types.specs.declared.clock.BoardClock.{BoardClock}
-use Rattle.plan_types.specs.Clock.{board_tick, clock_of, own_tick, rate}
+use Rattle.laws_board.proofs.Names.{is_shut, Rig, passes, Running, Shut, BoardState, BoardDef, BoardClock, board_tick, clock_of, State, Down, Up, Core, Step, Do, Turn, run_world, new_world, world_after, after_event, LinkState, Orders, after_board, after_host, come, IsTurn, AreTurns, run_append}
+use Rattle.plan_types.specs.Clock.{own_tick, rate}
 use Rattle.plan_types.specs.Machines.{IsValidBoard}
 use Rattle.plan_types.proofs.OwnTicks.{rise}
 use Rattle.std.proofs.Math.Nat.{mul-le-mul_right}
-use Rattle.msg_code.specs.declared.talk.State.{State}
 use Rattle.wire_scene.specs.declared.scene.Way.{Way}
-use Rattle.wire_scene.specs.declared.scene.Way.TheVariants.{Down, Up}
 use Rattle.wire_scene.specs.declared.wire.Fate.{Fate}
 use Rattle.wire_scene.specs.declared.wire.Fate.TheVariants.{Lost, Last, Stays, Garbled}
 use Rattle.wire_scene.specs.Wire.{Copy}
 use Rattle.board_world.specs.declared.event.Event.TheVariants as event
-use Rattle.board_world.specs.World.{Core, Step, Do, Turn, run_world, new_world, world_after, after_event}
-use Rattle.link_work.specs.Turn.{LinkState, Orders, after_board, after_host, after_replies, board_steps, come, comes, host_steps, resends, sends, IsTurn}
-use Rattle.link_work.specs.Runs.{AreTurns}
-use Rattle.link_work.proofs.Sending.{run_append}
+use Rattle.link_work.specs.Turn.{after_replies, board_steps, comes, host_steps, resends, sends}
 use Rattle.link_work.proofs.Steps.{AllOf, all_append, all_come, all_resent, all_sent}
 use Rattle.laws_board.specs.sections.Events.{QueuesNothing, AreOwn, AreQuiet, IsTurnOf, AreTurnsOf, AreTicks}
 use Rattle.laws_board.specs.sections.Links.{steps_of_turn, steps_of, AreTold, pulses_in, turns_told}

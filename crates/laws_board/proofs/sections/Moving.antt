@@ -1,22 +1,22 @@
 -- What time and halts make of a board's steppers: of the steps that pend some are made, and where a stepper is halted the
 -- others are dropped.
 use Rattle.std.proofs.Common.{◌≡◌, ◌≢◌, ℕ, zero, suc, Bool, true, false, ◌≤◌, ◌⊎◌, List, [], ◌∷◌, ◌++◌, length, map, get_or, set, Option, Some, None, refl, ap, sym, ◌∙◌, subst, arith, inl, inr, append_assoc, append-nil}
-use Rattle.std.proofs.lemmas.List.{length-map, length-set, get_or-set_other}
-use Rattle.std.proofs.lemmas.Bool.Decides.{leb_tells}
+use Rattle.laws_board.proofs.Names.{length-map, leb_tells, Running, Pulse, Pending, Controller, only}
+use Rattle.std.proofs.lemmas.List.{length-set, get_or-set_other}
 use Rattle.plan_types.specs.Plan.{pulse_of}
-use Rattle.plan_types.specs.declared.plan.BoardState.TheVariants.{Running}
-use Rattle.plan_types.specs.declared.plan.Pulse.{Pulse}
 use Rattle.plan_types.specs.Board.{Group, end_of, pending_steps, groups_from}
-use Rattle.board_step.specs.Steps.{Pending}
-use Rattle.board_sim.specs.Board.{Controller, Passed, stepper_at, slot_to, slot_before, emptied, passes_on}
+use Rattle.board_sim.specs.Board.{Passed, stepper_at, slot_to, slot_before, emptied, passes_on}
 use Rattle.board_sim.specs.Board as board
 use Rattle.board_sim.specs.Rig.{halt, halts, with_steppers}
-use Rattle.board_sim.specs.Fair.{IsFairSofar, GroupsRiseFrom, only}
+use Rattle.board_sim.specs.Fair.{IsFairSofar, GroupsRiseFrom}
 use Rattle.board_sim.proofs.Bound.{same_or_not}
-use Rattle.board_sim.proofs.Keeps.{slots_at}
+use Rattle.board_sim.proofs.Keeps.{slots_at, slot_split}
 use Rattle.board_sim.proofs.Steps.{only-append, rise_from}
 use Rattle.laws_board.proofs.sections.Counts.{ends_from, ends_fall, end_kept}
-use Rattle.laws_board.proofs.sections.Passes.{AreBetween, between_append, between_wide, slot_between, slot_split, passes_is, made_is}
+use Rattle.laws_board.proofs.sections.Passes.{AreBetween, between_append, between_wide, slot_between, passes_is, made_is}
+use Rattle.plan_types.proofs.Facts.{true_false}
+use Rattle.board_sim.proofs.RigShut.{both_none}
+use Rattle.board_sim.proofs.Halted.{at_halted}
 
 -- a stepper of an object id at a tick, and at a later one: it made these pulses
 pub record QueueMoves (oid now later : ℕ) (q r : Pending) (ps : List Pulse) : Type 0 where
@@ -37,9 +37,6 @@ SlotMoves oid now later None None ps = ps ≡ []
 SlotMoves oid now later None (Some r) ps = ⊥
 SlotMoves oid now later (Some q) None ps = ⊥
 SlotMoves oid now later (Some q) (Some r) ps = QueueMoves oid now later q r ps
-
-true_false : true ≡ false → ⊥
-true_false e = cc
 
 queue_stays : (oid now : ℕ) (q : Pending) → QueueMoves oid now now q q []
 queue_stays oid now q = record {
@@ -115,11 +112,8 @@ queue_both oid now mid later q r s ps qs h k a b = record {
   between = λ rise. between_append now later ps qs (between_wide now mid now later ps (omega arith) k (a.between rise)) (between_wide mid later now later qs h (omega arith) (b.between (a.rises rise)));
 }
 
-none_both : (ps qs : List Pulse) → ps ≡ [] → qs ≡ [] → ps ++ qs ≡ []
-none_both ps qs e f = ap (λ x. x ++ qs) e ∙ f
-
 pub slot_both : (oid now mid later : ℕ) (a b c : Option Pending) (ps qs : List Pulse) → now ≤ mid → mid ≤ later → SlotMoves oid now mid a b ps → SlotMoves oid mid later b c qs → SlotMoves oid now later a c (ps ++ qs)
-slot_both oid now mid later None None None ps qs h k x y = none_both ps qs x y
+slot_both oid now mid later None None None ps qs h k x y = both_none ps qs x y
 slot_both oid now mid later None None (Some s) ps qs h k x y = absurd y
 slot_both oid now mid later None (Some r) c ps qs h k x y = absurd x
 slot_both oid now mid later (Some q) None c ps qs h k x y = absurd x
@@ -145,12 +139,6 @@ board_both a b c ps qs x y = record {
   later = omega (arith, x.later, y.later);
   each = λ oid. rw (only-append oid ps qs) (slot_both oid a.tick b.tick c.tick (stepper_at a oid) (stepper_at b oid) (stepper_at c oid) (only oid ps) (only oid qs) x.later y.later (x.each oid) (y.each oid));
 }
-
--- steppers are halted
-at_halted : (xs : List (Option Pending)) (i : ℕ) → get_or (set xs i (emptied (get_or xs i None))) i None ≡ emptied (get_or xs i None)
-at_halted [] i = refl
-at_halted (x ∷ xs) zero = refl
-at_halted (x ∷ xs) (suc i) = at_halted xs i
 
 one_halt : (b : Controller) (i oid : ℕ) → (i ≡ oid) ⊎ (i ≢ oid) → SlotMoves oid b.tick b.tick (stepper_at b oid) (get_or (set b.steppers i (emptied (get_or b.steppers i None))) oid None) []
 one_halt b i oid (inl e) =

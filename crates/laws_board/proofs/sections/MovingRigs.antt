@@ -1,18 +1,12 @@
 -- The commands of triggers, and time with triggers, halt steppers and make steps, and nothing else.
 use Rattle.std.proofs.Common.{◌≡◌, ℕ, zero, suc, ◌&&◌, not, ◌+◌, ◌/◌, List, [], ◌∷◌, ◌++◌, Option, Some, None, sym, ◌∙◌, subst, inl, inr}
 use Rattle.std.specs.Prelude.{slice_index_or}
-use Rattle.std.proofs.lemmas.Bool.Decides.{leb_tells}
-use Rattle.plan_types.specs.declared.plan.BoardState.{BoardState}
-use Rattle.plan_types.specs.declared.plan.BoardState.TheVariants.{Running}
-use Rattle.plan_types.specs.declared.plan.Pulse.{Pulse}
-use Rattle.board_step.specs.Steps.{Pending}
+use Rattle.laws_board.proofs.Names.{leb_tells, BoardState, Running, Pulse, Pending, Trigger, Cmd, Rig, Slot, slot_at, becomes, expires_at_once, set_timeout, acts, acts_running, takes, earliest_moment, runs_to, rests_to, happens_to, goes_on, at_of, passes_by, pass, passes, all_left}
 use Rattle.board_trig.specs.declared.sampling.Homing.{Homing}
-use Rattle.board_trig.specs.declared.trigger.Trigger.{Trigger}
 use Rattle.board_trig.specs.Trigger as trig
-use Rattle.msg_code.specs.declared.cmd.Cmd.{Cmd}
 use Rattle.msg_code.specs.declared.cmd.Cmd.TheVariants as cmd
 use Rattle.board_sim.specs.Board.{stepper_at}
-use Rattle.board_sim.specs.Rig.{Rig, Slot, slot_at, levels_of, becomes, make_trigger, make_endstop, start_trigger, expires_at_once, set_timeout, trigger, bind, home, acts, acts_running, takes, earliest_moment, runs_to, rests_to, happens_to, happens_at, goes_on, at_of, passes_by, pass, passes, all_left}
+use Rattle.board_sim.specs.Rig.{levels_of, make_trigger, make_endstop, start_trigger, trigger, bind, home, happens_at}
 use Rattle.board_sim.specs.Rig as rig
 use Rattle.board_sim.specs.Fair.{IsFairSofar}
 use Rattle.board_sim.specs.Halted.{KeptPart}

@@ -2,17 +2,14 @@
 use Rattle.std.proofs.Common.{◌≡◌, ℕ, ◌<◌, List, [], ◌∷◌, ◌++◌, Option, Some, None, ap, sym, ◌∙◌, subst, arith, inl, inr, append_assoc, append-nil}
 use Rattle.std.specs.Prelude.{slice_index}
 use Rattle.link_work.specs.Late.{IsSteps}
-use Rattle.plan_types.specs.declared.plan.BoardState.{BoardState}
+use Rattle.laws_board.proofs.Names.{BoardState, Pending, Cmd, Controller, Rig, takes, takes_all, Meant, commands_of, Core, Step, Do, Turn, takes_in, after_event, in_turn, run_world}
 use Rattle.plan_types.specs.declared.plan.Triple.{Triple}
-use Rattle.board_step.specs.Steps.{Pending}
 use Rattle.board_step.proofs.Whole.{whole}
-use Rattle.msg_code.specs.declared.cmd.Cmd.{Cmd}
 use Rattle.msg_code.specs.declared.cmd.Cmd.TheVariants as cmd
-use Rattle.board_sim.specs.Board.{Controller, stepper_at}
-use Rattle.board_sim.specs.Rig.{Rig, takes, takes_all}
-use Rattle.board_sim.specs.Fair.{Meant, commands_of, IsFairOn, IsFairCommand, IsFairRunning, AreFair}
+use Rattle.board_sim.specs.Board.{stepper_at}
+use Rattle.board_sim.specs.Fair.{IsFairOn, IsFairCommand, IsFairRunning, AreFair}
 use Rattle.board_world.specs.Shut.{IsRefused, Shuts, ShutBy, WasShut}
-use Rattle.board_world.specs.World.{Core, Step, Do, Turn, takes_in, after_event, in_turn, run_world, AllFair}
+use Rattle.board_world.specs.World.{AllFair}
 use Rattle.laws_board.specs.sections.Late.{IsIn}
 
 -- the command that shut the board down was fair
@@ -67,7 +64,7 @@ in_more x xs ys zs (before, behind, are) = (
 )
 
 -- what was taken stays taken
-pub taken_more : (steps : List Step) (h : Core) → (more : List Meant) × ((run_world steps h).taken ≡ h.taken ++ more)
+unfoldable pub taken_more : (steps : List Step) (h : Core) → (more : List Meant) × ((run_world steps h).taken ≡ h.taken ++ more)
 taken_more [] h = ([], sym (append-nil h.taken))
 taken_more (Do e ∷ steps) h =
     let rest = taken_more steps (after_event h e) in

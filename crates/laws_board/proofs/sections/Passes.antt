@@ -1,29 +1,24 @@
 -- A board with triggers, of which none has a stepper bound, runs on: its pulses lie within the time that passed.
 use Rattle.std.proofs.Common.{◌≡◌, ℕ, zero, suc, Bool, false, ◌+◌, ◌/◌, ◌<◌, ◌≤◌, ◌⊎◌, List, [], ◌∷◌, ◌++◌, map, get_or, set, Option, Some, None, refl, ap, sym, ◌∙◌, subst, arith, inl, inr, append_assoc}
-use Rattle.std.proofs.lemmas.List.{append_cancel_left, append_cancel_right, length-map, map-append}
-use Rattle.std.proofs.lemmas.Bool.Decides.{leb_tells}
+use Rattle.laws_board.proofs.Names.{append_cancel_left, length-map, map-append, leb_tells, BoardState, Running, Shut, Planned, Pulse, Pending, Trigger, Controller, Rig, Slot, slot_at, becomes, earliest_moment, runs_to, rests_to, happens_to, goes_on, at_of, passes_by, pass, passes, all_left, only}
+use Rattle.std.proofs.lemmas.List.{append_cancel_right}
 use Rattle.plan_types.specs.Plan.{pulse_of}
-use Rattle.plan_types.specs.declared.plan.BoardState.{BoardState}
-use Rattle.plan_types.specs.declared.plan.BoardState.TheVariants.{Running, Shut}
-use Rattle.plan_types.specs.declared.plan.Planned.{Planned}
-use Rattle.plan_types.specs.declared.plan.Pulse.{Pulse}
 use Rattle.plan_types.specs.Board.{Group, steps_of, pending_steps, ticks_before, ticks_from, unless_left, groups_from, steps_before}
-use Rattle.board_step.specs.Steps.{Pending}
-use Rattle.board_trig.specs.declared.trigger.Trigger.{Trigger}
 use Rattle.board_trig.specs.Trigger as trig
-use Rattle.board_sim.specs.Board.{Controller, Passed, stepper_at, slot_to, slot_before, passes_on}
+use Rattle.board_sim.specs.Board.{Passed, stepper_at, slot_to, slot_before, passes_on}
 use Rattle.board_sim.specs.Board as board
-use Rattle.board_sim.specs.Rig.{Rig, Slot, slot_at, levels_of, becomes, earliest_moment, runs_to, rests_to, happens_to, happens_at, goes_on, at_of, passes_by, pass, passes, all_left}
+use Rattle.board_sim.specs.Rig.{levels_of, happens_at}
 use Rattle.board_sim.specs.Rig as rig
 use Rattle.board_sim.specs.RigRuns.{has}
-use Rattle.board_sim.specs.Fair.{IsFairSofar, IsKeptIn, MakesMeant, SlotRises, pending_at, only}
-use Rattle.board_sim.proofs.Keeps.{pass_keeps, slots_at}
+use Rattle.board_sim.specs.Fair.{IsFairSofar, IsKeptIn, MakesMeant, SlotRises, pending_at}
+use Rattle.board_sim.proofs.Keeps.{pass_keeps, slots_at, slot_split}
 use Rattle.board_sim.proofs.Sorted.{Up}
 use Rattle.board_sim.proofs.Steps.{only-append, before_up, rise_from, split_groups}
 use Rattle.laws_board.specs.sections.Known.{Known}
 use Rattle.laws_board.proofs.sections.Counts.{ends_fall, end_kept}
 use Rattle.laws_board.proofs.sections.Fits.{SlotFits, BoardFits}
 use Rattle.laws_board.proofs.sections.Free.{IsFree, happens_same}
+use Rattle.board_sim.proofs.Unbound.{set_any}
 
 -- time passes
 pub slot_passes : (now t slots : ℕ) (o : Option Pending) (k : Known) → SlotFits now slots o k → SlotFits t slots (slot_to t o) k
@@ -96,11 +91,6 @@ pub slot_between : (oid now t : ℕ) (o : Option Pending) → SlotRises now o �
 slot_between oid now t None r = tt
 slot_between oid now t (Some q) r = both_ways now now t (map (pulse_of oid) (steps_before t q.groups)) (omega arith) (before_up oid now t q.groups r) (below_steps oid t q.groups)
 
-pub slot_split : (oid t : ℕ) (o : Option Pending) → slot_before oid t o ++ pending_at oid (slot_to t o) ≡ pending_at oid o
-slot_split oid t None = refl
-slot_split oid t (Some q) =
-    sym (map-append (pulse_of oid) (steps_before t q.groups) (pending_steps (groups_from t q.groups))) ∙ ap (λ x. map (pulse_of oid) x) (split_groups t q.groups)
-
 -- what a board makes when it runs on
 pub passes_is : (b : Controller) (t : ℕ) → b.state ≡ Running → b.tick ≤ t → board.passes b t ≡ passes_on Running b t
 passes_is b t running h = elim (leb_tells b.tick t) [ inl p ↦ rw p.0 (ap (λ o. passes_on o b t) running) | inr p ↦ absurd (omega (arith, p.1, h)) ]
@@ -162,14 +152,6 @@ ran_both slots ks a b c ps qs x y = record {
       (between_append a.tick c.tick (only oid ps) (only oid qs) (between_wide a.tick b.tick a.tick c.tick (only oid ps) (omega arith) y.later (x.between oid))
       (between_wide b.tick c.tick a.tick c.tick (only oid qs) x.later (omega arith) (y.between oid)));
 }
-
--- a trigger is replaced
-set_any : (xs : List (Option Slot)) (oid j : ℕ) (v u : Slot) → get_or (set xs oid (Some v)) j None ≡ Some u → (v ≡ u) ⊎ (get_or xs j None ≡ Some u)
-set_any [] oid j v u e = inr e
-set_any (x ∷ xs) zero zero v u e = inl cc
-set_any (x ∷ xs) zero (suc j) v u e = inr e
-set_any (x ∷ xs) (suc oid) zero v u e = inr e
-set_any (x ∷ xs) (suc oid) (suc j) v u e = set_any xs oid j v u e
 
 becomes_free : (r : Rig) (oid : ℕ) (s : Slot) (t : Trigger) → IsFree r → slot_at r oid ≡ Some s → IsFree (becomes r oid s t)
 becomes_free r oid s t free at = λ i j u is. elim (set_any r.triggers oid j (record s { trigger = t }) u is) [

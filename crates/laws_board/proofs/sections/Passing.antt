@@ -1,15 +1,8 @@
 -- What a board told behind a section, whatever became of it then.
 use Rattle.std.proofs.Common.{◌≡◌, ◌≢◌, ℕ, zero, suc, ◌+◌, ◌≤◌, List, [], ◌∷◌, ◌++◌, drop, length, Option, None, refl, ap, sym, ◌∙◌, arith, append-nil}
 use Rattle.std.specs.Prelude.{◌-◌}
-use Rattle.std.proofs.lemmas.List.{append_cancel_left}
-use Rattle.plan_types.specs.declared.clock.BoardClock.{BoardClock}
-use Rattle.plan_types.specs.declared.plan.BoardState.{BoardState}
-use Rattle.plan_types.specs.declared.plan.BoardState.TheVariants.{Running, Shut}
-use Rattle.plan_types.specs.declared.plan.Pulse.{Pulse}
-use Rattle.msg_code.specs.declared.talk.ShutNews.{ShutNews}
-use Rattle.msg_code.specs.declared.talk.State.{State}
+use Rattle.laws_board.proofs.Names.{append_cancel_left, BoardClock, BoardState, Running, Shut, Pulse, ShutNews, State, LinkState, Orders}
 use Rattle.link_work.specs.Told.{IsShutNews}
-use Rattle.link_work.specs.Turn.{LinkState, Orders}
 use Rattle.laws_board.specs.sections.Links.{AreTold, pulses_in}
 use Rattle.laws_board.proofs.sections.Linking.{pulse_runs}
 

@@ -1,12 +1,8 @@
 -- By when all units of a section are released.
 use Rattle.std.proofs.Common.{ℕ, ◌+◌, ◌*◌, ◌<◌, ◌≤◌, false, List, [], ◌∷◌, All, arith}
-use Rattle.std.proofs.lemmas.List.Elements.{All-head, All-tail}
-use Rattle.plan_types.specs.Clock.{turn_ns}
-use Rattle.plan_types.specs.Lines.{Clocks, lines_tick}
+use Rattle.laws_board.proofs.Names.{All-head, All-tail, turn_ns, Clocks, lines_tick, Release, units_of, Orders, AreBefore, BoardSection, base_of, of_stepper, section_steps}
 use Rattle.clock_line.proofs.Turns.{turn-below}
-use Rattle.step_feed.specs.Pacing.{Release, units_of}
-use Rattle.link_work.specs.Turn.{Orders}
-use Rattle.section_units.specs.Sections.{AreBefore, AreReleased, BoardSection, IsSection, base_of, of_stepper, section_steps}
+use Rattle.section_units.specs.Sections.{AreReleased, IsSection}
 use Rattle.laws_board.specs.sections.Events.{AreTicks}
 use Rattle.laws_board.specs.sections.Homes.{AreOut, AreOutBy, RunSection}
 use Rattle.laws_board.specs.sections.Parts.{AreInARow, AreTracked, IsBoardRun}

@@ -1,15 +1,10 @@
 -- The releases of a section, turn by turn.
 use Rattle.std.proofs.Common.{◌≡◌, ◌≢◌, ℕ, ◌+◌, ◌<◌, ◌≤◌, ◌⊎◌, List, [], ◌∷◌, refl, ap, sym, ◌∙◌, subst, arith, inl, inr}
-use Rattle.std.proofs.lemmas.Bool.Decides.{eqb_tells}
+use Rattle.laws_board.proofs.Names.{eqb_tells, Pulse, Clocks, unit_orders, units_orders, StepUnit, Release, batch_at, units_of, AreBefore, of_stepper}
 use Rattle.std.specs.Prelude.{◌==◌, if◌then◌else◌}
-use Rattle.plan_types.specs.declared.plan.Pulse.{Pulse}
-use Rattle.plan_types.specs.Lines.{Clocks}
-use Rattle.board_world.specs.Orders.{unit_orders, units_orders}
-use Rattle.step_feed.specs.Units.{StepUnit}
-use Rattle.step_feed.specs.Pacing.{Release, ArePaced, batch_at, pending, units_of}
+use Rattle.step_feed.specs.Pacing.{ArePaced, pending}
 use Rattle.step_feed.specs.Rings.{count_from}
 use Rattle.laws_board.specs.sections.Known.{Sent, sent_at, Known, known_from, AreGoodFrom}
-use Rattle.section_units.specs.Sections.{AreBefore, of_stepper}
 use Rattle.laws_board.proofs.sections.Lists.{sent_append, known_append}
 use Rattle.laws_board.proofs.sections.Units.{behind_unit, own_known, others_known, good_unit, good_append}
 use Rattle.laws_board.proofs.sections.Waiting.{Frame, AreInside, lasts, few_pend, Waits, unit_goes}

@@ -1,19 +1,14 @@
 -- What every step of a run keeps, where the commands that are queued are good.
 use Rattle.std.proofs.Common.{◌≡◌, ℕ, ◌+◌, ◌≤◌, ◌⊎◌, List, [], ◌∷◌, ◌++◌, length, drop, refl, ap, sym, ◌∙◌, subst, inl, inr, append_assoc, append-nil}
-use Rattle.std.proofs.lemmas.List.{append_cancel_left, take-append-drop}
-use Rattle.plan_types.specs.declared.plan.BoardState.TheVariants.{Running}
-use Rattle.board_sim.specs.Board.{Controller, is_shut}
-use Rattle.board_sim.specs.Rig.{Rig, takes_all}
-use Rattle.board_sim.specs.Fair.{Meant, commands_of, AreFair, only}
+use Rattle.laws_board.proofs.Names.{append_cancel_left, take-append-drop, Running, Controller, is_shut, Rig, takes_all, Meant, commands_of, only, Event, IsOrdered, Core, Step, Do, Turn, takes_in, does, after_event, world_after}
+use Rattle.board_sim.specs.Fair.{AreFair}
 use Rattle.board_sim.specs.Halted.{meant_behind, KeptPart}
 use Rattle.board_sim.proofs.HaltedTakes.{commands_keep}
 use Rattle.board_sim.proofs.RigShut.{all_left_by}
 use Rattle.board_sim.proofs.Steps.{only-append}
-use Rattle.board_world.specs.declared.event.Event.{Event}
 use Rattle.board_world.specs.declared.event.Event.TheVariants.{Put, Control, Arrive, Repeat, Pass}
-use Rattle.board_world.specs.Stands.{IsOrdered}
 use Rattle.board_world.specs.Units.{FindSteppers, FindsAt}
-use Rattle.board_world.specs.World.{Core, Step, Do, Turn, takes_in, orders_of, does, after_event, world_after, IsFairAt}
+use Rattle.board_world.specs.World.{orders_of, IsFairAt}
 use Rattle.board_world.proofs.Runs.{ordered_by, ordered_turn}
 use Rattle.link_work.proofs.Steps.{tick_held}
 use Rattle.laws_board.specs.sections.Events.{QueuesNothing}

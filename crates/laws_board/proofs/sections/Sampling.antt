@@ -1,29 +1,26 @@
 -- The worked example is a section.
 use Rattle.std.proofs.Common.{◌≡◌, ◌≢◌, ℕ, pos, Bool, true, false, ◌+◌, ◌-◌, ◌*◌, ◌%◌, ◌^◌, ◌<◌, ◌≤◌, List, [], ◌∷◌, length, map, All, Option, Some, None, refl, ap, sym, ◌∙◌, subst, arith, inl, inr}
-use Rattle.std.proofs.lemmas.Bool.Decides.{leb_tells, eqb_tells}
-use Rattle.std.proofs.lemmas.List.Elements.{All-cons, All-nil}
+use Rattle.laws_board.proofs.Names.{leb_tells, eqb_tells, All-cons, All-nil, Planned, Pulse, board_tick, tick, turn_ns, lines_tick, Clocks, Fits, AreKept, StepUnit, Release, units_of, of_stepper, section_steps, BoardSection, both_parts}
 use Rattle.std.specs.Prelude.{◌&&◌, nat_le, slice_index}
-use Rattle.plan_types.specs.declared.plan.Planned.{Planned}
-use Rattle.plan_types.specs.declared.plan.Pulse.{Pulse}
 use Rattle.plan_types.specs.declared.plan.Triple.{Triple}
 use Rattle.plan_types.specs.Board.{last_of, AreTicksOf}
-use Rattle.plan_types.specs.Clock.{board_tick, tick, turn_ns}
 use Rattle.plan_types.specs.Packing.{tick_at, ticks_of}
 use Rattle.plan_types.proofs.OwnTicks.{exact}
 use Rattle.std.proofs.lemmas.List.FromFn.{length-map-range_with_len, get_or-map-range_with_len}
-use Rattle.plan_types.specs.Lines.{lines_tick, Clocks, lines_turn}
-use Rattle.plan_types.specs.Plan.{AreSpaced, Fits}
-use Rattle.clock_line.specs.Kept.{AreKept}
+use Rattle.plan_types.specs.Lines.{lines_turn}
+use Rattle.plan_types.specs.Plan.{AreSpaced}
 use Rattle.clock_line.proofs.Turns.{turn-below, turn-after}
 use Rattle.std.specs.Int.{cast_unsigned, w32}
-use Rattle.step_feed.specs.Units.{StepUnit, dir_bytes, queue_bytes, reset_bytes, unit_bytes}
+use Rattle.step_feed.specs.Units.{dir_bytes, queue_bytes, reset_bytes, unit_bytes}
 use Rattle.step_feed.proofs.Counts.{count_bounds}
 use Rattle.step_feed.proofs.Rings.{one-most}
-use Rattle.step_feed.specs.Pacing.{Release, ArePaced, IsReleased, bytes_in, pending, units_of}
-use Rattle.section_units.specs.Sections.{IsSection, IsUnit, AreBegun, of_stepper, section_steps, BoardSection}
+use Rattle.step_feed.specs.Pacing.{ArePaced, IsReleased, bytes_in, pending}
+use Rattle.section_units.specs.Sections.{IsSection, IsUnit, AreBegun}
 use Rattle.laws_board.specs.sections.Parts.{IsBoardRun}
 use Rattle.clock_line.proofs.Turns.{tick-turn}
 use Rattle.laws_board.specs.sections.Sample.{sample_clock, sample_line, sample_clocks, sample_steps, sample_unit, sample_releases, sample_section}
+use Rattle.plan_types.proofs.Facts.{was_le, false_true}
+use Rattle.section_units.proofs.Paceable.{dir-small, reset-small}
 
 kept : AreKept sample_clocks
 kept = record {
@@ -108,22 +105,12 @@ spaced_test : ℕ → List Planned → Bool
 spaced_test last [] = true
 spaced_test last (s ∷ steps) = nat_le (last + 4) s.tick && spaced_test s.tick steps
 
-clash : false ≡ true → ⊥
-clash e = cc
-
-both_true : (a b : Bool) → (a && b) ≡ true → (a ≡ true) × (b ≡ true)
-both_true true b e = (refl, e)
-both_true false b e = absurd (clash e)
-
-is_le : (m n : ℕ) → nat_le m n ≡ true → m ≤ n
-is_le m n e = elim (leb_tells m n) [ inl p ↦ p.1 | inr p ↦ absurd (clash (sym p.0 ∙ e)) ]
-
 spaced_tests : (last : ℕ) (steps : List Planned) → spaced_test last steps ≡ true → AreSpaced last steps
 unfolding spaced_test
 spaced_tests last [] e = tt
 spaced_tests last (s ∷ steps) e =
-    let b = both_true (nat_le (last + 4) s.tick) (spaced_test s.tick steps) e in
-    (is_le (last + 4) s.tick b.0, spaced_tests s.tick steps b.1)
+    let b = both_parts (nat_le (last + 4) s.tick) (spaced_test s.tick steps) e in
+    (was_le (last + 4) s.tick b.0, spaced_tests s.tick steps b.1)
 
 below_test : ℕ → List Planned → Bool
 below_test x [] = true
@@ -133,8 +120,8 @@ below_tests : (x : ℕ) (steps : List Planned) → below_test x steps ≡ true �
 unfolding below_test
 below_tests x [] e = All-nil (λ (s : Planned). s.tick < x)
 below_tests x (s ∷ steps) e =
-    let b = both_true (nat_le (s.tick + 1) x) (below_test x steps) e in
-    All-cons (λ (q : Planned). q.tick < x) s steps (omega (arith, is_le (s.tick + 1) x b.0)) (below_tests x steps b.1)
+    let b = both_parts (nat_le (s.tick + 1) x) (below_test x steps) e in
+    All-cons (λ (q : Planned). q.tick < x) s steps (omega (arith, was_le (s.tick + 1) x b.0)) (below_tests x steps b.1)
 
 sample_spaced : spaced_test 20_160_000 sample_steps ≡ true
 unfolding spaced_test
@@ -156,18 +143,10 @@ pending_few clocks s k (r ∷ before) =
       | inr p ↦ rw p.0 (omega (arith, pending_few clocks s k before))
     ]
 
-dir_few : (s : ℕ) (up : Option Bool) → dir_bytes s up ≤ 7
-dir_few s None = omega arith
-dir_few s (Some up) = omega (arith, count_bounds s)
-
-reset_few : (s : ℕ) (reset : Option ℕ) → reset_bytes s reset ≤ 11
-reset_few s None = omega arith
-reset_few s (Some clock) = omega (arith, count_bounds s, count_bounds (clock % 2 ^ 32))
-
 bytes_few : (u : StepUnit) → unit_bytes u ≤ 39
 unfolding unit_bytes queue_bytes
 bytes_few u =
-    omega (arith, count_bounds u.stepper, count_bounds u.triple.interval, count_bounds u.triple.count, count_bounds (cast_unsigned w32 u.triple.add), dir_few u.stepper u.up, reset_few u.stepper u.reset)
+    omega (arith, count_bounds u.stepper, count_bounds u.triple.interval, count_bounds u.triple.count, count_bounds (cast_unsigned w32 u.triple.add), dir-small u.stepper u.up, reset-small u.stepper u.reset)
 
 released : (from : ℕ) (before : List Release) (r : Release) → from ≤ r.turn → r.unit.due ≡ r.turn + 250 → bytes_in r.turn before ≡ 0 → length before < 1_024 → IsReleased sample_clocks 1_024 from before r
 released from before r after due none few = record {

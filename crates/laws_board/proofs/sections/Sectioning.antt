@@ -1,15 +1,9 @@
 -- Sections one behind the other, and what is queued of them turn by turn.
 use Rattle.std.proofs.Common.{◌≡◌, ◌≢◌, ℕ, Bool, true, false, ◌+◌, ◌<◌, ◌≤◌, ◌⊎◌, List, [], ◌∷◌, ◌++◌, All, refl, ap, sym, ◌∙◌, subst, arith, inl, inr, append_assoc, append-nil}
-use Rattle.std.proofs.lemmas.Bool.Decides.{eqb_tells}
-use Rattle.std.proofs.lemmas.List.Elements.{All-head, All-tail}
-use Rattle.std.specs.List.{flat_map}
-use Rattle.plan_types.specs.declared.plan.Pulse.{Pulse}
-use Rattle.plan_types.specs.Lines.{Clocks}
-use Rattle.step_feed.specs.Units.{StepUnit}
-use Rattle.step_feed.specs.Pacing.{Release, ArePaced, batch_at, units_of}
-use Rattle.link_work.specs.Turn.{Orders}
+use Rattle.laws_board.proofs.Names.{eqb_tells, All-head, All-tail, flat_map, Pulse, Clocks, StepUnit, Release, batch_at, units_of, Orders, BoardSection, of_stepper, AreBefore}
+use Rattle.step_feed.specs.Pacing.{ArePaced}
 use Rattle.laws_board.specs.sections.Known.{Sent, Known, known_from, AreGoodFrom, BeginLost}
-use Rattle.section_units.specs.Sections.{BoardSection, IsSection, of_stepper, steps_said, all_steps, AreBefore, AreReleased}
+use Rattle.section_units.specs.Sections.{IsSection, steps_said, all_steps, AreReleased}
 use Rattle.laws_board.specs.sections.Parts.{AreOrdersOf, AreInARow}
 use Rattle.laws_board.proofs.sections.Taking.{IsFront, front_front, all_grow}
 use Rattle.laws_board.proofs.sections.Lists.{cuts, nil_cons, known_append, lost_known}

@@ -1,29 +1,13 @@
 -- Which unit a triple that was queued belongs to.
 use Rattle.std.proofs.Common.{◌≡◌, ℕ, Bool, true, false, ◌+◌, ◌⊎◌, List, [], ◌∷◌, ◌++◌, length, map, drop, All, Option, Some, None, refl, ap, sym, ◌∙◌, subst, inl, inr}
-use Rattle.std.proofs.lemmas.Bool.Decides.{eqb_tells}
-use Rattle.std.proofs.lemmas.List.{take-append-drop}
-use Rattle.std.proofs.lemmas.List.Elements.{All-head, All-tail}
+use Rattle.laws_board.proofs.Names.{eqb_tells, take-append-drop, All-head, All-tail, flat_map, Level, BoardDef, Shut, Clocks, Cmd, reset_commands, dir_commands, step_command, Meant, plain, unit_orders, units_orders, Step, run_world, new_world, StepUnit, Release, batch_at, units_of, Orders, queued_in, BoardSection, base_of, of_stepper}
 use Rattle.std.specs.Prelude.{slice_index}
-use Rattle.std.specs.List.{flat_map}
 use Rattle.link_work.specs.Late.{IsSteps}
-use Rattle.plan_types.specs.declared.levels.Level.{Level}
-use Rattle.plan_types.specs.declared.machine.BoardDef.{BoardDef}
-use Rattle.plan_types.specs.declared.plan.BoardState.TheVariants.{Shut}
-use Rattle.plan_types.specs.Lines.{Clocks}
-use Rattle.msg_code.specs.declared.cmd.Cmd.{Cmd}
 use Rattle.msg_code.specs.declared.cmd.Cmd.TheVariants as cmd
-use Rattle.msg_code.specs.Units.{reset_commands, dir_commands, step_command}
 use Rattle.board_sim.specs.Board.{new_controller}
-use Rattle.board_sim.specs.Fair.{Meant}
-use Rattle.board_world.specs.Orders.{plain, unit_orders, units_orders}
-use Rattle.board_world.specs.World.{Step, run_world, new_world}
 use Rattle.board_world.proofs.Causes.{was_shut}
-use Rattle.step_feed.specs.Units.{StepUnit}
-use Rattle.step_feed.specs.Pacing.{Release, batch_at, units_of}
-use Rattle.link_work.specs.Turn.{Orders}
-use Rattle.link_work.specs.Runs.{queued_in}
 use Rattle.laws_board.specs.sections.Late.{IsIn, IsLateUnit}
-use Rattle.section_units.specs.Sections.{AreBegunBy, AreChained, BoardSection, base_of, of_stepper, ticks_meant}
+use Rattle.section_units.specs.Sections.{AreBegunBy, AreChained, ticks_meant}
 use Rattle.laws_board.specs.sections.Courses.{IsGoodRun}
 use Rattle.laws_board.specs.sections.Homes.{AreOrdersIn, IsControlIn, IsHomeRun, IsSectionBy, RunSection}
 use Rattle.laws_board.proofs.sections.Wholes.{sent_orders}

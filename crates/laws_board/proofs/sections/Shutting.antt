@@ -1,19 +1,15 @@
 -- A board that takes the first unit that is five turns late shuts down, so all that it takes before is timely.
 use Rattle.std.proofs.Common.{◌≡◌, ℕ, ◌+◌, ◌<◌, ◌≤◌, ◌⊎◌, List, [], ◌∷◌, ◌++◌, length, refl, ap, sym, ◌∙◌, subst, arith, inl, inr, append-nil, length-append}
-use Rattle.std.proofs.lemmas.Bool.Decides.{eqb_tells}
+use Rattle.laws_board.proofs.Names.{eqb_tells, Cmd, Meant, Orders, queued_in}
 use Rattle.plan_types.specs.Board.{last_of}
-use Rattle.msg_code.specs.declared.cmd.Cmd.{Cmd}
 use Rattle.msg_code.specs.declared.cmd.Cmd.TheVariants as cmd
-use Rattle.board_sim.specs.Fair.{Meant}
-use Rattle.link_work.specs.Turn.{Orders}
-use Rattle.link_work.specs.Runs.{queued_in}
 use Rattle.laws_board.specs.sections.Known.{AreQueued, Sent, sent_at, sent_in, orders_sent, Known, unknown, knows, knows_of, known_from, known_steppers, AreBelow, IsGoodFor, AreGoodFrom, IsLostFor, BeginLost}
 use Rattle.laws_board.specs.sections.Timely.{AreTimely}
-use Rattle.laws_board.proofs.sections.Counts.{last_any}
-use Rattle.laws_board.proofs.sections.Entering.{first_last}
 use Rattle.laws_board.proofs.sections.Latest.{AllLast, BeginPast, IsCut, IsPast}
 use Rattle.laws_board.proofs.sections.Lists.{cuts, good_behind, good_front, orders_append, own_up}
 use Rattle.laws_board.proofs.sections.Soon.{all_before, one_before, timely_append}
+use Rattle.board_sim.proofs.Steps.{last_any}
+use Rattle.section_units.proofs.Ordering.{ends_up as first_last}
 
 -- the last ticks of a stepper's triples are not behind its clock, or before a tick
 abbrev Ends : ℕ → ℕ → List ℕ → Type 0

@@ -1,13 +1,9 @@
 -- Units that are taken soon are taken in time for the 32-bit clock.
 use Rattle.std.proofs.Common.{◌≡◌, ℕ, ◌≤◌, List, [], ◌∷◌, ◌++◌, length, drop, refl, ap, sym, ◌∙◌, subst, arith, append_assoc, append-nil}
-use Rattle.std.proofs.lemmas.List.{take-append-drop, append_cancel_left}
-use Rattle.msg_code.specs.declared.cmd.Cmd.{Cmd}
+use Rattle.laws_board.proofs.Names.{take-append-drop, append_cancel_left, Cmd, Meant, Event, IsOrdered, Core, Step, Do, Turn, takes_in, after_event, in_turn, run_world}
 use Rattle.msg_code.specs.declared.cmd.Cmd.TheVariants as cmd
-use Rattle.board_sim.specs.Fair.{Meant}
-use Rattle.board_world.specs.declared.event.Event.{Event}
 use Rattle.board_world.specs.declared.event.Event.TheVariants.{Put, Control, Arrive, Repeat, Pass}
-use Rattle.board_world.specs.Stands.{IsOrdered}
-use Rattle.board_world.specs.World.{Core, Step, Do, Turn, takes_in, orders_of, after_event, in_turn, run_world}
+use Rattle.board_world.specs.World.{orders_of}
 use Rattle.board_world.proofs.Runs.{ordered_by, ordered_turn}
 use Rattle.link_work.proofs.Steps.{tick_held}
 use Rattle.laws_board.specs.sections.Events.{AreQuiet}

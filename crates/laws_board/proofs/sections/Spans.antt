@@ -1,21 +1,11 @@
 -- The pulses of each section, and when they are all there.
 use Rattle.std.proofs.Common.{◌≡◌, ℕ, ◌+◌, ◌-◌, ◌*◌, ◌<◌, ◌≤◌, List, [], ◌∷◌, ◌++◌, length, All, refl, ap, sym, ◌∙◌, subst, arith, inl, inr, append_assoc}
-use Rattle.std.proofs.lemmas.List.Elements.{All-nil, All-cons, All-head, All-tail}
-use Rattle.std.proofs.lemmas.Bool.Decides.{leb_tells}
+use Rattle.laws_board.proofs.Names.{All-nil, All-cons, All-head, All-tail, leb_tells, BoardDef, Pulse, Planned, turn_ns, Clocks, lines_tick, Fits, only, Core, Orders, queued_in, BoardSection, base_of, section_steps}
 use Rattle.std.specs.Prelude.{nat_le, if◌then◌else◌}
-use Rattle.plan_types.specs.declared.machine.BoardDef.{BoardDef}
-use Rattle.plan_types.specs.declared.plan.Pulse.{Pulse}
-use Rattle.plan_types.specs.declared.plan.Planned.{Planned}
-use Rattle.plan_types.specs.Clock.{turn_ns}
-use Rattle.plan_types.specs.Lines.{Clocks, lines_tick}
-use Rattle.plan_types.specs.Plan.{AreSpaced, Fits}
-use Rattle.board_sim.specs.Fair.{only}
-use Rattle.board_world.specs.World.{Core}
-use Rattle.link_work.specs.Turn.{Orders}
-use Rattle.link_work.specs.Runs.{queued_in}
+use Rattle.plan_types.specs.Plan.{AreSpaced}
 use Rattle.laws_board.specs.sections.Events.{AreTicks}
 use Rattle.laws_board.specs.sections.Known.{Sent, sent_at, sent_in, unknown, known_from, known_steppers}
-use Rattle.section_units.specs.Sections.{BoardSection, base_of, IsSection, section_steps}
+use Rattle.section_units.specs.Sections.{IsSection}
 use Rattle.laws_board.specs.sections.Parts.{AreTracked}
 use Rattle.laws_board.specs.sections.Runs.{Begins}
 use Rattle.laws_board.proofs.sections.Taking.{IsFront, all_grow}

@@ -1,25 +1,12 @@
 -- Where few turns of each busy stretch are spoiled, a board takes soon what was queued.
 use Rattle.std.proofs.Common.{◌≡◌, ℕ, suc, ◌+◌, ◌-◌, ◌^◌, ◌<◌, ◌≤◌, List, [], ◌∷◌, ◌++◌, length, take, drop, refl, ap, sym, ◌∙◌, subst, arith, append_assoc, append-nil, length-append, inl, inr}
-use Rattle.std.proofs.lemmas.Grind.{flat_map-append}
-use Rattle.std.proofs.lemmas.List.{length-drop, take-append-drop}
-use Rattle.std.proofs.lemmas.Bool.Decides.{leb_tells}
-use Rattle.std.specs.List.{flat_map}
-use Rattle.plan_types.specs.declared.machine.BoardDef.{BoardDef}
-use Rattle.plan_types.specs.declared.clock.BoardClock.{BoardClock}
-use Rattle.plan_types.specs.declared.levels.Level.{Level}
-use Rattle.wire_scene.specs.declared.scene.Entry.{Entry}
-use Rattle.board_sim.specs.Fair.{Meant}
-use Rattle.board_world.specs.World.{Core}
+use Rattle.laws_board.proofs.Names.{flat_map-append, take-append-drop, leb_tells, flat_map, BoardDef, BoardClock, Level, Entry, Meant, Core, AllKeepLimits, queued_in, first_state, IsTurn, LinkState, Orders, cons_same}
+use Rattle.std.proofs.lemmas.List.{length-drop}
 use Rattle.link_work.specs.Ends.{EndSo, Ended, last_link, spoiled}
-use Rattle.link_work.specs.Limits.{AllKeepLimits}
-use Rattle.link_work.specs.Runs.{queued_in}
-use Rattle.link_work.specs.Stands.{first_state}
 use Rattle.link_work.specs.Taking.{command_place}
-use Rattle.link_work.specs.Turn.{IsTurn, LinkState, Orders}
 use Rattle.link_work.proofs.Late.{late_command, limits_first, limits_split, ordered_after}
 use Rattle.laws_board.specs.sections.Events.{AreOwn}
 use Rattle.laws_board.proofs.sections.Linking.{own_few}
-use Rattle.laws_board.proofs.sections.Lists.{cons_same}
 
 -- a list that begins another one, by its length
 pub begins : {X : Type 0} (ps qs ts rest : List X) → ts ++ rest ≡ ps ++ qs → length ps ≤ length ts → (more : List X) × (ps ++ more ≡ ts)

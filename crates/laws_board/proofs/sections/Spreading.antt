@@ -1,19 +1,12 @@
 -- What is queued of sections splits into good commands and those behind a lost one.
 use Rattle.std.proofs.Common.{◌≡◌, ◌≢◌, ℕ, suc, true, ◌+◌, ◌*◌, ◌<◌, ◌≤◌, ◌⊎◌, List, [], ◌∷◌, ◌++◌, length, map, All, refl, ap, sym, ◌∙◌, subst, arith, inl, inr, append_assoc, append-nil}
-use Rattle.std.proofs.lemmas.Bool.Decides.{leb_tells, eqb_tells}
+use Rattle.laws_board.proofs.Names.{leb_tells, eqb_tells, Pulse, turn_ns, lines_tick, plain, unit_orders, units_orders, StepUnit, Release, batch_at, units_of, Orders, queued_in, AreBefore, BoardSection, of_stepper}
 use Rattle.std.specs.Prelude.{slice_index}
-use Rattle.plan_types.specs.declared.plan.Pulse.{Pulse}
-use Rattle.plan_types.specs.Clock.{turn_ns}
-use Rattle.plan_types.specs.Lines.{lines_tick}
 use Rattle.clock_line.proofs.Turns.{turn-below}
-use Rattle.board_world.specs.Orders.{plain, unit_orders, units_orders}
-use Rattle.step_feed.specs.Units.{StepUnit}
-use Rattle.step_feed.specs.Pacing.{Release, HasRoom, batch_at, bytes_in, pending, units_of, over_turn, ArePaced}
+use Rattle.step_feed.specs.Pacing.{HasRoom, bytes_in, pending, over_turn, ArePaced}
 use Rattle.step_feed.specs.Rings.{count_from}
-use Rattle.link_work.specs.Turn.{Orders}
-use Rattle.link_work.specs.Runs.{queued_in}
 use Rattle.laws_board.specs.sections.Known.{Sent, sent_at, sent_in, Known, known_from, AreBelow, AreGoodFrom}
-use Rattle.section_units.specs.Sections.{AreBefore, BoardSection, IsSection, all_steps, of_stepper, steps_said, ticks_meant}
+use Rattle.section_units.specs.Sections.{IsSection, all_steps, steps_said, ticks_meant}
 use Rattle.laws_board.specs.sections.Parts.{IsControl, AreOrdersOf, AreInARow}
 use Rattle.laws_board.proofs.sections.Taking.{IsFront, front_front, all_grow}
 use Rattle.laws_board.proofs.sections.Lists.{nil_cons, sent_append, known_append}
@@ -23,6 +16,7 @@ use Rattle.laws_board.proofs.sections.Controlling.{stays_made, controls_good, co
 use Rattle.laws_board.proofs.sections.Waiting.{Frame, IsInside, AreInside, lasts, few_pend, Waits, unit_goes}
 use Rattle.laws_board.proofs.sections.Releasing.{after_turn, pushed, after_from, pushed_before, before_up, paced_on, inside_on, same_batch, turn_goes}
 use Rattle.laws_board.proofs.sections.Sectioning.{units_at, cur, orders_as, HeadLater, head_later, none_later, Splits, prepend, before_down, Stands, Needs, waits_made, ends_here}
+use Rattle.section_units.proofs.Merging.{of_one}
 
 -- the control commands of a turn
 abbrev controls_of : ℕ → Orders → List Sent
@@ -136,9 +130,6 @@ first_below f oid turn total k ls u us w i h =
     let low : u.first < lines_tick f.clocks ((f.end + 1) * turn_ns) = omega (arith, i.up, i.high) in
     rw (← same) (bound_made f.own f.clocks f.ready f.end turn u.first f.ticks f.tracked (omega (arith, f.after, f.order)) f.limit low (omega (arith, h)))
 
-own_first : (oid : ℕ) (u : StepUnit) (us : List StepUnit) → u.stepper ≡ oid → of_stepper oid (u ∷ us) ≡ u ∷ of_stepper oid us
-own_first oid u us e = elim (eqb_tells u.stepper oid) [ inl p ↦ rw p.0 refl | inr p ↦ absurd (p.1 e) ]
-
 -- the clock and the direction that are told ahead of a triple mean no steps
 steps_kept : (turn oid : ℕ) (k : Known) (u : StepUnit) → (known_from oid k (ahead_of_step turn u)).steps ≡ k.steps
 steps_kept turn oid k u =
@@ -157,7 +148,7 @@ late_splits f turn from n total ks before r rs ss sent s h =
     let oid = u.stepper in
     let now = late_turn f turn from total ks before r rs s h in
     let i = s.inside.0 in
-    let own : of_stepper oid (units_of (r ∷ rs)) ≡ u ∷ of_stepper oid (units_of rs) = own_first oid u (units_of rs) refl in
+    let own : of_stepper oid (units_of (r ∷ rs)) ≡ u ∷ of_stepper oid (units_of rs) = of_one oid u (units_of rs) refl in
     let At : List StepUnit → Type 0 = λ x. Waits f oid (total oid) (ks oid) (lasts oid before) x in
     let At_turn : ℕ → Type 0 = λ x. pending f.clocks oid x before < f.slots in
     let few : count_from (f.own turn) (lasts oid before) < f.slots = omega (arith, few_pend f turn oid before s.behind, subst At_turn now s.paced.0.room.steps) in

@@ -1,13 +1,10 @@
 -- A board on which triggers may halt steppers stands as the host knows it, part by part.
 use Rattle.std.proofs.Common.{◌≡◌, ℕ, Bool, true, false, ◌+◌, ◌≤◌, ◌⊎◌, List, [], ◌∷◌, ◌++◌, length, map, Option, Some, None, refl, ap, sym, ◌∙◌, subst, arith, inl, inr, append_assoc, append-nil}
-use Rattle.std.proofs.lemmas.Bool.Decides.{leb_tells}
+use Rattle.laws_board.proofs.Names.{leb_tells, Running, Pulse, Pending, Controller, only}
 use Rattle.plan_types.specs.Plan.{pulse_of}
-use Rattle.plan_types.specs.declared.plan.BoardState.TheVariants.{Running}
-use Rattle.plan_types.specs.declared.plan.Pulse.{Pulse}
 use Rattle.plan_types.specs.Board.{end_of, pending_steps}
-use Rattle.board_step.specs.Steps.{Pending}
-use Rattle.board_sim.specs.Board.{Controller, stepper_at}
-use Rattle.board_sim.specs.Fair.{GroupsRiseFrom, only, pending_at}
+use Rattle.board_sim.specs.Board.{stepper_at}
+use Rattle.board_sim.specs.Fair.{GroupsRiseFrom, pending_at}
 use Rattle.board_sim.specs.Halted.{is_halted}
 use Rattle.step_feed.specs.Rings.{count_from}
 use Rattle.laws_board.specs.sections.Courses.{Course, course_parts, no_course, IsFrom, IsStopped, AreBefore, AreBeforeTurn, AreBeforeStop, AreMadeFor, IsMadeBy}

@@ -1,17 +1,13 @@
 -- What every step of a board and its link keeps, where the commands that are queued are good and triggers may halt steppers.
 use Rattle.std.proofs.Common.{◌≡◌, ℕ, true, ◌+◌, ◌≤◌, ◌⊎◌, List, [], ◌∷◌, ◌++◌, length, drop, Option, refl, ap, sym, ◌∙◌, subst, inl, inr, append_assoc, append-nil}
-use Rattle.std.proofs.lemmas.List.{append_cancel_left, take-append-drop}
-use Rattle.plan_types.specs.declared.plan.BoardState.TheVariants.{Running, Shut}
-use Rattle.board_sim.specs.Board.{Controller, is_shut, stepper_at}
-use Rattle.board_sim.specs.Rig.{Rig, takes_all}
-use Rattle.board_sim.specs.Fair.{Meant, commands_of, AreFair, only}
+use Rattle.laws_board.proofs.Names.{append_cancel_left, take-append-drop, Running, Shut, Controller, is_shut, Rig, takes_all, Meant, commands_of, only, Event, IsOrdered, Core, Step, Do, Turn, takes_in, does, after_event, world_after, run_world}
+use Rattle.board_sim.specs.Board.{stepper_at}
+use Rattle.board_sim.specs.Fair.{AreFair}
 use Rattle.board_sim.specs.Halted.{meant_behind, KeptPart}
 use Rattle.board_sim.proofs.HaltedTakes.{commands_keep}
 use Rattle.board_sim.proofs.RigShut.{all_left_by, passes_left}
-use Rattle.board_world.specs.declared.event.Event.{Event}
 use Rattle.board_world.specs.declared.event.Event.TheVariants.{Put, Control, Arrive, Repeat, Pass}
-use Rattle.board_world.specs.Stands.{IsOrdered}
-use Rattle.board_world.specs.World.{Core, Step, Do, Turn, takes_in, orders_of, does, after_event, world_after, IsFairAt, run_world}
+use Rattle.board_world.specs.World.{orders_of, IsFairAt}
 use Rattle.board_world.proofs.Runs.{ordered_by, ordered_turn}
 use Rattle.link_work.proofs.Steps.{tick_held}
 use Rattle.laws_board.specs.sections.Events.{QueuesNothing}
@@ -24,6 +20,7 @@ use Rattle.laws_board.proofs.sections.Taking.{shut_fair}
 use Rattle.laws_board.proofs.sections.Lists.{up_append, up_behind, up_front, sent_front, orders_append, orders_at, own_up, cuts, longer, lost_for}
 use Rattle.laws_board.proofs.sections.Standing.{BoardStands}
 use Rattle.laws_board.proofs.sections.Commanding.{all_stand, since_all, stands_same, all_lost}
+use Rattle.laws_board.proofs.sections.Running.{left_first}
 
 -- what is to be known of a run: a board's ticks, where parts of its steppers' steps stop, its slots, and the commands: good ones, and
 -- perhaps others behind them of which the first comes too late
@@ -107,12 +104,6 @@ Finds p by turn sent h steps = (r : Going p by turn sent h) → (oid : ℕ) → 
 -- so in some commands that the board takes
 abbrev pub TakesFind : Script → ℕ → (ℕ → Course) → Rig → List Meant → Type 0
 TakesFind p by cs r ms = (oid : ℕ) → IsStopped p.stops by (cs oid).since → AllFindHalted oid r ms
-
--- what the first commands left are
-left_first : (done left : List Sent) (ms rest : List Meant) → (orders_sent done ++ ms) ++ rest ≡ orders_sent (done ++ left)
-    → (first : List Sent) × (others : List Sent) × (left ≡ first ++ others) × (orders_sent first ≡ ms)
-left_first done left ms rest e =
-    sent_front ms rest left (append_cancel_left (orders_sent done) (ms ++ rest) (orders_sent left) (sym (append_assoc (orders_sent done) ms rest) ∙ e ∙ orders_append done left))
 
 -- the first of the commands that are left are taken
 takes_these : (p : Script) (by turn : ℕ) (sent : List Sent) (h g : Core) (r : Going p by turn sent h) (first m others : List Sent) → by ≤ turn → AreQueued by sent → r.more ≡ first ++ m → r.left ≡ first ++ others
@@ -387,7 +378,7 @@ pub shut_step : (h : Core) (s : Step) → is_shut h.board.controller.state ≡ t
 shut_step h (Do e) k = shut_event h e k
 shut_step h (Turn turn) k = refl
 
-not_both : (r t f : ℕ) → Shut r t f ≡ Running → ⊥
+pub not_both : (r t f : ℕ) → Shut r t f ≡ Running → ⊥
 not_both r t f e = cc
 
 pub finds_next : (p : Script) (by turn next : ℕ) (sent all : List Sent) (h : Core) (s : Step) (steps : List Step) → Keeps p by turn sent h → Finds p by turn sent h (s ∷ steps) → Finds p by next all (world_after h s) steps

@@ -1,21 +1,10 @@
 -- A board that was never told to stop does not shut down for that.
 use Rattle.std.proofs.Common.{◌≡◌, ℕ, Bool, ◌<◌, List, [], ◌∷◌, ◌++◌, map, All, Option, Some, None, sym, subst, arith, inl, inr}
-use Rattle.std.proofs.lemmas.List.Elements.{All-head, All-tail}
-use Rattle.std.specs.List.{flat_map}
+use Rattle.laws_board.proofs.Names.{All-head, All-tail, flat_map, Pending, Cmd, reset_commands, dir_commands, step_command, Controller, Rig, takes_all, Meant, commands_of, plain, unit_orders, units_orders, Core, Step, Do, Turn, after_event, in_turn, run_world, takes_in, StepUnit, Orders, queued_in}
 use Rattle.plan_types.specs.declared.plan.Triple.{Triple}
-use Rattle.board_step.specs.Steps.{Pending}
-use Rattle.msg_code.specs.declared.cmd.Cmd.{Cmd}
 use Rattle.msg_code.specs.declared.cmd.Cmd.TheVariants as cmd
-use Rattle.msg_code.specs.Units.{reset_commands, dir_commands, step_command}
-use Rattle.board_sim.specs.Board.{Controller, stepper_at}
-use Rattle.board_sim.specs.Rig.{Rig, takes_all}
-use Rattle.board_sim.specs.Fair.{Meant, commands_of}
-use Rattle.board_world.specs.Orders.{plain, unit_orders, units_orders}
+use Rattle.board_sim.specs.Board.{stepper_at}
 use Rattle.board_world.specs.Shut.{IsRefused, ShutBy, Shuts, WasShut}
-use Rattle.board_world.specs.World.{Core, Step, Do, Turn, after_event, in_turn, run_world, takes_in}
-use Rattle.step_feed.specs.Units.{StepUnit}
-use Rattle.link_work.specs.Turn.{Orders}
-use Rattle.link_work.specs.Runs.{queued_in}
 use Rattle.section_units.specs.Sections.{ticks_meant}
 use Rattle.laws_board.specs.sections.Late.{IsIn}
 use Rattle.laws_board.specs.sections.Stops.{IsNoStop, NeverStop}

@@ -1,15 +1,10 @@
 -- A board takes good commands one behind the other.
 use Rattle.std.proofs.Common.{◌≡◌, ℕ, ◌≤◌, ◌⊎◌, List, [], ◌∷◌, ◌++◌, refl, ap, sym, ◌∙◌, subst, inl, inr, append_assoc, append-nil}
-use Rattle.std.proofs.lemmas.Bool.Decides.{eqb_tells}
-use Rattle.plan_types.specs.declared.plan.BoardState.{BoardState}
-use Rattle.plan_types.specs.declared.plan.BoardState.TheVariants.{Running, Shut}
-use Rattle.plan_types.specs.declared.plan.Pulse.{Pulse}
-use Rattle.msg_code.specs.declared.cmd.Cmd.{Cmd}
+use Rattle.laws_board.proofs.Names.{eqb_tells, BoardState, Running, Shut, Pulse, Cmd, Controller, is_shut, Rig, takes, takes_all, Meant, commands_of, only}
 use Rattle.msg_code.specs.declared.cmd.Cmd.TheVariants as cmd
-use Rattle.board_sim.specs.Board.{Controller, is_shut, stepper_at}
+use Rattle.board_sim.specs.Board.{stepper_at}
 use Rattle.board_sim.specs.Board as board
-use Rattle.board_sim.specs.Rig.{Rig, takes, takes_all}
-use Rattle.board_sim.specs.Fair.{Meant, commands_of, IsFairRunning, AreFair, meant_by, meant_running, only}
+use Rattle.board_sim.specs.Fair.{IsFairRunning, AreFair, meant_by, meant_running}
 use Rattle.board_sim.specs.Halted.{meant_left, left_running, meant_behind}
 use Rattle.board_sim.proofs.RigShut.{all_left_by}
 use Rattle.board_sim.proofs.Steps.{only-append}
@@ -18,6 +13,8 @@ use Rattle.laws_board.specs.sections.Known.{Sent, orders_sent, Known, knows_of, 
 use Rattle.laws_board.specs.sections.Timely.{IsTimely, AreTimely}
 use Rattle.laws_board.proofs.sections.Fits.{BoardFits, IsShutBy, Goes, command_goes, command_lost}
 use Rattle.laws_board.proofs.sections.Free.{IsFree, BindsNone, takes_acts, takes_keeps_free}
+use Rattle.board_world.proofs.Causes.{still_runs}
+use Rattle.board_world.proofs.Units.{left_none}
 
 -- a list begins another
 abbrev pub IsFront : List Pulse → List Pulse → Type 0
@@ -32,17 +29,13 @@ none_left : (b : Controller) (made meant : List Pulse) (c : Cmd) → FindsSteppe
 none_left b made meant (cmd.ResetStepClock oid clock) f = rw f refl
 none_left b made meant _ f = refl
 
-nothing_left : (o : BoardState) (b : Controller) (made meant : List Pulse) (c : Cmd) → FindsWhile o b c → left_running o b made meant c ≡ meant
-nothing_left Running b made meant c f = none_left b made meant c f
-nothing_left (Shut reason tick first) b made meant c f = refl
-
 pub meant_is : (r : Rig) (made meant : List Pulse) (ms : List Meant) → FindSteppers r ms → meant_behind r made meant ms ≡ meant ++ meant_by_all r ms
 meant_is r made meant [] f = sym (append-nil meant)
 meant_is r made meant (m ∷ ms) f =
     let b = r.controller in
     let new = meant_running b.state b m.command m.ticks in
     let next = (takes r m.command).rig in
-    ap (λ x. meant_behind next made (x ++ new) ms) (nothing_left b.state b made meant m.command f.0) ∙ meant_is next made (meant ++ new) ms f.1
+    ap (λ x. meant_behind next made (x ++ new) ms) (left_none b.state b made meant m.command f.0) ∙ meant_is next made (meant ++ new) ms f.1
     ∙ append_assoc meant new (meant_by_all next ms)
 
 -- a command that is good for a stepper binds none
@@ -155,11 +148,6 @@ shut_behind : (next : Rig) (ms : List Meant) (reason t f : ℕ) → next.control
 shut_behind next ms reason t f e =
     (shut_fair next ms reason t f e, shut_finds next ms reason t f e, ap (λ (x : Controller). x.state) (all_left_by next (commands_of ms) (ap is_shut e)) ∙ e, shut_means next ms reason t f e)
 
-not_shut : (b : Controller) (r t f : ℕ) → b.state ≡ Running → b.state ≡ Shut r t f → ⊥
-not_shut b r t f e g = clash r t f (sym e ∙ g) where
-  clash : (r t f : ℕ) → Running ≡ Shut r t f → ⊥
-  clash r t f e = cc
-
 joined : (k n : List Pulse) (oid : ℕ) (new more : List Pulse) → k ++ only oid new ≡ n → k ++ only oid (new ++ more) ≡ n ++ only oid more
 joined k n oid new more e = ap (λ x. k ++ x) (only-append oid new more) ∙ sym (append_assoc k (only oid new) (only oid more)) ∙ ap (λ x. x ++ only oid more) e
 
@@ -198,7 +186,7 @@ all_go own now slots [] (s ∷ rest) ks r f old good lost timely =
     let ended = λ (none : meant_running r.controller.state r.controller s.order.command s.order.ticks ≡ []).
     ends_here ks r s [] rest [] shut none one.0 one.1 (λ oid. ([], append-nil (ks oid).steps)) in
     elim one.2 [
-      | inl g ↦ absurd (not_shut (takes r s.order.command).rig.controller shut.0 shut.1 shut.2 g.0.running shut.3)
+      | inl g ↦ absurd (still_runs (takes r s.order.command).rig.controller shut.0 shut.1 shut.2 g.0.running shut.3)
       | inr g ↦ let e = ended g.1 in (e.0, e.1, inr e.2)
     ]
 all_go own now slots (s ∷ ss) tail ks r f old good lost timely =

@@ -3,11 +3,9 @@ use Rattle.std.proofs.Common.{◌≡◌, ℕ, zero, suc, ℤ, pos, negsuc, ◌+�
 use Rattle.std.specs.List.{range_with_len}
 use Rattle.plan_types.specs.declared.plan.Triple.{Triple}
 use Rattle.plan_types.specs.Packing.{tick_at}
-use Rattle.board_sim.specs.Fair.{Meant}
-use Rattle.board_world.specs.Orders.{plain, tick_of, ticks_on, unit_ticks, unit_orders}
-use Rattle.msg_code.specs.Units.{reset_commands, dir_commands, step_command}
+use Rattle.laws_board.proofs.Names.{Meant, plain, unit_orders, reset_commands, dir_commands, step_command, StepUnit}
+use Rattle.board_world.specs.Orders.{tick_of, ticks_on, unit_ticks}
 use Rattle.section_units.specs.Sections.{ticks_meant}
-use Rattle.step_feed.specs.Units.{StepUnit}
 
 same_tick : (first : ℕ) (t : Triple) (i : ℕ) → tick_of first t i ≡ tick_at first t.interval t.add i
 same_tick first t i = by_add t.add where

@@ -1,20 +1,10 @@
 -- A board that takes soon what is queued takes no unit too late for the 32-bit clock.
 use Rattle.std.proofs.Common.{◌≡◌, ℕ, ◌+◌, ◌-◌, ◌≤◌, List, [], ◌∷◌, ◌++◌, length, map, take, drop, refl, ap, sym, ◌∙◌, subst, arith, append_assoc, append-nil, length-append}
-use Rattle.std.proofs.lemmas.List.{take-append-drop, take-append-le, length-take-le}
-use Rattle.std.proofs.lemmas.Grind.{flat_map-append}
-use Rattle.std.specs.List.{flat_map}
-use Rattle.plan_types.specs.declared.levels.Level.{Level}
-use Rattle.plan_types.specs.declared.machine.BoardDef.{BoardDef}
+use Rattle.laws_board.proofs.Names.{take-append-drop, flat_map-append, flat_map, Level, BoardDef, Meant, plain, units_orders, IsOrdered, Core, Step, Do, Turn, after_event, in_turn, world_after, run_world, new_world, Orders, queued_in, run_append}
+use Rattle.std.proofs.lemmas.List.{take-append-le, length-take-le}
 use Rattle.board_sim.specs.Board.{new_controller}
-use Rattle.board_sim.specs.Fair.{Meant}
 use Rattle.board_world.specs.declared.event.Event.TheVariants.{Put, Control, Arrive, Repeat, Pass}
-use Rattle.board_world.specs.Orders.{plain, units_orders}
-use Rattle.board_world.specs.Stands.{IsOrdered}
-use Rattle.board_world.specs.World.{Core, Step, Do, Turn, after_event, in_turn, world_after, run_world, new_world}
 use Rattle.board_world.proofs.Runs.{ordered_by, ordered_turn, start_ordered}
-use Rattle.link_work.specs.Turn.{Orders}
-use Rattle.link_work.specs.Runs.{queued_in}
-use Rattle.link_work.proofs.Sending.{run_append}
 use Rattle.link_work.proofs.Steps.{tick_held, tick_passed}
 use Rattle.laws_board.specs.sections.Events.{AreTicks, AreQuiet, AreTurnsOf}
 use Rattle.laws_board.specs.sections.Timely.{AreTimely, AllTimely, TakesSoon}

@@ -1,11 +1,9 @@
 -- The line of a sample of an exact clock follows the board.
 use Rattle.std.proofs.Common.{◌≡◌, ℕ, pos, ◌+◌, ◌-◌, ◌*◌, ◌/◌, ◌^◌, ◌<◌, ◌≤◌, refl, ap, ◌∙◌, arith}
-use Rattle.plan_types.specs.declared.plan.Line.{Line}
+use Rattle.laws_board.proofs.Names.{Line, one_line, AreKept}
 use Rattle.plan_types.specs.Clock.{own_tick}
-use Rattle.plan_types.specs.Lines.{one_line}
 use Rattle.plan_types.specs.Machines.{IsValidFreq}
 use Rattle.plan_types.proofs.OwnTicks.{exact, rise}
-use Rattle.clock_line.specs.Kept.{AreKept}
 use Rattle.clock_line.specs.Samples.{sample_at, sampled}
 use Rattle.clock_line.proofs.Nears.{near}
 use Rattle.clock_line.proofs.Turns.{tick-turn}

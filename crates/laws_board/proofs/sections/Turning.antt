@@ -1,21 +1,16 @@
 -- Turns keep what steps keep.
 use Rattle.std.proofs.Common.{◌≡◌, ℕ, zero, suc, ◌+◌, ◌≤◌, List, [], ◌∷◌, ◌++◌, length, map, get_or, Some, None, refl, ap, sym, ◌∙◌, subst, arith, inl, inr, append_assoc, append-nil}
-use Rattle.plan_types.specs.declared.levels.Level.{Level}
-use Rattle.plan_types.specs.declared.machine.BoardDef.{BoardDef}
-use Rattle.board_sim.specs.Board.{new_controller, places, is_shut}
+use Rattle.laws_board.proofs.Names.{Level, BoardDef, is_shut, plain, units_orders, Core, Step, Do, Turn, after_event, world_after, run_world, new_world, Orders, queued_in, run_append}
+use Rattle.board_sim.specs.Board.{new_controller, places}
 use Rattle.board_sim.specs.Rig.{no_objects}
 use Rattle.board_sim.proofs.HaltedTime.{time_keeps, whole_part}
-use Rattle.board_sim.proofs.Keeps.{first_kept}
+use Rattle.board_sim.proofs.Keeps.{first_kept, none_at}
 use Rattle.board_sim.proofs.RigShut.{passes_left}
 use Rattle.board_sim.proofs.Unbound.{passes_free}
 use Rattle.board_world.specs.declared.event.Event.TheVariants.{Put, Control, Pass}
-use Rattle.board_world.specs.Orders.{plain, units_orders}
 use Rattle.board_world.specs.Units.{AllFind}
-use Rattle.board_world.specs.World.{Core, Step, Do, Turn, after_event, world_after, run_world, new_world, AllFair}
+use Rattle.board_world.specs.World.{AllFair}
 use Rattle.board_world.proofs.Runs.{ordered_by, start_ordered}
-use Rattle.link_work.specs.Turn.{Orders}
-use Rattle.link_work.specs.Runs.{queued_in}
-use Rattle.link_work.proofs.Sending.{run_append}
 use Rattle.link_work.proofs.Steps.{tick_passed}
 use Rattle.laws_board.specs.sections.Events.{AreQuiet, IsTurnOf, AreTurnsOf}
 use Rattle.laws_board.specs.sections.Known.{Sent, sent_at, sent_in, known_steppers}
@@ -165,12 +160,6 @@ turns_hold p turn sent rest (o ∷ os) steps h t k all timely =
       find_append first later h a.1 b.1,
       subst To (sym (run_append first later h)) (subst Here cut (subst On n b.2)),
     )
-
--- a board to which nothing was told
-pub none_at : (n i : ℕ) → get_or (places n) i None ≡ None
-none_at zero i = refl
-none_at (suc n) zero = refl
-none_at (suc n) (suc i) = none_at n i
 
 pub places_length : (n : ℕ) → length (places n) ≡ n
 places_length zero = refl

@@ -1,10 +1,8 @@
 -- The commands of a unit: what is known behind them, and when they are good.
 use Rattle.std.proofs.Common.{◌≡◌, ◌≢◌, ℕ, Bool, true, false, ◌%◌, ◌^◌, List, [], ◌∷◌, ◌++◌, map, Option, Some, None, refl, ap, sym, ◌∙◌, subst, inl, inr, append_assoc}
-use Rattle.std.proofs.lemmas.Bool.Decides.{eqb_tells}
+use Rattle.laws_board.proofs.Names.{eqb_tells, reset_commands, dir_commands, step_command, plain, unit_orders, StepUnit}
 use Rattle.std.specs.Prelude.{◌==◌, if◌then◌else◌}
-use Rattle.msg_code.specs.Units.{reset_commands, dir_commands, bit, step_command}
-use Rattle.board_world.specs.Orders.{plain, unit_orders}
-use Rattle.step_feed.specs.Units.{StepUnit}
+use Rattle.msg_code.specs.Units.{bit}
 use Rattle.laws_board.specs.sections.Known.{Sent, sent_at, Known, knows, known_from, more_steps, IsGoodTriple, IsGoodReset, IsGood, AreGoodFrom}
 use Rattle.section_units.specs.Sections.{dir_after, ticks_meant}
 use Rattle.laws_board.proofs.sections.Lists.{known_append, sent_append}
@@ -24,7 +22,7 @@ at_own other a b = elim (eqb_tells other other) [ inl p ↦ rw p.0 refl | inr p 
 pub at_others : {A : Type 0} (other oid : ℕ) (a b : A) → other ≢ oid → (if other == oid then a else b) ≡ b
 at_others other oid a b ne = elim (eqb_tells other oid) [ inl p ↦ absurd (ne p.1) | inr p ↦ rw p.0 refl ]
 
-dir_is : (up : Bool) → (bit up == 1) ≡ up
+pub dir_is : (up : Bool) → (bit up == 1) ≡ up
 dir_is true = refl
 dir_is false = refl
 

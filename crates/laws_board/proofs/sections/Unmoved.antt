@@ -1,13 +1,7 @@
 -- A board to which no units come makes no pulses.
 use Rattle.std.proofs.Common.{◌≡◌, ℕ, ◌+◌, List, [], ◌∷◌, ◌++◌, length, refl, sym, ◌∙◌, append-nil}
-use Rattle.plan_types.specs.declared.levels.Level.{Level}
-use Rattle.plan_types.specs.declared.machine.BoardDef.{BoardDef}
-use Rattle.plan_types.specs.declared.plan.Pulse.{Pulse}
-use Rattle.plan_types.specs.Lines.{Clocks}
-use Rattle.board_sim.specs.Fair.{only}
+use Rattle.laws_board.proofs.Names.{Level, BoardDef, Pulse, Clocks, only, Step, run_world, new_world, Orders}
 use Rattle.board_sim.proofs.HaltedTime.{part_cut}
-use Rattle.board_world.specs.World.{Step, run_world, new_world}
-use Rattle.link_work.specs.Turn.{Orders}
 use Rattle.laws_board.specs.sections.Events.{AreTicks, AreTurnsOf}
 use Rattle.laws_board.specs.sections.Known.{sent_in, known_steppers}
 use Rattle.laws_board.specs.sections.Runs.{Begins}
@@ -20,7 +14,7 @@ use Rattle.laws_board.proofs.sections.Beginning.{run_splits}
 use Rattle.laws_board.proofs.sections.Spans.{meant_front, plan_of}
 use Rattle.laws_board.proofs.sections.Wholes.{first_of_own}
 
-none_own : (ps : List Pulse) → ((oid : ℕ) → only oid ps ≡ []) → ps ≡ []
+pub none_own : (ps : List Pulse) → ((oid : ℕ) → only oid ps ≡ []) → ps ≡ []
 none_own [] h = refl
 none_own (p ∷ ps) h = absurd (nil_cons p (only p.stepper ps) (sym (sym (first_of_own p ps) ∙ h p.stepper)))
 

@@ -1,23 +1,22 @@
 -- The units of one stepper that wait in a section, and what is known of it so far.
 use Rattle.std.proofs.Common.{◌≡◌, ◌≢◌, ℕ, suc, true, ◌+◌, ◌*◌, ◌%◌, ◌^◌, ◌<◌, ◌≤◌, ◌⊎◌, List, [], ◌∷◌, ◌++◌, length, map, Option, Some, None, refl, ap, sym, ◌∙◌, subst, arith, inl, inr, append_assoc}
-use Rattle.std.proofs.lemmas.Bool.Decides.{leb_tells, eqb_tells}
+use Rattle.laws_board.proofs.Names.{leb_tells, eqb_tells, Pulse, turn_ns, Clocks, lines_tick, StepUnit, Release}
 use Rattle.std.specs.Prelude.{◌==◌, if◌then◌else◌}
-use Rattle.plan_types.specs.declared.plan.Pulse.{Pulse}
 use Rattle.plan_types.specs.Board.{last_of, steps_of, Continues}
-use Rattle.plan_types.specs.Clock.{turn_ns}
-use Rattle.plan_types.specs.Lines.{Clocks, lines_tick, lines_turn}
+use Rattle.plan_types.specs.Lines.{lines_turn}
 use Rattle.plan_types.specs.Plan.{pulse_of}
 use Rattle.clock_line.proofs.Turns.{turn-below}
-use Rattle.step_feed.specs.Units.{StepUnit}
 use Rattle.step_feed.specs.Rings.{one_from, count_from}
-use Rattle.step_feed.specs.Pacing.{Release, over_turn, one_pending, pending}
+use Rattle.step_feed.specs.Pacing.{over_turn, one_pending, pending}
 use Rattle.laws_board.specs.sections.Events.{AreTicks}
 use Rattle.laws_board.specs.sections.Known.{Known, AreBelow, IsGoodReset}
 use Rattle.section_units.specs.Sections.{AreBegun, AreChained, IsUnit, dir_after, steps_said, ticks_meant}
 use Rattle.laws_board.specs.sections.Parts.{AreTracked}
-use Rattle.laws_board.proofs.sections.Counts.{one_at, one_low, none_from, last_any}
+use Rattle.laws_board.proofs.sections.Counts.{none_from}
 use Rattle.laws_board.proofs.sections.Clocks.{over_made, near_tick}
 use Rattle.laws_board.proofs.sections.Units.{clock_after, behind_unit, IsGoodClock, IsGoodUnit}
+use Rattle.step_feed.proofs.Rings.{count-append, one-behind, one-before}
+use Rattle.board_sim.proofs.Steps.{last_any}
 
 -- the numbers of a board with a section of it: its ticks, lines and slots, and the turn from which the section's units are
 -- released
@@ -61,10 +60,10 @@ soon f t h = omega (arith, turn-below f.clocks t f.end h, f.limit)
 one_over : (f : Frame) (turn : ℕ) (u : StepUnit) → IsInside f u → one_from (f.own turn) u.last ≤ one_pending f.clocks turn u.last
 one_over f turn u i =
     elim (leb_tells (suc turn) (over_turn f.clocks u.last)) [
-      | inl p ↦ rw p.0 (elim (leb_tells (f.own turn) u.last) [ inl q ↦ omega (arith, one_at (f.own turn) u.last q.1) | inr q ↦ omega (arith, one_low (f.own turn) u.last (omega (arith, q.1))) ])
+      | inl p ↦ rw p.0 (elim (leb_tells (f.own turn) u.last) [ inl q ↦ omega (arith, one-behind (f.own turn) u.last q.1) | inr q ↦ omega (arith, one-before (f.own turn) u.last (omega (arith, q.1))) ])
       | inr p ↦
           let made = over_made f.own f.clocks f.ready f.start turn u.last f.ticks f.tracked (omega (arith, f.after)) (omega (arith, i.low, i.up)) (soon f u.last i.high) (omega (arith, p.1)) in
-          omega (arith, one_low (f.own turn) u.last made)
+          omega (arith, one-before (f.own turn) u.last made)
     ]
 
 pub few_pend : (f : Frame) (turn oid : ℕ) (before : List Release) → AreInside f before → count_from (f.own turn) (lasts oid before) ≤ pending f.clocks oid turn before
@@ -74,10 +73,6 @@ few_pend f turn oid (r ∷ before) i =
       | inl p ↦ rw p.0 (omega (arith, one_over f turn r.unit i.0, few_pend f turn oid before i.1))
       | inr p ↦ rw p.0 (omega (arith, few_pend f turn oid before i.1))
     ]
-
-pub count_append : (x : ℕ) (cs bs : List ℕ) → count_from x (cs ++ bs) ≡ count_from x cs + count_from x bs
-count_append x [] bs = omega arith
-count_append x (c ∷ cs) bs = omega (arith, count_append x cs bs)
 
 -- what is known of a stepper of which these units wait, and these last ticks were released in the section: none yet, or
 -- the units that wait go on behind them
@@ -102,7 +97,7 @@ UnitGoes f oid total turn k ls u us = IsGoodUnit f.own f.slots turn k u × Waits
 room_for : (f : Frame) (oid turn : ℕ) (total : List Pulse) (k : Known) (ls : List ℕ) (us : List StepUnit) → Waits f oid total k ls us → f.start ≤ turn + 250
     → count_from (f.own turn) ls < f.slots → count_from (f.own turn) k.ends < f.slots
 room_for f oid turn total k ls us w soon room =
-    rw w.ends (omega (arith, count_append (f.own turn) ls w.old, none_from (f.own turn) (f.own turn) w.old (omega arith) (w.below turn soon), room))
+    rw w.ends (omega (arith, count-append (f.own turn) ls w.old, none_from (f.own turn) (f.own turn) w.old (omega arith) (w.below turn soon), room))
 
 goes_behind : (f : Frame) (oid : ℕ) (total : List Pulse) (behind : ℕ) (k : Known) (ls : List ℕ) (u : StepUnit) (us : List StepUnit) → IsUnit f.clocks behind u → AreChained f.clocks u.last us
     → Waits f oid total k ls (u ∷ us) → Waits f oid total (behind_unit oid k u) (u.last ∷ ls) us

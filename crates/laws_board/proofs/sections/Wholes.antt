@@ -1,20 +1,16 @@
 -- When the pulses of a section are all there.
 use Rattle.std.proofs.Common.{◌≡◌, ℕ, suc, Bool, ◌+◌, ◌≤◌, List, [], ◌∷◌, ◌++◌, length, map, refl, ap, ◌∙◌, arith, inl, inr}
-use Rattle.std.proofs.lemmas.List.{map-append}
-use Rattle.std.proofs.lemmas.Bool.Decides.{eqb_tells}
-use Rattle.std.specs.List.{flat_map}
+use Rattle.laws_board.proofs.Names.{map-append, eqb_tells, flat_map, Pulse, only, Orders, queued_in}
 use Rattle.plan_types.specs.Numbers.{UpFrom}
-use Rattle.plan_types.specs.declared.plan.Pulse.{Pulse}
 use Rattle.plan_types.specs.Board.{Group, last_of, steps_of, pending_steps}
 use Rattle.plan_types.specs.Plan.{pulse_of}
-use Rattle.board_sim.specs.Fair.{GroupsRiseFrom, only}
-use Rattle.link_work.specs.Turn.{Orders}
-use Rattle.link_work.specs.Runs.{queued_in}
+use Rattle.board_sim.specs.Fair.{GroupsRiseFrom}
 use Rattle.laws_board.specs.sections.Known.{Sent, sent_at, sent_in, orders_sent}
 use Rattle.laws_board.proofs.sections.Counts.{last_least}
-use Rattle.laws_board.proofs.sections.Lists.{orders_append, orders_at}
+use Rattle.laws_board.proofs.sections.Lists.{orders_append, orders_at, orders_long}
 use Rattle.laws_board.proofs.sections.Entering.{AreEarly}
 use Rattle.laws_board.proofs.sections.Spans.{AreLate, late_append}
+use Rattle.plan_types.proofs.Facts.{none_long}
 
 -- steps that pend are not before now
 pub up_late : (x low oid : ℕ) (up : Bool) (ts : List ℕ) → x ≤ low → UpFrom low ts → AreLate x (map (pulse_of oid) (steps_of up ts))
@@ -34,14 +30,6 @@ sent_orders turn [] = refl
 sent_orders turn (o ∷ os) =
     orders_append (sent_at turn (queued_in o)) (sent_in (turn + 1) os) ∙ ap (λ x. x ++ orders_sent (sent_in (turn + 1) os)) (orders_at turn (queued_in o))
     ∙ ap (λ x. queued_in o ++ x) (sent_orders (turn + 1) os)
-
-pub orders_length : (ss : List Sent) → length (orders_sent ss) ≡ length ss
-orders_length [] = refl
-orders_length (s ∷ ss) = ap (λ n. suc n) (orders_length ss)
-
-pub none_long : {X : Type 0} (xs : List X) → length xs ≡ 0 → xs ≡ []
-none_long [] e = refl
-none_long (x ∷ xs) e = absurd (omega (arith, e))
 
 pub late_front : (x : ℕ) (ps qs : List Pulse) → AreLate x (ps ++ qs) → AreLate x ps
 late_front x [] qs a = tt

@@ -1,9 +1,7 @@
 -- The pulses of a turn lie within it.
 use Rattle.std.proofs.Common.{◌≡◌, ℕ, ◌+◌, List, [], ◌∷◌, ◌++◌, refl, ◌∙◌, append-nil}
-use Rattle.plan_types.specs.declared.plan.Pulse.{Pulse}
-use Rattle.board_sim.specs.Fair.{only}
+use Rattle.laws_board.proofs.Names.{Pulse, only, Core, Step, Do, Turn, world_after, run_world}
 use Rattle.board_world.specs.declared.event.Event.TheVariants.{Put, Control, Pass}
-use Rattle.board_world.specs.World.{Core, Step, Do, Turn, world_after, run_world}
 use Rattle.laws_board.specs.sections.Events.{QueuesNothing, AreQuiet}
 use Rattle.laws_board.proofs.sections.Passes.{AreBetween}
 

@@ -1,18 +1,10 @@
 -- A board whose trigger can trigger, over a turn.
 use Rattle.std.proofs.Common.{◌≡◌, ℕ, ◌+◌, ◌<◌, ◌≤◌, ◌^◌, Bool, true, false, List, [], ◌∷◌, Option, Some, None, max, refl, ap, sym, ◌∙◌, subst, arith, ◌⊎◌, inl, inr}
 use Rattle.std.specs.Prelude.{if◌then◌else◌, nat_lt, slice_index_or}
-use Rattle.std.proofs.lemmas.Bool.Decides.{leb_tells}
-use Rattle.plan_types.specs.declared.levels.Level.{Level}
-use Rattle.plan_types.specs.declared.plan.BoardState.TheVariants.{Running}
-use Rattle.plan_types.specs.Board.{nearest}
-use Rattle.board_trig.specs.declared.sampling.Sampling.{Sampling}
-use Rattle.board_trig.specs.declared.trigger.Trigger.{Trigger}
+use Rattle.laws_board.proofs.Names.{leb_tells, Level, Running, nearest, Sampling, Trigger, Cmd, Passed, Rig, Slot, all_left, pass, passes, slot_at, takes, takes_all, AllSound, one_slot}
 use Rattle.board_trig.specs.Trigger as trig
 use Rattle.board_trig.specs.Sampling.{IsTriggerTick}
-use Rattle.msg_code.specs.declared.cmd.Cmd.{Cmd}
-use Rattle.board_sim.specs.Rig.{Passed, Rig, Slot, all_left, pass, passes, slot_at, takes, takes_all}
-use Rattle.board_sim.specs.RigRuns.{AllSound, AreRegular}
-use Rattle.board_sim.proofs.Bound.{one_slot}
+use Rattle.board_sim.specs.RigRuns.{AreRegular}
 use Rattle.board_sim.proofs.RigTicks.{takes_rig_tick}
 use Rattle.laws_homing.specs.home_runs.Guards.{IsSole}
 use Rattle.laws_homing.specs.clear_boards.Alive.{IsAlive, IsSwitched, RelayNone, StaysAlive}
@@ -24,6 +16,7 @@ use Rattle.laws_homing.proofs.clear_boards.Firing.{passes_gone}
 use Rattle.laws_homing.proofs.clear_boards.Reports.{reports_told}
 use Rattle.laws_homing.proofs.clear_boards.Slots.{Follows, OfEach, running_beside, running_each, with_trigger}
 use Rattle.laws_homing.proofs.clear_boards.Turned.{ran}
+use Rattle.plan_types.proofs.Facts.{is_less}
 
 -- a slot whose timeout alone is another
 abbrev pub with_timeout : Slot → Option ℕ → Slot
@@ -32,9 +25,6 @@ with_timeout s o = record s { trigger = record s.trigger { timeout = o } }
 -- what a command leaves of it
 abbrev pub Left : ℕ → Slot → Rig → Type 0
 Left oid s r = (o : Option ℕ) × (slot_at r oid ≡ Some (with_timeout s o))
-
-pub less_is : (a b : ℕ) → a < b → nat_lt a b ≡ true
-less_is a b l = elim (leb_tells (a + 1) b) [ inl p ↦ (let e : a + 1 ≡ 1 + a = omega arith in grind arith) | inr p ↦ absurd (omega (arith, p.1, l)) ]
 
 pub timed_is : (can early : Bool) (now at : ℕ) (t : Trigger) → early ≡ true
     → (o : Option ℕ) × ((if can then (if early then record t { timeout = Some at } else record (trig.fired now t.expire t) { untold = Some now }) else t) ≡ record t { timeout = o })

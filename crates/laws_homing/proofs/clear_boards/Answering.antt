@@ -1,30 +1,17 @@
 -- Over a turn over which its link rests, all that a board answers to the commands that it takes in a turn is told of this turn.
 use Rattle.std.proofs.Common.{◌≡◌, ◌⊎◌, ℕ, ◌+◌, ◌≤◌, Bool, true, false, cond, List, [], ◌∷◌, ◌++◌, length, map, take, drop, sym, ◌∙◌, subst, arith, inl, inr}
 use Rattle.std.specs.Prelude.{◌==◌, slice_index_or}
-use Rattle.std.proofs.lemmas.List.{append_cancel_left}
-use Rattle.plan_types.specs.declared.levels.Level.{Level}
-use Rattle.plan_types.specs.declared.machine.BoardDef.{BoardDef}
-use Rattle.plan_types.specs.Clock.{board_tick, clock_of}
-use Rattle.msg_dict.specs.Own.{own_formats}
-use Rattle.msg_code.specs.declared.cmd.Cmd.{Cmd}
-use Rattle.msg_code.specs.Text.{IsText}
+use Rattle.laws_board.proofs.Names.{append_cancel_left, Level, BoardDef, board_tick, clock_of, own_formats, Cmd, IsText, Reply, Entry, Down, Up, Meant, commands_of, Rig, takes_all, Core, Do, Step, does, after_event, run_world, says, takes_in, wire_text, queued_in, first_state, orders, LinkState, after_board, after_host, come, run_append}
 use Rattle.link_core.specs.Core as link
-use Rattle.link_core.specs.Core.{Link, Reply, numbered}
-use Rattle.wire_scene.specs.declared.scene.Entry.{Entry}
-use Rattle.wire_scene.specs.declared.scene.Way.TheVariants.{Down, Up}
-use Rattle.board_sim.specs.Fair.{Meant, commands_of}
-use Rattle.board_sim.specs.Rig.{Rig, takes_all}
+use Rattle.link_core.specs.Core.{Link, numbered}
 use Rattle.board_world.specs.declared.event.Event.TheVariants as event
-use Rattle.board_world.specs.World.{Core, Do, Step, block_of, does, after_event, run_world, says, takes_in, wire_text}
+use Rattle.board_world.specs.World.{block_of}
 use Rattle.link_work.specs.Answers.{IsAmong}
-use Rattle.link_work.specs.Runs.{queued_in}
-use Rattle.link_work.specs.Stands.{first_state, orders}
 use Rattle.link_work.specs.Told.{heard_in}
-use Rattle.link_work.specs.Turn.{LinkState, after_board, after_host, after_replies, come}
+use Rattle.link_work.specs.Turn.{after_replies}
 use Rattle.link_work.proofs.Answered.{begins}
 use Rattle.link_work.proofs.Draining.{IsSound}
 use Rattle.link_work.proofs.Saying.{among_left, among_right}
-use Rattle.link_work.proofs.Sending.{run_append}
 use Rattle.link_work.proofs.Steps.{AllOf, all_come}
 use Rattle.laws_board.specs.turns.Turns.{AreBoardTurns, BoardTurn, stands_after}
 use Rattle.laws_board.specs.clocks.Runs.{orders_in}

@@ -1,27 +1,13 @@
 -- What a board tells of its trigger in a turn of a clear link is what the state of the turn tells.
 use Rattle.std.proofs.Common.{◌≡◌, ℕ, zero, suc, ◌+◌, ◌%◌, ◌^◌, ◌<◌, ◌≤◌, inl, inr, List, [], ◌∷◌, ◌++◌, length, Some, refl, ap, sym, ◌∙◌, subst, arith}
-use Rattle.plan_types.specs.declared.levels.Level.{Level}
-use Rattle.plan_types.specs.declared.machine.BoardDef.{BoardDef}
-use Rattle.plan_types.specs.Board.{nearest}
-use Rattle.plan_types.specs.Clock.{board_tick, clock_of}
-use Rattle.plan_types.specs.Lines.{Clocks}
-use Rattle.clock_line.specs.Early.{turn_in_run, turn_tick}
-use Rattle.wire_scene.specs.declared.scene.Entry.{Entry}
+use Rattle.laws_board.proofs.Names.{Level, BoardDef, nearest, board_tick, clock_of, Clocks, turn_in_run, turn_tick, Entry, own_formats, Cmd, News, IsText, commands_of, Rig, passes, takes_all, says, wire_text, queued_in, first_state, orders}
 use Rattle.msg_dict.specs.declared.row.Row.TheVariants as row
-use Rattle.msg_dict.specs.Own.{own_formats}
-use Rattle.msg_code.specs.declared.cmd.Cmd.{Cmd}
 use Rattle.msg_code.specs.declared.cmd.Cmd.TheVariants as cmd
-use Rattle.msg_code.specs.declared.talk.News.{News}
 use Rattle.msg_code.specs.Table.{row_of}
-use Rattle.msg_code.specs.Text.{IsText}
-use Rattle.board_sim.specs.Fair.{commands_of}
-use Rattle.board_sim.specs.Rig.{Rig, passes, takes_all}
 use Rattle.board_sim.specs.Turn.{says_shut}
-use Rattle.board_world.specs.World.{says, shut_before, wire_text}
+use Rattle.board_world.specs.World.{shut_before}
 use Rattle.link_work.specs.Answers.{IsAmong}
 use Rattle.laws_homing.specs.clear_boards.Rests.{RestsOver}
-use Rattle.link_work.specs.Runs.{queued_in}
-use Rattle.link_work.specs.Stands.{first_state, orders}
 use Rattle.laws_board.specs.turns.Turns.{AreBoardTurns, BoardTurn, stands_after}
 use Rattle.laws_board.proofs.clocks.Answers.{Each}
 use Rattle.laws_homing.proofs.home_runs.Spelled.{own_state, same_kind, state_is, state_told}

@@ -2,24 +2,22 @@
 use Rattle.std.proofs.Common.{◌≡◌, ℕ, ℤ, suc, ◌+◌, ◌-◌, ◌*◌, ◌/◌, ◌%◌, ◌^◌, ◌<◌, ◌≤◌, Bool, true, List, [], ◌∷◌, Some, None, refl, ap, ◌∙◌, subst, arith, inl, inr, max, pos, negsuc}
 use Rattle.std.specs.Prelude.{◌&&◌, nat_le, nat_lt, if◌then◌else◌}
 use Rattle.std.proofs.Math.Nat.{mul-le-mul_right}
-use Rattle.std.proofs.lemmas.Bool.Decides.{leb_tells, nat_tests}
-use Rattle.plan_types.specs.declared.clock.BoardClock.{BoardClock}
-use Rattle.plan_types.specs.declared.plan.Held.{Held}
-use Rattle.plan_types.specs.declared.plan.Line.{Line}
-use Rattle.plan_types.specs.Board.{ahead, nearest}
-use Rattle.plan_types.specs.Clock.{board_tick, own_tick, rate, tick, turn_ns, run_turns}
-use Rattle.plan_types.specs.Lines.{AreHeld, Clocks, lines_tick, lines_turn, tick_over}
+use Rattle.laws_board.proofs.Names.{leb_tells, nat_tests, BoardClock, Held, Line, nearest, board_tick, tick, turn_ns, Clocks, lines_tick, turn_in_run, turn_tick, AreKept}
+use Rattle.plan_types.specs.Board.{ahead}
+use Rattle.plan_types.specs.Clock.{own_tick, rate, run_turns}
+use Rattle.plan_types.specs.Lines.{AreHeld, lines_turn, tick_over}
 use Rattle.plan_types.specs.Machines.{IsValidFreq}
 use Rattle.board_step.proofs.Whole.{nearest_is}
-use Rattle.clock_line.specs.Early.{is_in_run, turn_in_run, turn_tick}
-use Rattle.clock_line.specs.Kept.{AreKept}
+use Rattle.clock_line.specs.Early.{is_in_run}
 use Rattle.clock_line.specs.Samples.{ppm_size}
 use Rattle.clock_line.proofs.Holding.{passed, tick-zero}
-use Rattle.clock_line.proofs.Turns.{tick_over-mono, turn-below}
+use Rattle.clock_line.proofs.Turns.{tick_over-mono, turn-below, here-is}
 use Rattle.laws_board.specs.sections.Events.{AreTicks}
 use Rattle.laws_board.specs.sections.Parts.{AreTracked}
 use Rattle.laws_board.proofs.sections.Clocks.{ticks_most, ticks_rise, turn_least}
 use Rattle.laws_homing.specs.clear_boards.Clocking.{IsAhead, IsCounted}
+use Rattle.plan_types.proofs.Facts.{is_le, is_less}
+use Rattle.laws_board.proofs.clocks.Near.{turn_long}
 
 pub lines_up : (clocks : Clocks) (j k : ℕ) → j ≤ k → lines_tick clocks (j * turn_ns) ≤ lines_tick clocks (k * turn_ns)
 lines_up clocks j k l = tick_over-mono clocks.first 0 clocks.held (j * turn_ns) (k * turn_ns) (mul-le-mul_right turn_ns l)
@@ -59,15 +57,6 @@ run_if b n e = rw e refl
 all_three : (a b c : Bool) → a ≡ true → b ≡ true → c ≡ true → (a && (b && c)) ≡ true
 all_three a b c e f g = rw e (rw f g)
 
-le_is : (a b : ℕ) → a ≤ b → nat_le a b ≡ true
-le_is a b l = elim (leb_tells a b) [ inl p ↦ p.0 | inr p ↦ absurd (omega (arith, p.1, l)) ]
-
-lt_is : (a b : ℕ) → a < b → nat_lt a b ≡ true
-lt_is a b l = le_is (suc a) b (omega (arith, l))
-
-none_yet : (line : Line) (most : ℕ) (h : Held) (held : List Held) (t : ℕ) → t < h.from → tick_over line most (h ∷ held) t ≡ max most (tick line t)
-none_yet line most h held t l = passed (nat_le h.from t) _ _ (grind (arith, nat_tests))
-
 first_low : (clocks : Clocks) (time : ℕ) → AreKept clocks → clocks.first.clock ≤ lines_tick clocks time
 first_low clocks time kept = by clocks.held kept.held
   where
@@ -76,7 +65,7 @@ first_low clocks time kept = by clocks.held kept.held
     by (h ∷ held) are =
         let z = tick-zero clocks.first in
         let b = are.0 in
-        let e = none_yet clocks.first 0 h held 0 b in
+        let e = here-is clocks.first 0 h held 0 b in
         let up = tick_over-mono clocks.first 0 (h ∷ held) 0 time (omega arith) in
         omega (arith, z, e, up)
 
@@ -85,7 +74,7 @@ in_run_at : (clocks : Clocks) (time tick : ℕ) → AreKept clocks → lines_tic
 in_run_at clocks time tick kept late small soon =
     let first = first_low clocks time kept in
     run_if (is_in_run clocks tick) (lines_turn clocks tick)
-    (all_three (nat_lt tick (2 ^ 64)) (nat_le clocks.first.clock tick) (nat_lt tick (lines_tick clocks (run_turns * turn_ns))) (lt_is tick (2 ^ 64) small) (le_is clocks.first.clock tick (omega (arith, first, late))) (lt_is tick (lines_tick clocks (run_turns * turn_ns)) soon))
+    (all_three (nat_lt tick (2 ^ 64)) (nat_le clocks.first.clock tick) (nat_lt tick (lines_tick clocks (run_turns * turn_ns))) (is_less tick (2 ^ 64) small) (is_le clocks.first.clock tick (omega (arith, first, late))) (is_less tick (lines_tick clocks (run_turns * turn_ns)) soon))
 
 -- the tick of a turn by the lines, beside the board's own one
 tick_near : (own : ℕ → ℕ) (clocks : Clocks) (ready turn : ℕ) → AreTicks own → (k : AreTracked own clocks ready) → ready + 1 ≤ turn → turn ≤ k.until → own turn < 2 ^ 63
@@ -152,7 +141,7 @@ read_counts own clocks ready turn start tick ticks k low soon small far early ba
     (turn_least own clocks ready start at k least, in_run_at clocks (start * turn_ns) at k.kept least (omega (arith, at_high, now_high, small)) (omega (arith, at_high, whole, far)))
 
 -- a board's clock goes on, and by so many ticks at least
-rate_low : (drift : ℤ) → ppm_size drift ≤ 200 → 999_800 ≤ rate drift
+pub rate_low : (drift : ℤ) → ppm_size drift ≤ 200 → 999_800 ≤ rate drift
 rate_low (pos n) l = omega arith
 rate_low (negsuc n) l = omega arith
 
@@ -162,14 +151,6 @@ gains start freq k n drift =
     let r = rate drift in
     let all : (k + n) * freq * r ≡ k * freq * r + n * freq * r = grind arith in
     omega (arith, all)
-
-pub board_rises : (clock : BoardClock) (turn : ℕ) → IsValidFreq clock.freq → ppm_size clock.drift ≤ 200 → board_tick clock turn < board_tick clock (turn + 1)
-board_rises clock turn v d =
-    let low = v.low in
-    let more = gains clock.start clock.freq turn 1 clock.drift in
-    let rated : 999_800 * clock.freq ≤ rate clock.drift * clock.freq = mul-le-mul_right clock.freq (rate_low clock.drift d) in
-    let same : 1 * clock.freq * rate clock.drift ≡ rate clock.drift * clock.freq = grind arith in
-    omega (arith, more, rated, same, low)
 
 pub board_reports : (clock : BoardClock) (turn : ℕ) → IsValidFreq clock.freq → ppm_size clock.drift ≤ 200 → board_tick clock turn + clock.freq * 5 / 1_000 < board_tick clock (turn + 6)
 board_reports clock turn v d =

@@ -1,27 +1,14 @@
 -- A state of a clear link tells of no expiry that its board didn't tell of.
 use Rattle.std.proofs.Common.{◌≡◌, ℕ, ◌+◌, ◌*◌, ◌%◌, ◌^◌, ◌≤◌, inl, inr, Bool, true, false, List, [], ◌∷◌, ◌++◌, length, Some, None, refl, ap, sym, ◌∙◌, subst, arith}
 use Rattle.std.specs.Prelude.{if◌then◌else◌}
-use Rattle.plan_types.specs.declared.levels.Level.{Level}
-use Rattle.plan_types.specs.declared.machine.BoardDef.{BoardDef}
-use Rattle.plan_types.specs.Board.{nearest}
-use Rattle.plan_types.specs.Clock.{board_tick, clock_of, turn_ns}
-use Rattle.plan_types.specs.Lines.{Clocks, lines_tick, lines_turn}
-use Rattle.clock_line.specs.Early.{is_in_run, turn_in_run, turn_tick}
-use Rattle.wire_scene.specs.declared.scene.Entry.{Entry}
+use Rattle.laws_board.proofs.Names.{Level, BoardDef, nearest, board_tick, clock_of, turn_ns, Clocks, lines_tick, turn_in_run, turn_tick, Entry, own_formats, Cmd, News, IsText, commands_of, Rig, takes_all, says, wire_text, queued_in, first_state, orders}
+use Rattle.plan_types.specs.Lines.{lines_turn}
+use Rattle.clock_line.specs.Early.{is_in_run}
 use Rattle.msg_dict.specs.declared.row.Row.TheVariants as row
-use Rattle.msg_dict.specs.Own.{own_formats}
-use Rattle.msg_code.specs.declared.cmd.Cmd.{Cmd}
 use Rattle.msg_code.specs.declared.cmd.Cmd.TheVariants as cmd
-use Rattle.msg_code.specs.declared.talk.News.{News}
 use Rattle.msg_code.specs.Table.{row_of}
-use Rattle.msg_code.specs.Text.{IsText}
-use Rattle.board_sim.specs.Fair.{commands_of}
-use Rattle.board_sim.specs.Rig.{Rig, takes_all}
-use Rattle.board_world.specs.World.{says, wire_text}
 use Rattle.link_work.specs.Answers.{IsAmong}
 use Rattle.laws_homing.specs.clear_boards.Rests.{RestsOver}
-use Rattle.link_work.specs.Runs.{queued_in}
-use Rattle.link_work.specs.Stands.{first_state, orders}
 use Rattle.laws_board.specs.turns.Turns.{AreBoardTurns, BoardTurn, stands_after}
 use Rattle.laws_board.specs.sections.Parts.{AreTracked}
 use Rattle.laws_board.proofs.sections.Clocks.{turn_least}
@@ -32,7 +19,7 @@ use Rattle.laws_homing.specs.clear_boards.Held.{AllTellOnly, TellsOnly}
 use Rattle.laws_homing.proofs.clear_boards.Saying.{said_in_turn}
 
 -- the turn of a tick
-when_if : (b : Bool) (n when : ℕ) → (if b then Some n else None) ≡ Some when → n ≡ when
+pub when_if : (b : Bool) (n when : ℕ) → (if b then Some n else None) ≡ Some when → n ≡ when
 when_if true n when e = cc
 when_if false n when e = cc
 

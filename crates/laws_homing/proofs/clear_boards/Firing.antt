@@ -1,25 +1,20 @@
 -- A trigger that a switch triggers tells so.
 use Rattle.std.proofs.Common.{◌≡◌, ◌≢◌, ℕ, zero, suc, ◌+◌, ◌/◌, ◌%◌, ◌^◌, ◌<◌, ◌≤◌, Bool, true, false, List, [], ◌∷◌, ◌++◌, get_or, set, Option, Some, None, refl, ap, sym, ◌∙◌, subst, arith, ◌⊎◌, inl, inr}
 use Rattle.std.specs.Prelude.{if◌then◌else◌, slice_index_or, nat_le}
-use Rattle.std.proofs.lemmas.List.{get_or-set_other, get_or-set_same}
-use Rattle.plan_types.specs.declared.levels.Level.{Level}
-use Rattle.board_trig.specs.declared.sampling.Sampling.{Sampling}
-use Rattle.board_trig.specs.declared.trigger.Trigger.{Trigger}
-use Rattle.board_trig.specs.declared.trigger.Happening.{Happening}
-use Rattle.board_trig.specs.declared.trigger.Happening.TheVariants.{Nothing, Expires, Switches, Reports}
+use Rattle.laws_board.proofs.Names.{get_or-set_same, Level, Sampling, Trigger, Happening, Nothing, Expires, Switches, Reports, Cmd, Passed, Rig, Slot, all_left, at_of, becomes, earliest_moment, goes_on, happens_to, pass, passes, passes_by, rests_to, runs_to, slot_at, one_slot, slot_range, no_both}
+use Rattle.std.proofs.lemmas.List.{get_or-set_other}
 use Rattle.board_trig.specs.Trigger as trig
 use Rattle.board_trig.specs.Sampling.{completes, sampled_to}
 use Rattle.board_trig.specs.Nexts.{IsNextOf}
 use Rattle.board_trig.proofs.Nexts.{is_next}
-use Rattle.msg_code.specs.declared.cmd.Cmd.{Cmd}
-use Rattle.board_sim.specs.Rig.{Passed, Rig, Slot, all_left, at_of, becomes, earliest_moment, goes_on, happens_at, happens_to, pass, passes, passes_by, rested, rests_to, runs_to, slot_at, trigger_answers}
-use Rattle.board_sim.proofs.Bound.{map_at, one_slot, same_or_not, slot_range}
+use Rattle.board_sim.specs.Rig.{happens_at, rested, trigger_answers}
+use Rattle.board_sim.proofs.Bound.{map_at, same_or_not}
 use Rattle.board_sim.proofs.Halting.{quiet_moves, quiet_switch}
 use Rattle.laws_homing.specs.clear_boards.Firing.{AllKeen, AreSpoken, IsKeen, IsOff, TellOff}
 use Rattle.laws_homing.specs.clear_boards.Limited.{limit_of}
 use Rattle.laws_homing.proofs.clear_boards.Held.{at_set, ended_reason, rested_is, sampled_reason, switch_reason}
 use Rattle.laws_homing.proofs.home_runs.Saying.{bit_none}
-use Rattle.laws_homing.proofs.clear_boards.Slots.{clock_small, no_both}
+use Rattle.laws_homing.proofs.clear_boards.Slots.{clock_small}
 
 pub off_front : (oid clock : ℕ) (xs ys : List Cmd) → TellOff oid clock xs → TellOff oid clock (xs ++ ys)
 off_front oid clock [] ys t = absurd t

@@ -1,46 +1,20 @@
 -- A homing group answers that a board expired only where the board told so, at a tick of a turn that is not past the last one.
 use Rattle.std.proofs.Common.{◌≡◌, ℕ, zero, suc, ◌+◌, ◌<◌, ◌≤◌, ◌==◌, inl, inr, Bool, true, false, cond, not, List, [], ◌∷◌, length, map, Option, Some, None, refl, ap, sym, ◌∙◌, subst, arith}
-use Rattle.std.proofs.lemmas.Bool.{eqb-true}
-use Rattle.std.proofs.lemmas.Bool.Decides.{leb_tells}
+use Rattle.laws_board.proofs.Names.{eqb-true, leb_tells, Machine, SectionKind, Moves, Home, nearest, Clocks, axis_at, turn_in_run, turn_tick, Cmd, News, Note, NoteNews, State, Switch, End, Member, Goes, Rests, Sends, Fired, Seen, GroupState, all_fired, phase, unseen, Homing, answer_in, goes_on_homing, hears_all, homing_after, members_from, Known, noted, known_behind, told_all, Reacted, Came, known_by, state_at, clocks_at, GoesOn, both_parts}
 use Rattle.std.specs.Prelude.{◌&&◌, nat_le, nat_lt}
-use Rattle.plan_types.specs.declared.machine.Machine.{Machine}
-use Rattle.plan_types.specs.declared.plan.SectionKind.{SectionKind}
-use Rattle.plan_types.specs.declared.plan.SectionKind.TheVariants.{Moves, Home}
 use Rattle.plan_types.specs.declared.plan.TrigState.{TrigState}
-use Rattle.plan_types.specs.Board.{nearest}
-use Rattle.plan_types.specs.Lines.{Clocks}
-use Rattle.plan_types.specs.Machines.{axis_at}
-use Rattle.clock_line.specs.Early.{turn_in_run, turn_tick}
-use Rattle.msg_code.specs.declared.cmd.Cmd.{Cmd}
 use Rattle.msg_code.specs.declared.cmd.Cmd.TheVariants as cmd
-use Rattle.msg_code.specs.declared.talk.News.{News}
-use Rattle.msg_code.specs.declared.talk.Note.{Note}
-use Rattle.msg_code.specs.declared.talk.NoteNews.{NoteNews}
 use Rattle.msg_code.specs.declared.talk.NoteNews.TheVariants as news
-use Rattle.msg_code.specs.declared.talk.State.{State}
-use Rattle.wire_scene.specs.declared.scene.Switch.{Switch}
-use Rattle.trigger_group.specs.declared.order.End.{End}
-use Rattle.trigger_group.specs.declared.order.Member.{Member}
 use Rattle.trigger_group.specs.declared.round.Phase.{Phase}
-use Rattle.trigger_group.specs.declared.round.Phase.TheVariants.{Goes, Rests, Sends}
-use Rattle.trigger_group.specs.declared.seen.Fired.{Fired}
-use Rattle.trigger_group.specs.declared.seen.Seen.{Seen}
-use Rattle.trigger_group.specs.Group.{GroupState, after_in, all_fired, answer, came, ended, first_fired, hears_from, later, new_group, phase, unseen}
+use Rattle.trigger_group.specs.Group.{after_in, answer, came, ended, first_fired, hears_from, later, new_group}
 use Rattle.trigger_group.specs.Kept.{may_be}
-use Rattle.axis_homing.specs.declared.homing.Homing.{Homing}
-use Rattle.axis_homing.specs.Homing.{answer_in, came_at, goes_on_homing, hears_all, hears_answer, hears_news, hears_state, hears_states, homing_after, homing_of, homing_with, members_from}
-use Rattle.host_reactor.specs.declared.ordered.Known.{Known}
-use Rattle.host_reactor.specs.Notes.{noted, known_behind, told_all}
-use Rattle.host_reactor.specs.Reactor.{Reacted}
-use Rattle.host_reactor.specs.Runs.{Came, known_by, state_at}
+use Rattle.axis_homing.specs.Homing.{came_at, hears_answer, hears_news, hears_state, hears_states, homing_of, homing_with}
 use Rattle.laws_board.proofs.clocks.Turning.{goes}
-use Rattle.plan_types.specs.Sections.{clocks_at}
 use Rattle.trigger_group.specs.declared.order.End.TheVariants as end
 use Rattle.trigger_group.specs.Group.{expired, first_expired, first_switched, or_else, or_none, switched}
-use Rattle.host_reactor.specs.Runs.{GoesOn}
 use Rattle.laws_homing.specs.clear_boards.Expiry.{CameExpiry, IsExpiry, TellExpiry}
-use Rattle.laws_board.proofs.clocks.Askings.{both_true}
 use Rattle.laws_homing.proofs.home_runs.Grouped.{no_test}
+use Rattle.plan_types.proofs.Facts.{was_le}
 
 -- each member of a board that was heard to have expired did so in a turn of which this holds
 abbrev SeenSo : ℕ → (ℕ → Type 0) → List Seen → Type 0
@@ -106,14 +80,11 @@ group_if : (c : Bool) (b : ℕ) (P : ℕ → Type 0) (x g : GroupState) → (c �
 group_if true b P x g k l = k refl
 group_if false b P x g k l = l
 
-is_le : (m n : ℕ) → nat_le m n ≡ true → m ≤ n
-is_le m n e = elim (leb_tells m n) [ inl p ↦ p.1 | inr p ↦ absurd (cc) ]
-
 group_state : (b board start : ℕ) (P : ℕ → Type 0) (clocks : Clocks) (s : State) (g : GroupState) → GroupSo b P g → (board ≡ b → start ≤ s.turn + 1 → (when : ℕ) → TellExpiry clocks s.turn when s.news → P when)
     → GroupSo b P (hears_state clocks board start s g)
 group_state b board start P clocks s g k new =
     group_if (nat_le start (s.turn + 1)) b P (hears_news clocks board s.turn s.news g) g
-    (λ e. group_news b board s.turn P clocks s.news g k (λ same when t. new same (is_le start (s.turn + 1) e) when t)) k
+    (λ e. group_news b board s.turn P clocks s.news g k (λ same when t. new same (was_le start (s.turn + 1) e) when t)) k
 
 group_over : (b board start : ℕ) (P : ℕ → Type 0) (clocks : List Clocks) (states : List State) (g : GroupState) → b < board → GroupSo b P g → GroupSo b P (hears_states clocks board start states g)
 group_over b board start P [] states g l k = k
@@ -217,11 +188,11 @@ one_expired P last b turn board (Some f) k e = by ((f.reason == 2) && nat_le f.t
   where
     by : (c : Bool) → ((f.reason == 2) && nat_le f.turn last) ≡ c → cond c (Some (end.Expired board f.turn)) None ≡ Some (end.Expired b turn) → (turn ≤ last) × P turn
     by true is g =
-        let both = both_true (f.reason == 2) (nat_le f.turn last) is in
+        let both = both_parts (f.reason == 2) (nat_le f.turn last) is in
         let same : board ≡ b = cc in
         let at : f.turn ≡ turn = cc in
         let Holds : ℕ → Type 0 = λ n. (n ≤ last) × P n in
-        subst Holds at (is_le f.turn last both.1, k f same refl (eqb-true f.reason 2 both.0))
+        subst Holds at (was_le f.turn last both.1, k f same refl (eqb-true f.reason 2 both.0))
     by false is g = cc
 
 any_expired : (P : ℕ → Type 0) (last b turn : ℕ) (xs : List Seen) → SeenSo b P xs → first_expired last xs ≡ Some (end.Expired b turn) → (turn ≤ last) × P turn
@@ -241,7 +212,7 @@ no_switch b turn c (Some f) e = by (c && (f.reason == 1)) e
     by true g = cc
     by false g = cc
 
-none_switched : (b turn : ℕ) (xs : List Seen) → first_switched xs ≡ Some (end.Expired b turn) → ⊥
+pub none_switched : (b turn : ℕ) (xs : List Seen) → first_switched xs ≡ Some (end.Expired b turn) → ⊥
 none_switched b turn [] e = cc
 none_switched b turn (x ∷ xs) e = by (switched x.member.endstop x.fired) (λ g. none_switched b turn xs g) refl e
   where

@@ -1,21 +1,11 @@
 -- A homing group hears of each report of a member that it could trigger.
 use Rattle.std.proofs.Common.{◌≡◌, ℕ, zero, suc, ◌+◌, ◌<◌, ◌≤◌, ◌==◌, inl, inr, Bool, true, false, cond, not, List, [], ◌∷◌, length, map, Option, Some, None, refl, ap, sym, ◌∙◌, subst, arith}
-use Rattle.std.proofs.lemmas.Bool.Decides.{eqb_tells, leb_tells}
+use Rattle.laws_board.proofs.Names.{eqb_tells, leb_tells, nearest, Clocks, clocks_at, turn_in_run, turn_tick, Cmd, News, State, Seen, GroupState, Homing, hears_all, state_at}
 use Rattle.std.specs.Prelude.{nat_le}
 use Rattle.plan_types.specs.declared.plan.TrigState.{TrigState}
-use Rattle.plan_types.specs.Board.{nearest}
-use Rattle.plan_types.specs.Lines.{Clocks}
-use Rattle.plan_types.specs.Sections.{clocks_at}
-use Rattle.clock_line.specs.Early.{turn_in_run, turn_tick}
-use Rattle.msg_code.specs.declared.cmd.Cmd.{Cmd}
 use Rattle.msg_code.specs.declared.cmd.Cmd.TheVariants as cmd
-use Rattle.msg_code.specs.declared.talk.News.{News}
-use Rattle.msg_code.specs.declared.talk.State.{State}
-use Rattle.trigger_group.specs.declared.seen.Seen.{Seen}
-use Rattle.trigger_group.specs.Group.{GroupState, came, first_fired, heard_of, hears_from, later}
-use Rattle.axis_homing.specs.declared.homing.Homing.{Homing}
-use Rattle.axis_homing.specs.Homing.{came_at, hears_all, hears_answer, hears_news, hears_state, hears_states}
-use Rattle.host_reactor.specs.Runs.{state_at}
+use Rattle.trigger_group.specs.Group.{came, first_fired, heard_of, hears_from, later}
+use Rattle.axis_homing.specs.Homing.{came_at, hears_answer, hears_news, hears_state, hears_states}
 use Rattle.laws_homing.specs.clear_boards.Hearing.{HeardBy, IsAble, TellAble}
 
 -- what was heard is never forgotten
@@ -100,7 +90,7 @@ at_new start board tick when s (Some turn) g e is low can =
     let At : ℕ → Type 0 = λ n. Heard start board n (came board s tick turn g) in
     subst At same (came_new start board tick turn s g is (omega (arith, same, low)) can)
 
-can_so : (can : ℕ) → (can ≡ 0 → ⊥) → not (can == 0) ≡ true
+pub can_so : (can : ℕ) → (can ≡ 0 → ⊥) → not (can == 0) ≡ true
 can_so can n = elim (eqb_tells can 0) [ inl p ↦ absurd (n p.1) | inr p ↦ ap not p.0 ]
 
 answer_more : (start b when board turn : ℕ) (clocks : Clocks) (c : Cmd) (g : GroupState) → Heard start b when g → Heard start b when (hears_answer clocks board turn c g)

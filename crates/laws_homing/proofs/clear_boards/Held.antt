@@ -1,19 +1,13 @@
 -- Triggers that expire at one tick only.
 use Rattle.std.proofs.Common.{◌≡◌, ℕ, zero, suc, ◌≤◌, ◌==◌, Bool, true, false, List, [], ◌∷◌, length, Option, Some, None, refl, sym, ◌∙◌, arith, ◌⊎◌, inl, inr, ◌^◌, ap, ◌%◌, ◌++◌}
 use Rattle.std.specs.Prelude.{if◌then◌else◌}
-use Rattle.plan_types.specs.declared.levels.Level.{Level}
-use Rattle.plan_types.specs.Board.{nearest}
+use Rattle.laws_board.proofs.Names.{Level, nearest, Sampling, Trigger, Happening, Nothing, Expires, Switches, Reports, Cmd, Rig, Slot, takes, pass}
 use Rattle.board_trig.specs.declared.sampling.Homing.{Homing}
-use Rattle.board_trig.specs.declared.sampling.Sampling.{Sampling}
-use Rattle.board_trig.specs.declared.trigger.Trigger.{Trigger}
-use Rattle.board_trig.specs.declared.trigger.Happening.{Happening}
-use Rattle.board_trig.specs.declared.trigger.Happening.TheVariants.{Nothing, Expires, Switches, Reports}
 use Rattle.board_trig.specs.Sampling.{sampled_to, completes, group_behind, has_failed, pressed, sampled}
 use Rattle.board_trig.specs.Trigger as trig
 use Rattle.board_trig.specs.Nexts.{ExpiresAt}
-use Rattle.msg_code.specs.declared.cmd.Cmd.{Cmd}
 use Rattle.msg_code.specs.declared.cmd.Cmd.TheVariants as cmd
-use Rattle.board_sim.specs.Rig.{Rig, Slot, takes, pass, tell}
+use Rattle.board_sim.specs.Rig.{tell}
 use Rattle.board_sim.specs.RigRuns.{RigStep, Takes, Passes}
 use Rattle.board_sim.proofs.Halting.{sampling_moves, quiet_moves}
 use Rattle.laws_board.proofs.clocks.Answers.{Each}
@@ -22,7 +16,7 @@ use Rattle.laws_homing.specs.clear_boards.Limited.{AllFired}
 use Rattle.laws_homing.specs.clear_boards.Turned.{SetsTimeout}
 use Rattle.laws_homing.proofs.clear_boards.Slots.{Follows, Lasts, Next, Tells, levels_at, pass_both, takes_both, with_trigger}
 use Rattle.laws_homing.proofs.home_runs.Saying.{IsOther, bit_none}
-pub use Rattle.laws_homing.proofs.clear_boards.Slots.{at_set, rested_is}
+pub use Rattle.board_sim.proofs.Sound.{at_set, rested_is}
 
 -- answers
 pub all_both : (tick : ℕ) (xs ys : List Cmd) → AllTellOnly tick xs → AllTellOnly tick ys → AllTellOnly tick (xs ++ ys)

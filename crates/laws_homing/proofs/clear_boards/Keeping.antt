@@ -2,17 +2,10 @@
 use Rattle.std.proofs.Common.{◌≡◌, ℕ, ◌+◌, ◌==◌, Bool, true, false, cond, not, List, [], ◌∷◌, map, Option, Some, None, refl, ap, ◌∙◌}
 use Rattle.std.specs.Prelude.{◌||◌, nat_le, nat_lt}
 use Rattle.plan_types.specs.declared.plan.TrigState.{TrigState}
-use Rattle.plan_types.specs.Board.{nearest}
-use Rattle.plan_types.specs.Lines.{Clocks}
-use Rattle.clock_line.specs.Early.{turn_in_run, turn_tick}
-use Rattle.msg_code.specs.declared.cmd.Cmd.{Cmd}
+use Rattle.laws_board.proofs.Names.{nearest, Clocks, turn_in_run, turn_tick, Cmd, News, State, Seen, GroupState, Homing, hears_all}
 use Rattle.msg_code.specs.declared.cmd.Cmd.TheVariants as cmd
-use Rattle.msg_code.specs.declared.talk.News.{News}
-use Rattle.msg_code.specs.declared.talk.State.{State}
-use Rattle.trigger_group.specs.declared.seen.Seen.{Seen}
-use Rattle.trigger_group.specs.Group.{GroupState, any_fired_by, came, fired_by, hears_from}
-use Rattle.axis_homing.specs.declared.homing.Homing.{Homing}
-use Rattle.axis_homing.specs.Homing.{came_at, hears_all, hears_answer, hears_news, hears_state, hears_states}
+use Rattle.trigger_group.specs.Group.{any_fired_by, came, fired_by, hears_from}
+use Rattle.axis_homing.specs.Homing.{came_at, hears_answer, hears_news, hears_state, hears_states}
 use Rattle.laws_homing.specs.clear_boards.Modes.{Hears}
 use Rattle.laws_homing.proofs.clear_boards.Knowing.{one_still}
 

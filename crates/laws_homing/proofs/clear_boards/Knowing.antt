@@ -1,24 +1,15 @@
 -- A homing group knows of each member that is told to have triggered, and goes on knowing it.
 use Rattle.std.proofs.Common.{◌≡◌, ℕ, zero, suc, ◌+◌, ◌<◌, ◌≤◌, ◌==◌, inl, inr, Bool, true, false, cond, not, List, [], ◌∷◌, length, map, Option, Some, None, refl, ap, sym, ◌∙◌, subst, arith, ◌⊎◌}
-use Rattle.std.proofs.lemmas.Bool.Decides.{eqb_tells, leb_tells}
+use Rattle.laws_board.proofs.Names.{eqb_tells, leb_tells, nearest, Clocks, clocks_at, turn_in_run, turn_tick, Cmd, News, State, Fired, Seen, GroupState, Homing, hears_all, state_at}
 use Rattle.std.specs.Prelude.{nat_le, nat_lt}
 use Rattle.plan_types.specs.declared.plan.TrigState.{TrigState}
-use Rattle.plan_types.specs.Board.{nearest}
-use Rattle.plan_types.specs.Lines.{Clocks}
-use Rattle.plan_types.specs.Sections.{clocks_at}
-use Rattle.clock_line.specs.Early.{turn_in_run, turn_tick}
-use Rattle.msg_code.specs.declared.cmd.Cmd.{Cmd}
 use Rattle.msg_code.specs.declared.cmd.Cmd.TheVariants as cmd
-use Rattle.msg_code.specs.declared.talk.News.{News}
-use Rattle.msg_code.specs.declared.talk.State.{State}
-use Rattle.trigger_group.specs.declared.seen.Fired.{Fired}
-use Rattle.trigger_group.specs.declared.seen.Seen.{Seen}
-use Rattle.trigger_group.specs.Group.{GroupState, came, fired_by, first_fired, hears_from, later}
-use Rattle.axis_homing.specs.declared.homing.Homing.{Homing}
-use Rattle.axis_homing.specs.Homing.{came_at, hears_all, hears_answer, hears_news, hears_state, hears_states}
-use Rattle.host_reactor.specs.Runs.{state_at}
+use Rattle.trigger_group.specs.Group.{came, fired_by, first_fired, hears_from, later}
+use Rattle.axis_homing.specs.Homing.{came_at, hears_answer, hears_news, hears_state, hears_states}
 use Rattle.laws_homing.specs.clear_boards.Hearing.{AllFiredIn, FiredOn, FiringNone, IsFiredIn, KnownOn, NoneOn}
 use Rattle.laws_homing.specs.home_runs.Windows.{IsFired, SayFired}
+use Rattle.plan_types.proofs.Facts.{is_equal, is_le, was_equal, same_when}
+use Rattle.laws_homing.proofs.clear_boards.Hearing.{can_so}
 
 -- a member behind a report
 abbrev pub behind : Bool → Bool → TrigState → ℕ → ℕ → Seen → Seen
@@ -38,11 +29,8 @@ one_still last true true s tick turn x e = e
 one_still last true false s tick turn x e = first_still last x.fired (record { reason = s.reason; tick = tick; turn = turn }) e
 one_still last false can s tick turn x e = e
 
-le_is : (a b : ℕ) → a ≤ b → nat_le a b ≡ true
-le_is a b l = elim (leb_tells a b) [ inl p ↦ p.0 | inr p ↦ absurd (omega (arith, p.1, l)) ]
-
 first_new : (last : ℕ) (o : Option Fired) (n : Fired) → n.turn ≤ last → (fired_by last o ≡ true) ⊎ (o ≡ None) → fired_by last (Some (first_fired o n)) ≡ true
-first_new last None n low k = le_is n.turn last low
+first_new last None n low k = is_le n.turn last low
 first_new last (Some f) n low (inl e) = e
 first_new last (Some f) n low (inr e) = cc
 
@@ -57,12 +45,6 @@ one_known last true true s tick turn x low k = k
 one_known last true false s tick turn x low k = inl (first_new last x.fired (record { reason = s.reason; tick = tick; turn = turn }) (low refl refl) k)
 one_known last false can s tick turn x low k = k
 
-is_here : (a b : ℕ) → a ≡ b → (a == b) ≡ true
-is_here a b e = elim (eqb_tells a b) [ inl p ↦ p.0 | inr p ↦ absurd (p.1 e) ]
-
-here_is : (a b : ℕ) → (a == b) ≡ true → a ≡ b
-here_is a b e = elim (eqb_tells a b) [ inl p ↦ p.1 | inr p ↦ absurd (let bad : false ≡ true = sym p.0 ∙ e in cc) ]
-
 -- all members
 all_still : (b last board tick turn : ℕ) (s : TrigState) (xs : List Seen) → FiredOn b last xs → FiredOn b last (map (hears_from board s tick turn) xs)
 all_still b last board tick turn s [] k = tt
@@ -73,7 +55,7 @@ all_new : (last board tick turn : ℕ) (s : TrigState) (xs : List Seen) → s.ca
 all_new last board tick turn s [] can low k = tt
 all_new last board tick turn s (x ∷ xs) can low k =
     let here = x.member.board == board in (
-      (λ is. (let at : x.member.board ≡ board = sym (same_board here s.can s tick turn x) ∙ is in one_new last here s.can s tick turn x (is_here x.member.board board at) can low (k.0 at))),
+      (λ is. (let at : x.member.board ≡ board = sym (same_board here s.can s tick turn x) ∙ is in one_new last here s.can s tick turn x (is_equal x.member.board board at) can low (k.0 at))),
       all_new last board tick turn s xs can low k.1,
     )
 
@@ -83,7 +65,7 @@ all_known b last board tick turn s (x ∷ xs) low k =
     let here = x.member.board == board in (
       (λ is. (
           let at : x.member.board ≡ b = sym (same_board here s.can s tick turn x) ∙ is in
-          one_known last here s.can s tick turn x (λ e f. low (sym (here_is x.member.board board e) ∙ at) f) (k.0 at))),
+          one_known last here s.can s tick turn x (λ e f. low (sym (was_equal x.member.board board e) ∙ at) f) (k.0 at))),
       all_known b last board tick turn s xs low k.1,
     )
 
@@ -130,15 +112,11 @@ at_new : (start last board tick when : ℕ) (s : TrigState) (o : Option ℕ) (g 
 at_new start last board tick when s None g e can from low k = cc
 at_new start last board tick when s (Some turn) g e can from low k = let same : turn ≡ when = cc in came_new start last board tick turn s g can (omega (arith, same, from)) (omega (arith, same, low)) k
 
-no_can : (can : ℕ) → not (can == 0) ≡ false → can ≡ 0
+pub no_can : (can : ℕ) → not (can == 0) ≡ false → can ≡ 0
 no_can can e = elim (eqb_tells can 0) [ inl p ↦ p.1 | inr p ↦ absurd (let bad : not (can == 0) ≡ true = ap not p.0 in let worse : true ≡ false = sym bad ∙ e in cc) ]
 
 can_no : (can : ℕ) → can ≡ 0 → not (can == 0) ≡ false
 can_no can e = ap (λ (n : ℕ). not (n == 0)) e
-
-pub same_when : (o : Option ℕ) (a b : ℕ) → o ≡ Some a → o ≡ Some b → a ≡ b
-same_when None a b e f = cc
-same_when (Some n) a b e f = cc
 
 answer_still : (start b last board turn : ℕ) (clocks : Clocks) (c : Cmd) (g : GroupState) → Fires start b last g → Fires start b last (hears_answer clocks board turn c g)
 answer_still start b last board turn clocks (cmd.TrsyncState oid can reason clock) g k =
@@ -264,7 +242,7 @@ all_none : (b board tick turn : ℕ) (s : TrigState) (xs : List Seen) → (board
 all_none b board tick turn s [] low k = tt
 all_none b board tick turn s (x ∷ xs) low k =
     let here = x.member.board == board in (
-      (λ is. (let at : x.member.board ≡ b = sym (same_board here s.can s tick turn x) ∙ is in one_none here s.can s tick turn x (λ e. low (sym (here_is x.member.board board e) ∙ at)) (k.0 at))),
+      (λ is. (let at : x.member.board ≡ b = sym (same_board here s.can s tick turn x) ∙ is in one_none here s.can s tick turn x (λ e. low (sym (was_equal x.member.board board e) ∙ at)) (k.0 at))),
       all_none b board tick turn s xs low k.1,
     )
 
@@ -279,13 +257,10 @@ at_none : (b board tick : ℕ) (s : TrigState) (o : Option ℕ) (g : GroupState)
 at_none b board tick s None g low k = k
 at_none b board tick s (Some turn) g low k = came_none b board tick turn s g low k
 
-is_can : (can : ℕ) → (can ≡ 0 → ⊥) → not (can == 0) ≡ true
-is_can can n = elim (eqb_tells can 0) [ inl p ↦ absurd (n p.1) | inr p ↦ ap not p.0 ]
-
 answer_none : (b board turn : ℕ) (clocks : Clocks) (c : Cmd) (g : GroupState) → (board ≡ b → IsFired c → ⊥) → NoneOn b g.members → NoneOn b (hears_answer clocks board turn c g).members
 answer_none b board turn clocks (cmd.TrsyncState oid can reason clock) g low k =
     let at = nearest (turn_tick clocks turn) clock in
-    at_none b board at (record { can = not (can == 0); reason = reason; clock = clock }) (turn_in_run clocks at) g (λ here. is_can can (λ off. low here off)) k
+    at_none b board at (record { can = not (can == 0); reason = reason; clock = clock }) (turn_in_run clocks at) g (λ here. can_so can (λ off. low here off)) k
 answer_none b board turn clocks c g low k = k
 
 news_none : (b board turn : ℕ) (clocks : Clocks) (ns : List News) (g : GroupState) → (board ≡ b → FiringNone ns) → NoneOn b g.members → NoneOn b (hears_news clocks board turn ns g).members

@@ -2,29 +2,15 @@
 use Rattle.std.proofs.Common.{◌≡◌, ℕ, ◌+◌, ◌-◌, ◌*◌, ◌%◌, ◌^◌, ◌<◌, ◌≤◌, inl, inr, Bool, true, false, List, [], ◌∷◌, length, refl, ap, sym, ◌∙◌, subst, arith, ◌⊎◌}
 use Rattle.std.specs.Prelude.{◌||◌}
 use Rattle.std.specs.List.{Contains}
-use Rattle.std.proofs.lemmas.Bool.Decides.{leb_tells}
-use Rattle.plan_types.specs.declared.levels.Level.{Level}
-use Rattle.plan_types.specs.declared.machine.BoardDef.{BoardDef}
-use Rattle.plan_types.specs.Clock.{board_tick, clock_of, turn_ns, run_turns}
-use Rattle.plan_types.specs.Lines.{Clocks, lines_tick}
-use Rattle.plan_types.specs.Sections.{clocks_at}
-use Rattle.wire_scene.specs.declared.scene.Entry.{Entry}
-use Rattle.msg_code.specs.declared.talk.State.{State}
-use Rattle.board_sim.specs.Fair.{commands_of}
-use Rattle.board_sim.specs.Rig.{Rig, passes, takes_all}
+use Rattle.laws_board.proofs.Names.{leb_tells, Level, BoardDef, board_tick, clock_of, turn_ns, Clocks, lines_tick, clocks_at, Entry, State, commands_of, Rig, passes, takes_all, queued_in, first_state, orders, Seen, Homing, hears_all, state_at}
+use Rattle.plan_types.specs.Clock.{run_turns}
 use Rattle.laws_homing.specs.clear_boards.Rests.{RestsOver}
-use Rattle.link_work.specs.Runs.{queued_in}
-use Rattle.link_work.specs.Stands.{first_state, orders}
 use Rattle.laws_board.specs.turns.Turns.{AreBoardTurns, BoardTurn, stands_after}
 use Rattle.laws_board.specs.sections.Events.{AreTicks}
 use Rattle.laws_board.specs.sections.Parts.{AreTracked}
 use Rattle.laws_board.proofs.sections.Clocks.{ticks_rise}
-use Rattle.trigger_group.specs.declared.seen.Seen.{Seen}
 use Rattle.trigger_group.specs.Group.{any_fired_by, fired_by}
 use Rattle.trigger_group.proofs.Answering.{either, first_there, none_there, there_more}
-use Rattle.axis_homing.specs.declared.homing.Homing.{Homing}
-use Rattle.axis_homing.specs.Homing.{hears_all}
-use Rattle.host_reactor.specs.Runs.{state_at}
 use Rattle.laws_homing.specs.clear_boards.Alive.{StaysAlive}
 use Rattle.laws_homing.specs.clear_boards.Firing.{AreSpoken}
 use Rattle.laws_homing.specs.clear_boards.Hearing.{FiredOn, HeardBy, TellAble}
@@ -33,6 +19,7 @@ use Rattle.laws_homing.specs.clear_boards.Modes.{HeardLately}
 use Rattle.laws_homing.proofs.clear_boards.Bridging.{tells_able, turn_is}
 use Rattle.laws_homing.proofs.clear_boards.Clocking.{report_counts}
 use Rattle.laws_homing.proofs.clear_boards.Hearing.{hears_able, hears_on}
+use Rattle.std.proofs.lemmas.Bool.{or_right, or_left}
 
 near_on : (start b when turn : ℕ) (xs : List Seen) → turn ≤ when + 10 → HeardBy start b when xs → NearOn start b turn xs
 near_on start b when turn [] l k = tt
@@ -65,19 +52,11 @@ lately_all start last turn (x ∷ xs) f = (
   lately_all start last turn xs (λ y c. elim (f y (there_more x y xs c)) [ inl k ↦ inl k.1 | inr k ↦ inr k.1 ]),
 )
 
-or_first : (a b : Bool) → a ≡ true → (a || b) ≡ true
-or_first true b e = refl
-or_first false b e = cc
-
-or_second : (a b : Bool) → b ≡ true → (a || b) ≡ true
-or_second true b e = refl
-or_second false b e = e
-
 pub any_on : (b last : ℕ) (x : Seen) (xs : List Seen) → Contains xs x → x.member.board ≡ b → FiredOn b last xs → any_fired_by last xs ≡ true
 any_on b last x [] c on k = absurd (none_there x c)
 any_on b last x (y ∷ ys) c on k = elim (either y x ys c) [
-  | inl same ↦ or_first (fired_by last y.fired) (any_fired_by last ys) (k.0 (ap (λ (z : Seen). z.member.board) same ∙ on))
-  | inr later ↦ or_second (fired_by last y.fired) (any_fired_by last ys) (any_on b last x ys later on k.1)
+  | inl same ↦ or_left (fired_by last y.fired) (any_fired_by last ys) (k.0 (ap (λ (z : Seen). z.member.board) same ∙ on))
+  | inr later ↦ or_right (fired_by last y.fired) (any_fired_by last ys) (any_on b last x ys later on k.1)
 ]
 
 -- a turn of a clear link, and the states that come behind it

@@ -1,32 +1,23 @@
 -- A homing group and all its boards go on by a turn.
 use Rattle.std.proofs.Common.{◌≡◌, ℕ, ◌+◌, ◌≤◌, Bool, true, false, not, List, [], ◌∷◌, map, Option, Some, None, refl, ap, sym, ◌∙◌, inl, inr}
 use Rattle.std.specs.List.{Contains}
-use Rattle.board_sim.specs.Rig.{Rig, Slot, slot_at}
-use Rattle.trigger_group.specs.declared.order.Member.{Member}
-use Rattle.trigger_group.specs.declared.seen.Seen.{Seen}
-use Rattle.trigger_group.specs.Group.{GroupState, turned_group, all_fired, any_fired_by}
+use Rattle.laws_board.proofs.Names.{Rig, Slot, slot_at, Member, Seen, GroupState, turned_group, all_fired, members_of}
+use Rattle.trigger_group.specs.Group.{any_fired_by}
 use Rattle.trigger_group.proofs.Answering.{first_there, there_more}
-use Rattle.axis_homing.specs.Rising.{members_of}
 use Rattle.laws_homing.specs.home_runs.Guards.{HasFired}
 use Rattle.laws_homing.specs.clear_boards.Member.{IsMember, fired_at, is_fired}
 use Rattle.laws_homing.specs.clear_boards.Modes.{AllOn, Hears, IsAheadIn, IsTimed}
 use Rattle.laws_homing.proofs.clear_boards.Lately.{lately_all}
 use Rattle.laws_homing.proofs.clear_boards.Modes.{goes_ahead}
-
-flag_of : (b : Bool) → b ≡ false → not b ≡ true
-flag_of true e = cc
-flag_of false e = refl
-
-pub of_flag : (b : Bool) → not b ≡ true → b ≡ false
-of_flag true e = cc
-of_flag false e = refl
+use Rattle.plan_types.proofs.Facts.{not_true}
+use Rattle.std.proofs.lemmas.Bool.{not_from_false}
 
 flag_is : (oid : ℕ) (r : Rig) → HasFired oid r → is_fired (slot_at r oid) ≡ true
-flag_is oid r f = ap is_fired f.is ∙ flag_of f.slot.trigger.can f.fired
+flag_is oid r f = ap is_fired f.is ∙ not_from_false f.slot.trigger.can f.fired
 
 pub fired_by_flag : (oid : ℕ) (r : Rig) (o : Option Slot) → slot_at r oid ≡ o → is_fired o ≡ true → HasFired oid r
 fired_by_flag oid r None is e = absurd (cc)
-fired_by_flag oid r (Some s) is e = record { slot = s; is = is; fired = of_flag s.trigger.can e }
+fired_by_flag oid r (Some s) is e = record { slot = s; is = is; fired = not_true s.trigger.can e }
 
 -- a list of members
 all_there : (f : ℕ → Bool) (xs : List Seen) → ((x : Seen) → Contains xs x → f x.member.board ≡ true) → AllOn f xs

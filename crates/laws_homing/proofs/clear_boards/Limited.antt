@@ -1,24 +1,17 @@
 -- A trigger whose timeout is renewed before it passes tells of no expiry.
 use Rattle.std.proofs.Common.{◌≡◌, ℕ, suc, ◌<◌, ◌≤◌, Bool, true, false, List, [], ◌∷◌, Option, Some, None, refl, sym, ◌∙◌, subst, arith, ◌⊎◌, inl, inr, ap}
 use Rattle.std.specs.Prelude.{if◌then◌else◌, nat_lt}
-use Rattle.std.proofs.lemmas.Bool.Decides.{leb_tells}
-use Rattle.plan_types.specs.declared.levels.Level.{Level}
-use Rattle.plan_types.specs.declared.plan.BoardState.{BoardState}
-use Rattle.plan_types.specs.declared.plan.BoardState.TheVariants.{Running}
-use Rattle.plan_types.specs.Board.{nearest}
-use Rattle.board_trig.specs.declared.trigger.Trigger.{Trigger}
-use Rattle.board_trig.specs.declared.trigger.Happening.{Happening}
-use Rattle.board_trig.specs.declared.trigger.Happening.TheVariants.{Nothing, Expires, Switches, Reports}
+use Rattle.laws_board.proofs.Names.{leb_tells, Level, BoardState, Running, nearest, Trigger, Happening, Nothing, Expires, Switches, Reports, Cmd, Rig, Slot, acts, acts_running, becomes, expires_at_once, pass, set_timeout, slot_at, takes}
 use Rattle.board_trig.specs.Trigger as trig
-use Rattle.msg_code.specs.declared.cmd.Cmd.{Cmd}
 use Rattle.msg_code.specs.declared.cmd.Cmd.TheVariants as cmd
-use Rattle.board_sim.specs.Rig.{Rig, Slot, acts, acts_running, becomes, expires_at_once, pass, set_timeout, slot_at, takes, trigger}
+use Rattle.board_sim.specs.Rig.{trigger}
 use Rattle.board_sim.specs.RigRuns.{RigStep, Takes, Passes, rig_after_all}
 use Rattle.laws_homing.specs.home_runs.Guards.{IsSole}
 use Rattle.laws_homing.specs.clear_boards.Held.{AllFar, AllHeld, AllTellOnly, all_answers}
 use Rattle.laws_homing.specs.clear_boards.Limited.{AllFired, AllLimited, AreRenewing, IsLimited, IsRenewing, limit_after, limit_by, limit_of}
 use Rattle.laws_homing.proofs.clear_boards.Held.{all_both, limit_held, pass_held, takes_held}
 use Rattle.laws_homing.proofs.clear_boards.Slots.{Follows, Lasts, OfEach, pass_each, running_each, set_over}
+use Rattle.plan_types.proofs.Facts.{is_less}
 
 -- the triggers of a board, but for what else is on it
 abbrev Limits : ℕ → ℕ → Rig → Type 0
@@ -41,9 +34,6 @@ timed_so true true now at limit s e f k = ap (λ (b : Bool). limit_of b at) (sym
 timed_so true false now at limit s e f k = absurd (let g : false ≡ true = f refl in cc)
 timed_so false early now at limit s e f k = k ∙ ap (λ (b : Bool). limit_of b limit) e ∙ ap (λ (b : Bool). limit_of b at) (sym e)
 
-less_is : (a b : ℕ) → a < b → nat_lt a b ≡ true
-less_is a b l = elim (leb_tells (suc a) b) [ inl p ↦ p.0 | inr p ↦ absurd (omega (arith, p.1, l)) ]
-
 at_once_same : (o : Option ℕ) (r : Rig) (oid : ℕ) (s : Slot) (t : Trigger) → o ≡ None → (expires_at_once r oid s t o).rig ≡ becomes r oid s t
 at_once_same None r oid s t e = refl
 at_once_same (Some n) r oid s t e = absurd (cc)
@@ -64,7 +54,7 @@ limit_set oid limit tick r (Some s) clock e less all k =
     let now = r.controller.tick in
     let at = nearest now clock in
     let t = trig.with_timeout now clock s.trigger in
-    let early : s.trigger.can ≡ true → nat_lt now at ≡ true = λ can. less_is now at (less s refl can) in
+    let early : s.trigger.can ≡ true → nat_lt now at ≡ true = λ can. is_less now at (less s refl can) in
     let q = (expires_at_once r oid s t t.untold).rig in
     let is : q ≡ becomes r oid s t = at_once_same t.untold r oid s t (untold_so s.trigger.can (nat_lt now at) now at s.trigger early (all oid s e).told) in
     each_limit oid at q (set_over (Limit oid at) r q oid s (record s { trigger = t }) e (ap (λ (x : Rig). x.triggers) is) (ap (λ (x : Rig). x.pins) is) (λ i v d there. absurd (d (k.0 i v there))) (refl, timed_so s.trigger.can (nat_lt now at) now at limit s refl early (k.1 oid s e)))

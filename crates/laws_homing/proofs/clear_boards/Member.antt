@@ -1,20 +1,14 @@
 -- A board of a homing group over a turn of a clear link.
 use Rattle.std.proofs.Common.{◌≡◌, ℕ, ◌<◌, ◌≤◌, List, [], ◌∷◌, ◌++◌, length, Option, Some, None, ap, sym, ◌∙◌, subst, arith}
 use Rattle.std.specs.Prelude.{nat_lt}
-use Rattle.plan_types.specs.declared.plan.BoardState.{BoardState}
-use Rattle.plan_types.specs.declared.plan.BoardState.TheVariants.{Running}
-use Rattle.plan_types.specs.Board.{nearest}
-use Rattle.msg_code.specs.declared.cmd.Cmd.{Cmd}
+use Rattle.laws_board.proofs.Names.{BoardState, Running, nearest, Cmd, Trigger, Rig, Slot, acts, acts_running, expires_at_once, passes, set_timeout, slot_at, takes, takes_all, AllSound, says}
 use Rattle.msg_code.specs.declared.cmd.Cmd.TheVariants as cmd
-use Rattle.board_trig.specs.declared.trigger.Trigger.{Trigger}
 use Rattle.board_trig.specs.Trigger as trig
 use Rattle.board_sim.specs.Board.{takes as board_takes}
-use Rattle.board_sim.specs.Rig.{Rig, Slot, acts, acts_running, expires_at_once, passes, set_timeout, slot_at, takes, takes_all}
-use Rattle.board_sim.specs.RigRuns.{AllSound}
 use Rattle.board_sim.specs.Turn.{says_shut}
 use Rattle.board_sim.proofs.RigTicks.{takes_rig_tick}
 use Rattle.board_sim.proofs.Sound.{takes_sound}
-use Rattle.board_world.specs.World.{says, shut_before}
+use Rattle.board_world.specs.World.{shut_before}
 use Rattle.laws_board.proofs.clocks.Answers.{Each, each_both}
 use Rattle.laws_homing.specs.home_runs.Guards.{HasFired, IsSole}
 use Rattle.laws_homing.proofs.home_runs.Guarding.{passes_next}
@@ -22,10 +16,11 @@ use Rattle.laws_homing.proofs.home_runs.Saying.{IsOther, Says, all_later, all_sa
 use Rattle.laws_homing.specs.clear_boards.Alive.{RelayNone}
 use Rattle.laws_homing.specs.clear_boards.Firing.{AreNumbered, AreSpoken, IsNumbered, IsSpoken}
 use Rattle.laws_homing.specs.clear_boards.Turned.{AreSentBehind, IsSentBehind, Relays}
-use Rattle.laws_homing.proofs.clear_boards.Alive.{one_left, timed_is, less_is, with_timeout}
+use Rattle.laws_homing.proofs.clear_boards.Alive.{one_left, timed_is, with_timeout}
 use Rattle.laws_homing.proofs.clear_boards.Bridging.{IsOff}
 use Rattle.laws_homing.proofs.clear_boards.Firing.{small_both}
 use Rattle.laws_homing.proofs.clear_boards.Turned.{above, calm_all, ran}
+use Rattle.plan_types.proofs.Facts.{is_less}
 
 other_spoken : (base limit until : ℕ) (c : Cmd) → IsOther c → IsSpoken base limit until c
 other_spoken base limit until (cmd.TrsyncState oid can reason clock) o = absurd o
@@ -44,7 +39,7 @@ timeout_spoken : (base limit until oid clock : ℕ) (r : Rig) (s : Slot) → s.t
 timeout_spoken base limit until oid clock r s told ahead =
     let now = r.controller.tick in
     let at = nearest now clock in
-    let x = timed_is s.trigger.can (nat_lt now at) now at s.trigger (less_is now at ahead) in
+    let x = timed_is s.trigger.can (nat_lt now at) now at s.trigger (is_less now at ahead) in
     let t = trig.with_timeout now clock s.trigger in
     once_spoken base limit until t.untold r oid s t (ap (λ (y : Trigger). y.untold) x.1 ∙ told)
 

@@ -2,20 +2,19 @@
 use Rattle.std.proofs.Common.{◌≡◌, ℕ, ◌+◌, ◌-◌, ◌%◌, ◌<◌, ◌≤◌, ◌==◌, Bool, true, false, List, [], ◌∷◌, ◌++◌, Option, Some, None, max, refl, ap, sym, ◌∙◌, subst, arith, ◌⊎◌, inl, inr}
 use Rattle.std.specs.Prelude.{◌&&◌, ◌||◌, if◌then◌else◌, nat_le, nat_lt}
 use Rattle.std.specs.List.{Contains}
-use Rattle.std.proofs.lemmas.Bool.Decides.{leb_tells}
+use Rattle.laws_board.proofs.Names.{leb_tells, Ctl, Fired, Seen, GroupState, turned_group, all_fired, first_timeout, relay_in, relays_in, round_of}
 use Rattle.std.proofs.lemmas.List.Elements.{Contains-append_right}
-use Rattle.trigger_group.specs.declared.order.Ctl.{Ctl}
 use Rattle.trigger_group.specs.declared.order.Order.TheVariants.{Trigger}
 use Rattle.trigger_group.specs.declared.round.Phase.{Phase}
 use Rattle.trigger_group.specs.declared.round.Round.TheVariants.{Relays, Timeouts}
-use Rattle.trigger_group.specs.declared.seen.Fired.{Fired}
-use Rattle.trigger_group.specs.declared.seen.Seen.{Seen}
-use Rattle.trigger_group.specs.Group.{GroupState, turned_group, after_in, all_fired, any_fired_by, fired_by, first_timeout, goes, limit, orders, relay_begins, relay_from, relay_in, relays_in, round_of, to_board, unless_fired}
+use Rattle.trigger_group.specs.Group.{after_in, any_fired_by, fired_by, goes, limit, orders, relay_begins, relay_from, to_board, unless_fired}
 use Rattle.trigger_group.proofs.Answering.{either, first_there, none_there}
 use Rattle.trigger_group.proofs.Knows.{after_last, after_members, after_start}
 use Rattle.laws_homing.specs.clear_boards.Modes.{AllOn, HeardLately, Hears, IsAheadIn, IsIn, IsFiringKnown, IsLive, IsTimed}
 use Rattle.laws_homing.specs.clear_boards.Renewed.{HeardFrom}
 use Rattle.laws_homing.proofs.clear_boards.Renewed.{after_is, orders_are, phase_goes, renewed}
+use Rattle.plan_types.proofs.Facts.{is_le, is_above}
+use Rattle.std.proofs.lemmas.Bool.{or_parts, or_left}
 
 -- what a turn makes of a group
 pub relay_is : (g : GroupState) (turn : ℕ) → g.start ≤ turn → all_fired g.members ≡ false → (turned_group g turn).relay ≡ relay_in g turn
@@ -58,29 +57,18 @@ stays_ahead Dead turn g low fired k (inr (inr (inr known))) =
       | inr later ↦ elim later [ inl far ↦ inl (omega (arith, far, more)) | inr last ↦ inr (inl (omega (arith, last, more, most))) ]
     ]
 
--- a relay
-either_first : (a b : Bool) → a ≡ true → (a || b) ≡ true
-either_first true b e = refl
-either_first false b e = cc
-
-le_is : (a b : ℕ) → a ≤ b → nat_le a b ≡ true
-le_is a b l = elim (leb_tells a b) [ inl p ↦ p.0 | inr p ↦ absurd (omega (arith, p.1, l)) ]
-
-gt_is : (a b : ℕ) → b < a → nat_le a b ≡ false
-gt_is a b l = elim (leb_tells a b) [ inl p ↦ absurd (omega (arith, p.1, l)) | inr p ↦ p.0 ]
-
 pub begins_so : (g : GroupState) (turn : ℕ) → g.start + 4 ≤ turn → any_fired_by g.last g.members ≡ true → relay_begins g turn ≡ true
-begins_so g turn low some = ap (λ (b : Bool). b && (any_fired_by g.last g.members || nat_le (g.last + 5) turn)) (le_is (g.start + 4) turn low) ∙ either_first (any_fired_by g.last g.members) (nat_le (g.last + 5) turn) some
+begins_so g turn low some = ap (λ (b : Bool). b && (any_fired_by g.last g.members || nat_le (g.last + 5) turn)) (is_le (g.start + 4) turn low) ∙ or_left (any_fired_by g.last g.members) (nat_le (g.last + 5) turn) some
 
 pub begins_not : (g : GroupState) (turn : ℕ) → turn < g.start + 4 → relay_begins g turn ≡ false
-begins_not g turn low = ap (λ (b : Bool). b && (any_fired_by g.last g.members || nat_le (g.last + 5) turn)) (gt_is (g.start + 4) turn low)
+begins_not g turn low = ap (λ (b : Bool). b && (any_fired_by g.last g.members || nat_le (g.last + 5) turn)) (is_above (g.start + 4) turn low)
 
 neither : (a b c : Bool) → b ≡ false → c ≡ false → (a && (b || c)) ≡ false
 neither true b c e f = ap (λ (x : Bool). x || c) e ∙ f
 neither false b c e f = refl
 
 begins_none : (g : GroupState) (turn : ℕ) → any_fired_by g.last g.members ≡ false → turn < g.last + 5 → relay_begins g turn ≡ false
-begins_none g turn none low = neither (nat_le (g.start + 4) turn) (any_fired_by g.last g.members) (nat_le (g.last + 5) turn) none (gt_is (g.last + 5) turn low)
+begins_none g turn none low = neither (nat_le (g.start + 4) turn) (any_fired_by g.last g.members) (nat_le (g.last + 5) turn) none (is_above (g.last + 5) turn low)
 
 -- the first one comes in its turn
 pub relays_now : (turn : ℕ) → relays_in (Some turn) turn ≡ true
@@ -112,15 +100,10 @@ relayed g turn x low fired relay some there none =
     let is : relay_in g turn ≡ Some turn = ap (λ (o : Option ℕ). relay_from o (relay_begins g turn) turn) relay ∙ ap (λ (b : Bool). relay_from None b turn) (begins_so g turn low some) in
     relayed_in g turn x (omega (arith, low)) fired (ap (λ (o : Option ℕ). relays_in o turn) is ∙ relays_now turn) there none
 
--- the next turn
-none_fired : (a b : Bool) → (a || b) ≡ false → (a ≡ false) × (b ≡ false)
-none_fired true b e = cc
-none_fired false b e = (refl, e)
-
 heard_all : (start last turn least : ℕ) (xs : List Seen) → turn ≡ least + 10 → any_fired_by last xs ≡ false → HeardLately start last turn xs → HeardFrom start least xs
 heard_all start last turn least [] e none k = tt
 heard_all start last turn least (x ∷ xs) e none k =
-    let both = none_fired (fired_by last x.fired) (any_fired_by last xs) none in (
+    let both = or_parts (fired_by last x.fired) (any_fired_by last xs) none in (
       elim k.0 [ inl near ↦ (omega (arith, near, e)) | inr fired ↦ absurd (let bad : false ≡ true = sym both.0 ∙ fired in cc) ],
       heard_all start last turn least xs e both.1 k.1,
     )

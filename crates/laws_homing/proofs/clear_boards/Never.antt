@@ -1,14 +1,7 @@
 -- A homing group never answers that a board expired, where no state that came tells so.
 use Rattle.std.proofs.Common.{◌≡◌, ℕ, ◌+◌, ◌≤◌, List, [], ◌∷◌, ◌++◌, length, Some, refl, ap, inl, inr}
-use Rattle.plan_types.specs.declared.machine.Machine.{Machine}
-use Rattle.plan_types.specs.Sections.{clocks_at}
-use Rattle.msg_code.specs.declared.talk.State.{State}
-use Rattle.wire_scene.specs.declared.scene.Switch.{Switch}
+use Rattle.laws_board.proofs.Names.{Machine, clocks_at, State, Switch, Homing, answer_in, hears_all, noted, Came, GoesOn, known_by, state_at}
 use Rattle.trigger_group.specs.declared.order.End.TheVariants as end
-use Rattle.axis_homing.specs.declared.homing.Homing.{Homing}
-use Rattle.axis_homing.specs.Homing.{answer_in, hears_all}
-use Rattle.host_reactor.specs.Notes.{noted}
-use Rattle.host_reactor.specs.Runs.{Came, GoesOn, known_by, state_at}
 use Rattle.laws_homing.specs.clear_boards.Expiry.{CameExpiry, TellExpiry}
 use Rattle.laws_homing.proofs.clear_boards.Heard.{expiry_told}
 

@@ -3,16 +3,14 @@ use Rattle.std.proofs.Common.{◌≡◌, ℕ, ◌+◌, ◌-◌, ◌<◌, ◌≤�
 use Rattle.std.specs.Prelude.{if◌then◌else◌}
 use Rattle.std.specs.List.{Contains}
 use Rattle.std.proofs.lemmas.List.Elements.{Contains-append_left}
-use Rattle.std.proofs.lemmas.Bool.Decides.{leb_tells}
-use Rattle.trigger_group.specs.declared.order.Ctl.{Ctl}
+use Rattle.laws_board.proofs.Names.{leb_tells, Ctl, Homes, Starts, Goes, Rests, Sends, Seen, GroupState, turned_group, all_fired, first_timeout, phase, relay_in, relays_in, round_of}
 use Rattle.trigger_group.specs.declared.order.Order.TheVariants.{Timeout}
-use Rattle.trigger_group.specs.declared.round.Round.TheVariants.{Homes, Relays, Resets, Starts, Timeouts}
+use Rattle.trigger_group.specs.declared.round.Round.TheVariants.{Relays, Resets, Timeouts}
 use Rattle.trigger_group.specs.declared.round.Phase.{Phase}
-use Rattle.trigger_group.specs.declared.round.Phase.TheVariants.{Goes, Rests, Sends}
-use Rattle.trigger_group.specs.declared.seen.Seen.{Seen}
-use Rattle.trigger_group.specs.Group.{GroupState, turned_group, after_in, all_fired, first_timeout, goes, heard_of, least_heard, limit, orders, orders_of_group, phase, relay_in, relays_in, round_of, to_board}
+use Rattle.trigger_group.specs.Group.{after_in, goes, heard_of, least_heard, limit, orders, orders_of_group, to_board}
 use Rattle.trigger_group.proofs.Answering.{either, first_there, none_there, there_more}
 use Rattle.laws_homing.specs.clear_boards.Renewed.{HeardFrom}
+use Rattle.plan_types.proofs.Facts.{is_less}
 
 least_from : (start u least : ℕ) (ms : List Seen) → u ≤ least → HeardFrom start u ms → u ≤ least_heard start least ms
 least_from start u least [] l h = l
@@ -69,9 +67,6 @@ in_round t m (x ∷ ms) c = elim (either x m ms c) [
   | inr k ↦ there_more (to_board x (Timeout t)) (to_board m (Timeout t)) (round_of (Timeouts t) ms) (in_round t m ms k)
 ]
 
-less_is : (a b : ℕ) → a < b → nat_lt a b ≡ true
-less_is a b l = elim (leb_tells (a + 1) b) [ inl p ↦ (let e : a + 1 ≡ 1 + a = omega arith in grind arith) | inr p ↦ absurd (omega (arith, p.1, l)) ]
-
 pub sent_all : (g : GroupState) (turn : ℕ) (m : Seen) → g.start ≤ turn → all_fired g.members ≡ false → Contains g.members m → g.sent < (turned_group g turn).sent → Contains (orders g turn) (to_board m (Timeout (turned_group g turn).sent))
 sent_all g turn m low fired c grew =
     let is = after_is g turn low fired in
@@ -79,7 +74,7 @@ sent_all g turn m low fired c grew =
     let same : limit g ≡ (turned_group g turn).sent = omega (arith, is, more) in
     let others = if relays_in (relay_in g turn) turn then round_of Relays g.members else [] in
     let first : (if nat_lt g.sent (limit g) then round_of (Timeouts (limit g)) g.members else []) ≡ round_of (Timeouts (limit g)) g.members =
-    ap (λ (b : Bool). if b then round_of (Timeouts (limit g)) g.members else []) (less_is g.sent (limit g) more) in
+    ap (λ (b : Bool). if b then round_of (Timeouts (limit g)) g.members else []) (is_less g.sent (limit g) more) in
     let are : orders g turn ≡ round_of (Timeouts (limit g)) g.members ++ others = orders_are g turn low fired ∙ ap (λ (x : List Ctl). x ++ others) first in
     let At : ℕ → Type 0 = λ t. Contains (round_of (Timeouts (limit g)) g.members ++ others) (to_board m (Timeout t)) in
     let there : At (limit g) = Contains-append_left (round_of (Timeouts (limit g)) g.members) others (to_board m (Timeout (limit g))) (in_round (limit g) m g.members c) in

@@ -1,25 +1,22 @@
 -- While time passes, a trigger that can trigger tells so at each of its reports.
 use Rattle.std.proofs.Common.{◌≡◌, ◌≢◌, ℕ, zero, suc, ◌+◌, ◌/◌, ◌%◌, ◌^◌, ◌<◌, ◌≤◌, Bool, true, List, [], ◌∷◌, ◌++◌, get_or, Option, Some, None, refl, ap, sym, ◌∙◌, subst, arith, ◌⊎◌, inl, inr}
 use Rattle.std.specs.Prelude.{if◌then◌else◌}
-use Rattle.std.proofs.lemmas.List.{get_or-set_other, get_or-set_same}
-use Rattle.plan_types.specs.declared.levels.Level.{Level}
-use Rattle.board_trig.specs.declared.trigger.Happening.{Happening}
-use Rattle.board_trig.specs.declared.trigger.Happening.TheVariants.{Expires, Nothing, Reports, Switches}
-use Rattle.board_trig.specs.declared.trigger.Trigger.{Trigger}
+use Rattle.laws_board.proofs.Names.{get_or-set_same, Level, Happening, Expires, Nothing, Reports, Switches, Trigger, Cmd, Passed, Rig, Slot, all_left, at_of, earliest_moment, goes_on, happens_to, pass, passes_by, rests_to, runs_to, slot_at, one_slot, slot_range}
+use Rattle.std.proofs.lemmas.List.{get_or-set_other}
 use Rattle.board_trig.specs.Nexts.{IsNextOf, ReportsAt}
 use Rattle.board_trig.specs.Trigger as trig
 use Rattle.board_trig.proofs.Nexts.{is_next}
-use Rattle.msg_code.specs.declared.cmd.Cmd.{Cmd}
 use Rattle.msg_code.specs.Units.{bit}
-use Rattle.board_sim.specs.Rig.{Passed, Rig, Slot, all_left, at_of, earliest_moment, goes_on, happens_at, happens_to, levels_of, moment_in, moment_of, pass, passes_by, rested, rests_to, runs_to, slot_at, trigger_answers}
+use Rattle.board_sim.specs.Rig.{happens_at, levels_of, moment_in, moment_of, rested, trigger_answers}
 use Rattle.board_sim.specs.RigRuns.{AreRegular, IsRegular}
-use Rattle.board_sim.proofs.Bound.{map_at, one_slot, same_or_not, slot_range}
+use Rattle.board_sim.proofs.Bound.{map_at, same_or_not}
 use Rattle.board_sim.proofs.Chosen.{chosen_is}
 use Rattle.board_sim.proofs.Moments.{all_in}
 use Rattle.board_sim.proofs.Passing.{Left, happens_left, in_time}
 use Rattle.board_sim.proofs.Ticks.{timed}
 use Rattle.laws_homing.specs.clear_boards.Reports.{IsReported, TellCan}
 use Rattle.laws_homing.proofs.clear_boards.Slots.{none_next}
+use Rattle.plan_types.proofs.Facts.{same_when}
 
 tell_front : (oid clock : ℕ) (xs ys : List Cmd) → TellCan oid clock xs → TellCan oid clock (xs ++ ys)
 tell_front oid clock [] ys t = absurd t
@@ -38,10 +35,6 @@ record Stepped (oid until report : ℕ) (s : Slot) (a : trig.Advanced) : Type 0 
   stays : a.trigger.can ≡ true → s.trigger.can ≡ true
   tells : (next ≡ report) ⊎ ((at : ℕ) × (report ≤ at) × (at < until) × (at + s.trigger.every ≡ next) × (a.trigger.can ≡ true → TellCan oid (at % 2 ^ 32) (trigger_answers oid a.event)))
 
-pub same_report : (o : Option ℕ) (a b : ℕ) → o ≡ Some a → o ≡ Some b → a ≡ b
-same_report None a b e f = cc
-same_report (Some n) a b e f = cc
-
 happened_step : (oid until report : ℕ) (levels : List Level) (e : Happening) (s : Slot) → IsNextOf levels until s.trigger e → s.trigger.report ≡ Some report → Stepped oid until report s (trig.happened levels until e s.trigger)
 happened_step oid until report levels Nothing s next is = record { every = refl; next = report; report_is = is; stays = λ e. e; tells = inl refl }
 happened_step oid until report levels (Expires at) s next is = record { every = refl; next = report; report_is = is; stays = λ e. absurd (cc); tells = inl refl }
@@ -51,7 +44,7 @@ happened_step oid until report levels (Reports at) s next is = record {
   next = at + s.trigger.every;
   report_is = refl;
   stays = λ e. e;
-  tells = inr (at, (let same : report ≡ at = same_report s.trigger.report report at is next.0 in omega (arith, same)), next.1, refl, λ e. inl (refl, ap bit e, ap (λ (b : Bool). (if b then at else s.trigger.tick) % 2 ^ 32) e));
+  tells = inr (at, (let same : report ≡ at = same_when s.trigger.report report at is next.0 in omega (arith, same)), next.1, refl, λ e. inl (refl, ap bit e, ap (λ (b : Bool). (if b then at else s.trigger.tick) % 2 ^ 32) e));
 }
 
 tells_step : (o : Option ℕ) (oid until report : ℕ) (levels : List Level) (s : Slot) → s.trigger.untold ≡ o → IsRegular (Some s) → s.trigger.report ≡ Some report → Stepped oid until report s (trig.tells o levels until s.trigger)

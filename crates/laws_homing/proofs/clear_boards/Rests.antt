@@ -1,22 +1,17 @@
 -- A link that rests is idle; and where a scene has no entries links rest in each turn.
 use Rattle.std.proofs.Common.{◌≡◌, ℕ, suc, ◌+◌, ◌≤◌, true, List, [], ◌∷◌, length, refl, sym, ◌∙◌, subst, arith}
-use Rattle.plan_types.specs.declared.machine.BoardDef.{BoardDef}
-use Rattle.plan_types.specs.declared.levels.Level.{Level}
-use Rattle.plan_types.specs.Clock.{clock_of}
-use Rattle.wire_scene.specs.declared.scene.Entry.{Entry}
+use Rattle.laws_board.proofs.Names.{BoardDef, Level, clock_of, Entry, AllKeepLimits, first_state, orders, IsTurn, LinkState, and_from}
 use Rattle.link_work.specs.Ends.{is_idle, is_quiet, is_quiet_line}
-use Rattle.link_work.specs.Limits.{AllKeepLimits}
-use Rattle.link_work.specs.Stands.{first_state, orders}
-use Rattle.link_work.specs.Turn.{IsTurn, LinkState}
 use Rattle.link_work.proofs.Answered.{sends_all}
 use Rattle.link_work.proofs.Bounds.{is_idle_where, quiet_lines}
 use Rattle.link_work.proofs.Draining.{IsSound}
-use Rattle.link_work.proofs.Late.{drained_after, first_sound, limits_split, no_more, sound_along}
+use Rattle.link_work.proofs.Late.{drained_after, first_sound, limits_split, sound_along}
 use Rattle.laws_board.specs.turns.Turns.{AreBoardTurns, BoardTurn, stands_after}
 use Rattle.laws_board.specs.clocks.Runs.{orders_in}
 use Rattle.laws_board.proofs.clocks.Orders.{order_length, turns_in_order}
-use Rattle.laws_board.proofs.sections.Calm.{AreClear, both_quiet, clear_turn, first_clear, quiet_now}
+use Rattle.laws_board.proofs.sections.Calm.{AreClear, clear_turn, first_clear, quiet_now}
 use Rattle.laws_homing.specs.clear_boards.Rests.{RestsBehind, RestsFrom, RestsOver}
+use Rattle.link_work.proofs.Blocks.{no_more}
 
 -- a link that rests is idle, and nothing is held on its line up
 pub rests_idle : (b : BoardDef) (pins : List (List Level)) (board : ℕ) (entries : List Entry) (turns : List BoardTurn) → AreBoardTurns (clock_of b) (first_state b pins board entries) turns → RestsBehind turns
@@ -46,7 +41,7 @@ pub record IsFree (turn : ℕ) (l : LinkState) : Type 0 where
   pub idle : is_idle l ≡ true
 
 clear_quiet : (l : LinkState) (turn : ℕ) → AreClear l (turn + 1) → is_quiet (record { turn = turn; link = l }) ≡ true
-clear_quiet l turn c = both_quiet (is_quiet_line l.down turn) (is_quiet_line l.up turn) (quiet_now l.down turn c.0) (quiet_now l.up turn c.1)
+clear_quiet l turn c = and_from (is_quiet_line l.down turn) (is_quiet_line l.up turn) (quiet_now l.down turn c.0) (quiet_now l.up turn c.1)
 
 pub free_at : (b : BoardDef) (pins : List (List Level)) (board : ℕ) (entries : List Entry) (turns : List BoardTurn) → entries ≡ [] → AreBoardTurns (clock_of b) (first_state b pins board entries) turns → AllKeepLimits (orders_in turns)
     → IsFree (length turns) (stands_after (first_state b pins board entries) turns)

@@ -1,37 +1,20 @@
 -- On a clear link the news of a turn are what the board said in it.
 use Rattle.std.proofs.Common.{◌⊎◌, Some, ◌≡◌, ℕ, ◌+◌, List, [], ◌∷◌, ◌++◌, length, map, refl, ap, sym, ◌∙◌, subst, inl, inr, append_assoc, append-nil, None, Option}
-use Rattle.plan_types.specs.declared.machine.BoardDef.{BoardDef}
-use Rattle.plan_types.specs.declared.levels.Level.{Level}
-use Rattle.plan_types.specs.Clock.{board_tick, clock_of}
-use Rattle.msg_dict.specs.Own.{own_formats}
-use Rattle.msg_code.specs.declared.cmd.Cmd.{Cmd}
-use Rattle.msg_code.specs.declared.talk.News.{News}
-use Rattle.msg_code.specs.Text.{IsText}
-use Rattle.link_core.specs.Core.{Reply, numbered}
-use Rattle.wire_scene.specs.declared.scene.Entry.{Entry}
-use Rattle.wire_scene.specs.declared.scene.Way.TheVariants.{Up, Down}
-use Rattle.board_sim.specs.Fair.{Meant, commands_of}
-use Rattle.board_sim.specs.Rig.{Rig, takes_all, takes}
-use Rattle.board_world.specs.declared.event.Event.{Event}
+use Rattle.laws_board.proofs.Names.{BoardDef, Level, board_tick, clock_of, own_formats, Cmd, News, IsText, Reply, Entry, Up, Down, Meant, commands_of, Rig, takes_all, takes, Event, Core, after_event, run_world, says, wire_text, Step, Do, Turn, does, in_turn, takes_in, queued_in, first_state, orders, LinkState, after_board, after_host, come, append_cancel_left, run_append}
+use Rattle.link_core.specs.Core.{numbered}
 use Rattle.board_world.specs.declared.event.Event.TheVariants as event
-use Rattle.board_world.specs.World.{Core, after_event, run_world, says, wire_text, Step, Do, Turn, does, in_turn, takes_in}
 use Rattle.link_work.specs.Answers.{IsAmong}
-use Rattle.link_work.specs.Runs.{queued_in}
-use Rattle.link_work.specs.Stands.{first_state, orders}
 use Rattle.link_work.specs.Told.{AreNews, heard_in, news_of}
-use Rattle.link_work.specs.Turn.{LinkState, after_board, after_host, come}
 use Rattle.laws_board.specs.turns.Turns.{AreBoardTurns, BoardTurn, stands_after}
 use Rattle.laws_homing.proofs.home_runs.Resting.{rests_up}
 use Rattle.laws_homing.specs.clear_boards.Rests.{RestsOver}
 use Rattle.laws_homing.proofs.clear_boards.Rests.{rests_none}
 use Rattle.laws_homing.proofs.clear_boards.Taking.{IsComing, down_coming, down_taking, host_quiet_all}
-use Rattle.std.proofs.lemmas.List.{append_cancel_left}
 use Rattle.board_world.specs.Stands.{IsAnswer}
 use Rattle.link_work.proofs.Steps.{all_come, AllOf}
 use Rattle.laws_board.proofs.clocks.Answers.{Each}
 use Rattle.laws_board.proofs.clocks.Replies.{AllUp, up_by, up_come}
 use Rattle.laws_board.proofs.clocks.Uptimes.{none_said}
-use Rattle.link_work.proofs.Sending.{run_append}
 use Rattle.laws_homing.proofs.home_runs.Staging.{commands_both}
 use Rattle.link_work.proofs.Saying.{among_left, among_right}
 

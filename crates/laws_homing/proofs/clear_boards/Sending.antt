@@ -2,23 +2,12 @@
 use Rattle.std.proofs.Common.{◌≡◌, ℕ, suc, ◌+◌, ◌<◌, ◌≤◌, ◌==◌, inl, inr, Bool, true, false, List, [], ◌∷◌, ◌++◌, Option, Some, None, refl, ap, sym, ◌∙◌, subst, arith, ◌⊎◌, max}
 use Rattle.std.specs.Prelude.{if◌then◌else◌, nat_lt}
 use Rattle.std.specs.List.{Contains}
-use Rattle.std.proofs.lemmas.Bool.Decides.{eqb_tells, leb_tells}
-use Rattle.plan_types.specs.declared.machine.AxisDef.{AxisDef}
-use Rattle.plan_types.specs.declared.machine.Machine.{Machine}
-use Rattle.plan_types.specs.Lines.{Clocks}
-use Rattle.clock_line.specs.Early.{turn_tick}
-use Rattle.msg_code.specs.declared.cmd.Cmd.{Cmd}
+use Rattle.laws_board.proofs.Names.{eqb_tells, leb_tells, AxisDef, Machine, Clocks, turn_tick, Cmd, Ctl, Order, Fired, Seen, GroupState, turned_group, all_fired, relay_in, relays_in, round_of, command_to, commands_to, low, order_command, trigger_of}
 use Rattle.msg_code.specs.declared.cmd.Cmd.TheVariants as cmd
-use Rattle.trigger_group.specs.declared.order.Ctl.{Ctl}
-use Rattle.trigger_group.specs.declared.order.Order.{Order}
 use Rattle.trigger_group.specs.declared.order.Order.TheVariants as order
 use Rattle.trigger_group.specs.declared.round.Round.TheVariants.{Relays, Timeouts}
-use Rattle.trigger_group.specs.declared.seen.Fired.{Fired}
-use Rattle.trigger_group.specs.declared.seen.Seen.{Seen}
-use Rattle.trigger_group.specs.Group.{GroupState, turned_group, all_fired, limit, orders, relay_begins, relay_from, relay_in, relays_in, round_of, to_board, unless_fired}
+use Rattle.trigger_group.specs.Group.{limit, orders, relay_begins, relay_from, to_board, unless_fired}
 use Rattle.trigger_group.proofs.Answering.{either, none_there}
-use Rattle.axis_homing.specs.Homing.{command_to, commands_to, low, order_command}
-use Rattle.board_asking.specs.Machine.{trigger_of}
 use Rattle.laws_homing.specs.clear_boards.Alive.{RelayNone}
 use Rattle.laws_homing.specs.clear_boards.Turned.{AreSentBehind, IsSentBehind, RelaysOne, SetsTimeout, SetsNone, SetsOne}
 use Rattle.laws_homing.proofs.clear_boards.Renewed.{after_is, orders_are, sent_all}

@@ -1,16 +1,8 @@
 -- What a board is sent in a turn of a homing section, by what its group knows.
 use Rattle.std.proofs.Common.{◌≡◌, ℕ, ◌+◌, ◌≤◌, true, false, List, None, sym, subst, ◌⊎◌, inl, inr}
 use Rattle.std.specs.List.{Contains}
-use Rattle.plan_types.specs.declared.machine.Machine.{Machine}
-use Rattle.plan_types.specs.Lines.{Clocks}
-use Rattle.plan_types.specs.Machines.{axis_at}
-use Rattle.clock_line.specs.Early.{turn_tick}
-use Rattle.msg_code.specs.declared.cmd.Cmd.{Cmd}
-use Rattle.trigger_group.specs.declared.seen.Seen.{Seen}
-use Rattle.trigger_group.specs.Group.{GroupState, turned_group, all_fired, any_fired_by, orders, relay_begins, relay_in, relays_in}
-use Rattle.axis_homing.specs.declared.homing.Homing.{Homing}
-use Rattle.axis_homing.specs.Homing.{commands_to, low}
-use Rattle.board_asking.specs.Machine.{trigger_of}
+use Rattle.laws_board.proofs.Names.{Machine, Clocks, axis_at, turn_tick, Cmd, Seen, GroupState, turned_group, all_fired, relay_in, relays_in, Homing, commands_to, low, trigger_of}
+use Rattle.trigger_group.specs.Group.{any_fired_by, orders, relay_begins}
 use Rattle.laws_homing.specs.clear_boards.Alive.{RelayNone}
 use Rattle.laws_homing.specs.clear_boards.Ordered.{IsOrdered}
 use Rattle.laws_homing.specs.clear_boards.Turned.{AreSentBehind, RelaysOne, SetsNone, SetsOne}

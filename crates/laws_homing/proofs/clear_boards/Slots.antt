@@ -1,32 +1,25 @@
 -- What holds of each trigger of a board is carried over time, and over commands, by what these make of one trigger.
 use Rattle.std.proofs.Common.{◌≡◌, ◌≢◌, ℕ, zero, suc, ◌+◌, ◌/◌, ◌%◌, ◌^◌, ◌<◌, ◌≤◌, Bool, true, false, List, [], ◌∷◌, length, get_or, set, Option, Some, None, refl, ap, sym, ◌∙◌, subst, arith, ◌⊎◌, inl, inr}
 use Rattle.std.specs.Prelude.{if◌then◌else◌, slice_index_or, nat_le, nat_lt}
-use Rattle.std.proofs.lemmas.Bool.Decides.{leb_tells}
-use Rattle.std.proofs.lemmas.List.{get_or-set_other, get_or-set_same, length-map, length-set}
+use Rattle.laws_board.proofs.Names.{leb_tells, get_or-set_same, length-map, Level, BoardState, Running, Shut, nearest, Pending, Trigger, Happening, Nothing, Expires, Switches, Reports, Cmd, Passed, Rig, Slot, acts, acts_running, all_left, at_of, becomes, earliest_moment, expires_at_once, goes_on, happens_to, pass, passes, passes_by, rests_to, runs_to, set_timeout, slot_at, takes, takes_all, slot_range, says, no_both}
+use Rattle.std.proofs.lemmas.List.{get_or-set_other, length-set}
 use Rattle.plan_types.specs.Numbers.{tick_before}
-use Rattle.plan_types.specs.declared.levels.Level.{Level}
-use Rattle.plan_types.specs.declared.plan.BoardState.{BoardState}
-use Rattle.plan_types.specs.declared.plan.BoardState.TheVariants.{Running, Shut}
-use Rattle.plan_types.specs.Board.{nearest}
-use Rattle.board_step.specs.Steps.{Pending}
 use Rattle.board_trig.specs.declared.sampling.Homing.{Homing}
-use Rattle.board_trig.specs.declared.trigger.Trigger.{Trigger}
-use Rattle.board_trig.specs.declared.trigger.Happening.{Happening}
-use Rattle.board_trig.specs.declared.trigger.Happening.TheVariants.{Nothing, Expires, Switches, Reports}
 use Rattle.board_trig.specs.Kept.{MovesOn}
 use Rattle.board_trig.specs.Nexts.{ExpiresAt, IsNextOf, SwitchesAt}
 use Rattle.board_trig.specs.Trigger as trig
 use Rattle.board_trig.proofs.Nexts.{is_next, was_before, was_switch}
-use Rattle.msg_code.specs.declared.cmd.Cmd.{Cmd}
 use Rattle.msg_code.specs.declared.cmd.Cmd.TheVariants as cmd
 use Rattle.board_sim.specs.Board.{stepper_at, takes as board_takes}
-use Rattle.board_sim.specs.Rig.{Passed, Rig, Slot, acts, acts_running, all_left, at_of, becomes, bind, by_board, earliest_moment, expires_at_once, goes_on, happens_at, happens_to, home, make_endstop, make_trigger, moment_in, moment_of, pass, passes, passes_by, rested, rests_to, runs_to, set_timeout, slot_at, sooner, start_trigger, takes, takes_all, tell, trigger_answers, trigger}
-use Rattle.board_sim.proofs.Bound.{map_at, same_or_not, slot_range}
+use Rattle.board_sim.specs.Rig.{bind, by_board, happens_at, home, make_endstop, make_trigger, moment_in, moment_of, rested, sooner, start_trigger, tell, trigger_answers, trigger}
+use Rattle.board_sim.proofs.Bound.{map_at, same_or_not}
 use Rattle.board_sim.proofs.RigTicks.{takes_rig_tick}
-use Rattle.board_world.specs.World.{says, shut_before}
+use Rattle.board_world.specs.World.{shut_before}
 use Rattle.laws_board.proofs.clocks.Answers.{Each, each_both}
 use Rattle.laws_homing.specs.home_runs.Guards.{IsSole}
 use Rattle.laws_homing.proofs.home_runs.Saying.{IsOther, board_tells, shut_other}
+use Rattle.plan_types.proofs.Facts.{some_same}
+use Rattle.board_sim.proofs.Sound.{at_set, rested_is}
 
 -- each of some answers is so, where all are
 pub each_of : (Q : Cmd → Type 0) (cs : List Cmd) → ((c : Cmd) → Q c) → Each Q cs
@@ -41,22 +34,8 @@ set_either (x ∷ xs) zero (suc j) v = inr refl
 set_either (x ∷ xs) (suc i) zero v = inr refl
 set_either (x ∷ xs) (suc i) (suc j) v = elim (set_either xs i j v) [ inl p ↦ inl (ap (λ n. suc n) p.0, p.1) | inr e ↦ inr e ]
 
-pub some_same : {A : Type 0} (a b : A) → Some a ≡ Some b → a ≡ b
-some_same a b e = cc
-
-pub no_both : (b : Bool) → b ≡ true → b ≡ false → ⊥
-no_both true e f = cc
-no_both false e f = cc
-
 pub clock_small : (tick : ℕ) → tick % 2 ^ 32 < 2 ^ 32
 clock_small tick = omega arith
-
-pub at_set : (xs : List (Option Slot)) (k oid : ℕ) (u s : Slot) → get_or (set xs k (Some u)) oid None ≡ Some s → (oid ≡ k) ⊎ (oid ≢ k) → (s ≡ u) ⊎ (get_or xs oid None ≡ Some s)
-at_set xs k oid u s e same = elim (set_either xs k oid (Some u)) [ inl p ↦ inl (some_same s u (sym e ∙ p.1)) | inr p ↦ inr (sym p ∙ e) ]
-
-pub rested_is : (pins : List (List Level)) (t : ℕ) (o : Option Slot) (u : Slot) → rested pins t o ≡ Some u → (s : Slot) × (o ≡ Some s) × (u ≡ record s { trigger = (trig.happened (slice_index_or pins s.pin []) t Nothing s.trigger).trigger })
-rested_is pins t None u e = absurd (cc)
-rested_is pins t (Some s) u e = (s, refl, cc)
 
 -- where nothing happens before a tick, nothing happens to any trigger
 pub moment_none : (e : Happening) → moment_of e ≡ None → e ≡ Nothing

@@ -1,15 +1,9 @@
 -- The reasons and clocks of what a board tells of its triggers fit.
 use Rattle.std.proofs.Common.{◌≡◌, ℕ, ◌^◌, ◌<◌, List, [], ◌∷◌, ◌++◌, length, Option, Some, None, refl, arith}
 use Rattle.std.specs.Prelude.{if◌then◌else◌}
-use Rattle.plan_types.specs.declared.levels.Level.{Level}
-use Rattle.board_trig.specs.declared.sampling.Sampling.{Sampling}
-use Rattle.board_trig.specs.declared.trigger.Happening.{Happening}
-use Rattle.board_trig.specs.declared.trigger.Happening.TheVariants.{Nothing, Expires, Switches, Reports}
+use Rattle.laws_board.proofs.Names.{Level, Sampling, Happening, Nothing, Expires, Switches, Reports, Cmd, Rig, Slot, passes, takes_all, says}
 use Rattle.board_trig.specs.Trigger as trig
-use Rattle.msg_code.specs.declared.cmd.Cmd.{Cmd}
 use Rattle.msg_code.specs.declared.cmd.Cmd.TheVariants as cmd
-use Rattle.board_sim.specs.Rig.{Rig, Slot, passes, takes_all}
-use Rattle.board_world.specs.World.{says}
 use Rattle.laws_board.proofs.clocks.Answers.{Each, each_both}
 use Rattle.laws_homing.specs.clear_boards.Firing.{AllSmall, AreSmall, HasSmall, IsSmall}
 use Rattle.laws_homing.specs.clear_boards.Turned.{AreSentBehind, IsSentBehind}

@@ -1,17 +1,7 @@
 -- A board of a link stands at its tick as a turn begins, its triggers are sound, and it ran through a turn of which no shutdown is told.
 use Rattle.std.proofs.Common.{◌≡◌, ℕ, ◌+◌, List, [], ◌∷◌, length, None, ap, sym, ◌∙◌}
-use Rattle.plan_types.specs.declared.levels.Level.{Level}
-use Rattle.plan_types.specs.declared.machine.BoardDef.{BoardDef}
-use Rattle.plan_types.specs.declared.plan.BoardState.TheVariants.{Running}
-use Rattle.plan_types.specs.Clock.{board_tick, clock_of}
-use Rattle.wire_scene.specs.declared.scene.Entry.{Entry}
-use Rattle.board_sim.specs.Fair.{commands_of}
-use Rattle.board_sim.specs.Rig.{Rig, takes_all}
-use Rattle.board_sim.specs.RigRuns.{AllSound}
+use Rattle.laws_board.proofs.Names.{Level, BoardDef, Running, board_tick, clock_of, Entry, commands_of, Rig, takes_all, AllSound, AllKeepLimits, queued_in, first_state, orders}
 use Rattle.board_sim.proofs.RigStates.{passes_state}
-use Rattle.link_work.specs.Limits.{AllKeepLimits}
-use Rattle.link_work.specs.Runs.{queued_in}
-use Rattle.link_work.specs.Stands.{first_state, orders}
 use Rattle.link_work.proofs.Answered.{begins}
 use Rattle.laws_board.specs.turns.Turns.{AreBoardTurns, BoardTurn, stands_after}
 use Rattle.laws_board.specs.clocks.Runs.{orders_in}

@@ -1,34 +1,15 @@
 -- A board of a homing group whose trigger can trigger, over a turn of a clear link.
 use Rattle.std.proofs.Common.{◌≡◌, ℕ, ◌+◌, ◌-◌, ◌*◌, ◌%◌, ◌^◌, ◌<◌, ◌≤◌, inl, inr, true, false, List, [], ◌∷◌, length, None, Some, max, ap, sym, ◌∙◌, subst, arith, ◌⊎◌}
-use Rattle.std.proofs.lemmas.Bool.Decides.{leb_tells}
-use Rattle.plan_types.specs.declared.levels.Level.{Level}
-use Rattle.plan_types.specs.declared.machine.BoardDef.{BoardDef}
-use Rattle.plan_types.specs.declared.plan.BoardState.TheVariants.{Running}
-use Rattle.plan_types.specs.Board.{nearest}
-use Rattle.plan_types.specs.Clock.{board_tick, clock_of, turn_ns, run_turns}
-use Rattle.plan_types.specs.Lines.{Clocks, lines_tick}
-use Rattle.plan_types.specs.Sections.{clocks_at}
-use Rattle.clock_line.specs.Early.{turn_in_run, turn_tick}
-use Rattle.wire_scene.specs.declared.scene.Entry.{Entry}
-use Rattle.msg_code.specs.declared.cmd.Cmd.{Cmd}
-use Rattle.msg_code.specs.declared.talk.State.{State}
-use Rattle.board_sim.specs.Fair.{commands_of}
-use Rattle.board_sim.specs.Rig.{Rig, Slot, passes, slot_at, takes_all}
-use Rattle.board_sim.specs.RigRuns.{AllSound}
-use Rattle.board_sim.proofs.Bound.{one_slot}
+use Rattle.laws_board.proofs.Names.{leb_tells, Level, BoardDef, Running, nearest, board_tick, clock_of, turn_ns, Clocks, lines_tick, clocks_at, turn_in_run, turn_tick, Entry, Cmd, State, commands_of, Rig, Slot, passes, slot_at, takes_all, AllSound, one_slot, queued_in, first_state, orders, Homing, hears_all, low, state_at}
+use Rattle.plan_types.specs.Clock.{run_turns}
 use Rattle.board_sim.proofs.RigStates.{all_tick}
 use Rattle.board_sim.proofs.Sound.{sound_regular}
 use Rattle.laws_homing.specs.clear_boards.Rests.{RestsOver}
-use Rattle.link_work.specs.Runs.{queued_in}
-use Rattle.link_work.specs.Stands.{first_state, orders}
 use Rattle.laws_board.specs.turns.Turns.{AreBoardTurns, BoardTurn, stands_after}
 use Rattle.laws_board.specs.sections.Events.{AreTicks}
 use Rattle.laws_board.specs.sections.Parts.{AreTracked}
 use Rattle.laws_board.proofs.sections.Clocks.{ticks_rise}
 use Rattle.laws_homing.specs.home_runs.Guards.{HasFired}
-use Rattle.axis_homing.specs.declared.homing.Homing.{Homing}
-use Rattle.axis_homing.specs.Homing.{hears_all, low}
-use Rattle.host_reactor.specs.Runs.{state_at}
 use Rattle.laws_homing.specs.clear_boards.Alive.{IsAlive, RelayNone}
 use Rattle.laws_homing.specs.clear_boards.Clocking.{IsAhead}
 use Rattle.laws_homing.specs.clear_boards.Hearing.{AllFiredIn, FiringNone, NoneOn}
@@ -43,15 +24,13 @@ use Rattle.laws_homing.proofs.clear_boards.Knowing.{hears_fired, hears_none, non
 use Rattle.laws_homing.proofs.clear_boards.Lately.{heard_on, near_so}
 use Rattle.laws_homing.proofs.clear_boards.Member.{all_sound, takes_spoken, turn_numbered, turn_off, turn_spoken}
 use Rattle.laws_homing.proofs.clear_boards.Turned.{next_all, takes_turned, turn_ahead}
+use Rattle.laws_homing.proofs.home_runs.Grouped.{sole_state}
 
 alive_not : (oid : ℕ) (r : Rig) (s : Slot) → slot_at r oid ≡ Some s → s.trigger.can ≡ true → HasFired oid r → ⊥
 alive_not oid r s there can f =
     let same : s ≡ f.slot = one_slot (slot_at r oid) s f.slot there f.is in
     let bad : true ≡ false = sym can ∙ ap (λ (x : Slot). x.trigger.can) same ∙ f.fired in
     cc
-
-one_state : (s u : State) → u ∷ [] ≡ s ∷ [] → u ≡ s
-one_state s u e = cc
 
 module _ (b : BoardDef) (pins : List (List Level)) (place : ℕ) (entries : List Entry) (t : BoardTurn) (before : List BoardTurn) (rests : RestsOver t before) (are : AreBoardTurns (clock_of b) (first_state b pins place entries) (t ∷ before)) where
   abbrev own : ℕ → ℕ
@@ -109,7 +88,7 @@ module _ (b : BoardDef) (pins : List (List Level)) (place : ℕ) (entries : List
               let heard_now = heard_on b pins place entries t before rests are all states h oid base every a.next (max base now) limit ready ticks k few is together begins early_so low_so soon start_soon in_run small oid_small spoken stays heard in
               let off = turn_off oid clock until Start Commands few_triggers (omega (arith, places, few_triggers)) (limited 0).sole taken.sole behind in
               let firing = none_firing b pins place entries t before rests are (HasFired oid After) off (λ f. alive_not oid After stays.alive.slot stays.alive.is stays.alive.can f) in
-              let unknown = hears_none place all states h (λ s there. subst (λ (x : State). FiringNone x.news) (one_state s t.state (sym is ∙ there)) firing) known in
+              let unknown = hears_none place all states h (λ s there. subst (λ (x : State). FiringNone x.news) (sole_state s t.state (sym is ∙ there)) firing) known in
               inl (stays.alive, heard_now, near_so own base every h.group.start place (length before + 1) stays.alive.next members ticks goes early_base stays.alive.due heard_now, unknown)
           | inr off ↦
               let all_spoken = turn_spoken (max base now) limit until Start Commands (takes_spoken (max base now) limit until oid clock now Start Commands a.slot runs a.is told at later_clock behind relays) spoken in

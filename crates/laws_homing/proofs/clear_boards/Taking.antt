@@ -1,36 +1,23 @@
 -- On a clear link a board takes in each turn what is queued in it.
 use Rattle.std.proofs.Common.{◌≡◌, ◌++◌, ℕ, ◌+◌, Bool, List, [], ◌∷◌, length, refl, ap, sym, ◌∙◌, append-nil, append_assoc}
-use Rattle.plan_types.specs.declared.machine.BoardDef.{BoardDef}
-use Rattle.plan_types.specs.declared.levels.Level.{Level}
-use Rattle.plan_types.specs.Clock.{clock_of, board_tick}
-use Rattle.wire_scene.specs.declared.scene.Entry.{Entry}
-use Rattle.link_work.specs.Limits.{AllKeepLimits}
-use Rattle.link_work.specs.Stands.{first_state, orders}
-use Rattle.link_work.specs.Turn.{IsTurn, LinkState, Orders, after_board, after_host, come, comes, host_steps, resends, sends}
+use Rattle.laws_board.proofs.Names.{BoardDef, Level, clock_of, board_tick, Entry, AllKeepLimits, first_state, orders, IsTurn, LinkState, Orders, after_board, after_host, come, Core, Step, Do, Turn, world_after, after_event, run_world, takes_in, queued_in, Meant, commands_of, Rig, passes, takes, takes_all, Cmd, BoardClock, Down, Up, run_append, append_cancel_left}
+use Rattle.link_work.specs.Turn.{comes, host_steps, resends, sends}
 use Rattle.link_work.proofs.Answered.{begins}
 use Rattle.link_work.proofs.Draining.{parts_of}
 use Rattle.laws_board.specs.turns.Turns.{AreBoardTurns, BoardTurn, stands_after}
 use Rattle.laws_board.specs.clocks.Runs.{orders_in}
 use Rattle.laws_board.proofs.clocks.Orders.{turns_in_order}
 use Rattle.laws_board.proofs.sections.Calm.{AreClear}
-use Rattle.board_world.specs.World.{Core, Step, Do, Turn, world_after, after_event, run_world, takes_in}
-use Rattle.link_work.specs.Runs.{queued_in}
 use Rattle.laws_homing.specs.home_runs.Sections.{queued_in_turns}
-use Rattle.board_sim.specs.Fair.{Meant, commands_of}
-use Rattle.board_sim.specs.Rig.{Rig, passes, takes, takes_all}
 use Rattle.board_world.specs.declared.event.Event.TheVariants as event
-use Rattle.msg_code.specs.declared.cmd.Cmd.{Cmd}
-use Rattle.plan_types.specs.declared.clock.BoardClock.{BoardClock}
-use Rattle.wire_scene.specs.declared.scene.Way.TheVariants.{Down, Up}
 use Rattle.wire_scene.specs.declared.wire.Fate.{Fate}
 use Rattle.wire_scene.specs.declared.wire.Fate.TheVariants.{Lost, Last, Stays, Garbled}
-use Rattle.link_work.proofs.Sending.{run_append}
-use Rattle.std.proofs.lemmas.List.{append_cancel_left}
 use Rattle.link_work.proofs.Steps.{AllOf, all_append, all_come, all_resent, all_sent}
 use Rattle.laws_homing.proofs.home_runs.Staging.{commands_both}
 use Rattle.laws_homing.proofs.home_runs.Resting.{rests_took}
 use Rattle.laws_homing.specs.clear_boards.Rests.{RestsOver}
 use Rattle.laws_homing.proofs.clear_boards.Rests.{clear_over, free_at, rests_idle}
+use Rattle.board_sim.proofs.Heeding.{all_append as takes_both}
 
 -- steps in which a board takes nothing and doesn't run on
 abbrev IsQuiet : Step → Type 0
@@ -80,10 +67,6 @@ coming_step (Do event.Garble) h c = record { meant = []; taken = refl; board = r
 coming_step (Do event.Arrive) h c = record { meant = takes_in h event.Arrive; taken = refl; board = refl }
 coming_step (Do event.Repeat) h c = record { meant = takes_in h event.Repeat; taken = refl; board = refl }
 coming_step s h c = absurd c
-
-pub takes_both : (r : Rig) (xs ys : List Cmd) → (takes_all r (xs ++ ys)).rig ≡ (takes_all (takes_all r xs).rig ys).rig
-takes_both r [] ys = refl
-takes_both r (c ∷ xs) ys = takes_both (takes r c).rig xs ys
 
 coming_all : (steps : List Step) (h : Core) → AllOf IsComing steps → Obeyed h (run_world steps h)
 coming_all [] h c = record { meant = []; taken = sym (append-nil h.taken); board = refl }

@@ -1,30 +1,16 @@
 -- On a clear link all that a board says as it runs on in a turn is told of this turn.
 use Rattle.std.proofs.Common.{Some, ◌≡◌, ℕ, ◌+◌, ◌≤◌, Bool, true, false, List, [], ◌∷◌, ◌++◌, length, map, take, refl, ap, sym, ◌∙◌, subst, arith, inl, inr}
 use Rattle.std.specs.Prelude.{if◌then◌else◌, nat_le}
-use Rattle.plan_types.specs.declared.clock.BoardClock.{BoardClock}
-use Rattle.plan_types.specs.declared.machine.BoardDef.{BoardDef}
-use Rattle.plan_types.specs.declared.levels.Level.{Level}
-use Rattle.plan_types.specs.Clock.{board_tick, clock_of}
-use Rattle.msg_dict.specs.Own.{own_formats}
-use Rattle.msg_code.specs.declared.cmd.Cmd.{Cmd}
-use Rattle.msg_code.specs.declared.talk.News.{News}
-use Rattle.msg_code.specs.Text.{IsText}
-use Rattle.link_core.specs.Core.{Reply, numbered}
-use Rattle.wire_scene.specs.declared.scene.Entry.{Entry}
-use Rattle.wire_scene.specs.declared.scene.Way.TheVariants.{Up}
+use Rattle.laws_board.proofs.Names.{BoardClock, BoardDef, Level, board_tick, clock_of, own_formats, Cmd, News, IsText, Reply, Entry, Up, Meant, commands_of, Rig, takes_all, Core, after_event, run_world, says, wire_text, queued_in, first_state, orders, LinkState, Orders, after_board, after_host, come}
+use Rattle.link_core.specs.Core.{numbered}
 use Rattle.wire_scene.specs.declared.wire.Fate.{Fate}
 use Rattle.wire_scene.specs.declared.wire.Fate.TheVariants.{Garbled, Last, Lost, Stays}
 use Rattle.wire_scene.specs.Wire.{Copy}
-use Rattle.board_sim.specs.Fair.{Meant, commands_of}
-use Rattle.board_sim.specs.Rig.{Rig, takes_all}
 use Rattle.board_world.specs.declared.event.Event.TheVariants as event
-use Rattle.board_world.specs.World.{Core, after_event, run_world, says, wire_text}
 use Rattle.link_work.specs.Answers.{IsAmong}
-use Rattle.link_work.specs.Runs.{queued_in}
-use Rattle.link_work.specs.Stands.{first_state, orders}
 use Rattle.link_work.specs.Told.{AreNews, heard_in, news_of}
-use Rattle.link_work.specs.Turn.{LinkState, Orders, after_board, after_host, after_replies, come, comes, still}
-use Rattle.link_work.proofs.Answered.{begins}
+use Rattle.link_work.specs.Turn.{after_replies, comes, still}
+use Rattle.link_work.proofs.Answered.{begins, due_if, heard_both}
 use Rattle.link_work.proofs.Draining.{IsSound, parts_of}
 use Rattle.link_work.proofs.Hearing.{heard_append}
 use Rattle.link_work.proofs.OnLines.{AllLast}
@@ -38,21 +24,11 @@ use Rattle.laws_homing.specs.clear_boards.Rests.{RestsOver}
 use Rattle.laws_homing.proofs.clear_boards.Rests.{rests_calm, rests_none}
 use Rattle.laws_homing.proofs.clear_boards.Taking.{taking}
 
--- what is due is heard
-due_if : (b : Bool) (c : Copy) (cs rest : List Copy) → (if b then rest else c ∷ cs) ≡ [] → (b ≡ true) × (rest ≡ [])
-due_if true c cs rest e = (refl, e)
-due_if false c cs rest e = absurd (omega (arith, ap length e))
-
 first_heard : (fate : Fate) (r : Reply) (rs : List Reply) (h : Core) → fate ≡ Last → h.link.up ≡ r ∷ rs → IsAmong r (heard_in (comes Up fate) h)
 first_heard Last r rs h f e = subst (λ (us : List Reply). IsAmong r (take 1 us ++ [])) (sym e) (inl refl)
 first_heard Lost r rs h f e = cc
 first_heard Stays r rs h f e = cc
 first_heard Garbled r rs h f e = cc
-
-heard_both : (turn : ℕ) (c : Copy) (cs : List Copy) (h : Core) → nat_le c.due turn ≡ true
-    → heard_in (come Up turn (c ∷ cs)) h ≡ heard_in (comes Up c.fate) h ++ heard_in (come Up turn cs) (run_world (comes Up c.fate) h)
-heard_both turn c cs h due =
-    ap (λ (b : Bool). heard_in (if b then comes Up c.fate ++ come Up turn cs else []) h) due ∙ heard_append (comes Up c.fate) (come Up turn cs) h
 
 heard_here : (turn : ℕ) (ds : List Copy) (h : Core) (more : List Reply) (r : Reply) → h.link.up ≡ more → length more ≡ length ds → AllLast ds → still turn ds ≡ [] → IsAmong r more
     → IsAmong r (heard_in (come Up turn ds) h)

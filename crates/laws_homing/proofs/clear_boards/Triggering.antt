@@ -1,31 +1,21 @@
 -- A trigger that triggers while commands come behind a section's set-up, and time passes, tells so, of a tick that isn't before another.
 use Rattle.std.proofs.Common.{◌≡◌, ℕ, zero, suc, ◌+◌, ◌/◌, ◌%◌, ◌^◌, ◌<◌, ◌≤◌, Bool, true, false, List, [], ◌∷◌, ◌++◌, get_or, set, Option, Some, None, refl, ap, sym, ◌∙◌, subst, arith, ◌⊎◌, inl, inr, append_assoc}
 use Rattle.std.specs.Prelude.{if◌then◌else◌, slice_index_or, nat_le}
-use Rattle.std.proofs.lemmas.Bool.Decides.{leb_tells}
-use Rattle.std.proofs.lemmas.List.{get_or-set_other, get_or-set_same}
-use Rattle.plan_types.specs.declared.levels.Level.{Level}
-use Rattle.plan_types.specs.declared.plan.BoardState.{BoardState}
-use Rattle.plan_types.specs.declared.plan.BoardState.TheVariants.{Running, Shut}
-use Rattle.plan_types.specs.Board.{nearest}
-use Rattle.board_trig.specs.declared.sampling.Sampling.{Sampling}
-use Rattle.board_trig.specs.declared.trigger.Trigger.{Trigger}
-use Rattle.board_trig.specs.declared.trigger.Happening.{Happening}
-use Rattle.board_trig.specs.declared.trigger.Happening.TheVariants.{Nothing, Expires, Switches, Reports}
+use Rattle.laws_board.proofs.Names.{leb_tells, get_or-set_same, Level, BoardState, Running, Shut, nearest, Sampling, Trigger, Happening, Nothing, Expires, Switches, Reports, Cmd, Passed, Rig, Slot, acts, acts_running, all_left, at_of, becomes, earliest_moment, expires_at_once, goes_on, happens_to, pass, passes, passes_by, rests_to, runs_to, set_timeout, slot_at, takes, takes_all, one_slot, slot_range, no_both}
+use Rattle.std.proofs.lemmas.List.{get_or-set_other}
 use Rattle.board_trig.specs.Trigger as trig
 use Rattle.board_trig.specs.Kept.{MovesOn}
 use Rattle.board_trig.specs.Nexts.{IsNextOf}
 use Rattle.board_trig.specs.Sampling.{IsTriggerTick}
 use Rattle.board_trig.proofs.Nexts.{is_next}
-use Rattle.msg_code.specs.declared.cmd.Cmd.{Cmd}
 use Rattle.msg_code.specs.declared.cmd.Cmd.TheVariants as cmd
-use Rattle.board_sim.specs.Rig.{Passed, Rig, Slot, acts, acts_running, all_left, at_of, becomes, earliest_moment, expires_at_once, goes_on, happens_at, happens_to, levels_of, pass, passes, passes_by, rested, rests_to, runs_to, set_timeout, slot_at, takes, takes_all, trigger_answers, trigger}
-use Rattle.board_sim.proofs.Bound.{map_at, one_slot, same_or_not, slot_range}
+use Rattle.board_sim.specs.Rig.{happens_at, levels_of, rested, trigger_answers, trigger}
+use Rattle.board_sim.proofs.Bound.{map_at, same_or_not}
 use Rattle.board_sim.proofs.Halting.{quiet_moves, quiet_switch}
 use Rattle.board_sim.proofs.RigTicks.{takes_rig_tick}
 use Rattle.laws_homing.specs.clear_boards.Firing.{TellOff}
 use Rattle.laws_homing.specs.clear_boards.Turned.{AreSentBehind, IsSentBehind, Relays, RelaysOne, SetsTimeout, SetsOne}
 use Rattle.laws_homing.proofs.clear_boards.Firing.{off_behind, off_front}
-use Rattle.laws_homing.proofs.clear_boards.Slots.{no_both}
 
 -- a trigger that can trigger, at no tick before this one
 pub record Keen (low : ℕ) (pins : List (List Level)) (s : Slot) : Type 0 where

@@ -1,21 +1,14 @@
 -- A board's turn behind the set-up of a homing section.
 use Rattle.std.proofs.Common.{◌≡◌, ℕ, suc, ◌+◌, ◌<◌, ◌≤◌, Bool, true, false, List, [], ◌∷◌, Option, Some, None, refl, ap, sym, ◌∙◌, subst, arith, ◌⊎◌, inl, inr}
 use Rattle.std.specs.Prelude.{if◌then◌else◌, nat_le}
-use Rattle.std.proofs.lemmas.List.{get_or-set_same}
-use Rattle.plan_types.specs.declared.plan.BoardState.{BoardState}
-use Rattle.plan_types.specs.declared.plan.BoardState.TheVariants.{Running, Shut}
-use Rattle.plan_types.specs.Board.{nearest}
-use Rattle.msg_code.specs.declared.cmd.Cmd.{Cmd}
+use Rattle.laws_board.proofs.Names.{get_or-set_same, BoardState, Running, Shut, nearest, Cmd, Trigger, Controller, is_shut, Passed, Rig, Slot, acts_running, all_left, pass, passes, slot_at, takes, takes_all, one_slot, slot_range, says}
 use Rattle.msg_code.specs.declared.cmd.Cmd.TheVariants as cmd
-use Rattle.board_trig.specs.declared.trigger.Trigger.{Trigger}
 use Rattle.board_trig.specs.Trigger as trig
-use Rattle.board_sim.specs.Board.{Controller, is_shut}
-use Rattle.board_sim.specs.Rig.{Passed, Rig, Slot, acts_running, all_left, pass, passes, slot_at, takes, takes_all, trigger}
+use Rattle.board_sim.specs.Rig.{trigger}
 use Rattle.board_sim.specs.Turn.{says_shut}
-use Rattle.board_sim.proofs.Bound.{one_slot, slot_range}
 use Rattle.board_sim.proofs.RigShut.{all_left_by}
 use Rattle.board_sim.proofs.RigTicks.{takes_rig_tick}
-use Rattle.board_world.specs.World.{says, shut_before}
+use Rattle.board_world.specs.World.{shut_before}
 use Rattle.laws_homing.specs.home_runs.Guards.{HasFired, IsCalm, IsSole}
 use Rattle.laws_homing.proofs.home_runs.Guarding.{Next, fired_next, passes_next, takes_next}
 use Rattle.laws_homing.proofs.home_runs.Saying.{EachCalm, all_next}

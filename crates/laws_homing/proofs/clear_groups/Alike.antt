@@ -2,22 +2,12 @@
 use Rattle.std.proofs.Common.{◌≡◌, ℕ, ◌+◌, ◌-◌, ◌*◌, ◌/◌, ◌^◌, ◌≤◌, ◌==◌, min, cond, Bool, true, false, List, [], ◌∷◌, ◌++◌, map, refl, ap, ◌∙◌, arith}
 use Rattle.std.specs.Prelude.{drop, take}
 use Rattle.msg_code.specs.Units.{bit}
-use Rattle.plan_types.specs.declared.machine.AxisDef.{AxisDef}
-use Rattle.plan_types.specs.declared.machine.Machine.{Machine}
-use Rattle.plan_types.specs.Lines.{Clocks}
-use Rattle.plan_types.specs.Machines.{axis_at, board_at, stepper_at}
-use Rattle.clock_line.specs.Early.{turn_tick}
-use Rattle.msg_code.specs.declared.cmd.Cmd.{Cmd}
+use Rattle.laws_board.proofs.Names.{AxisDef, Machine, Clocks, axis_at, board_at, stepper_at, turn_tick, Cmd, trigger_of, Ctl, Order, Homes, Starts, Seen, GroupState, round_of, steppers, Homing, command_to, commands_to, low, order_command}
 use Rattle.msg_code.specs.declared.cmd.Cmd.TheVariants as cmd
-use Rattle.board_asking.specs.Machine.{endstop_pins, trigger_of}
-use Rattle.trigger_group.specs.declared.order.Ctl.{Ctl}
-use Rattle.trigger_group.specs.declared.order.Order.{Order}
+use Rattle.board_asking.specs.Machine.{endstop_pins}
 use Rattle.trigger_group.specs.declared.order.Order.TheVariants as order
-use Rattle.trigger_group.specs.declared.round.Round.TheVariants.{Homes, Starts}
-use Rattle.trigger_group.specs.declared.seen.Seen.{Seen}
-use Rattle.trigger_group.specs.Group.{GroupState, orders, orders_to, round_of, steppers, stop, to_board}
-use Rattle.axis_homing.specs.declared.homing.Homing.{Homing}
-use Rattle.axis_homing.specs.Homing.{command_to, commands_to, low, order_command, place_from}
+use Rattle.trigger_group.specs.Group.{orders, orders_to, stop, to_board}
+use Rattle.axis_homing.specs.Homing.{place_from}
 use Rattle.laws_board.specs.sections.Parts.{AreTracked}
 use Rattle.laws_homing.specs.clear_boards.Ordered.{IsOrdered}
 use Rattle.laws_homing.specs.clear_groups.Sections.{IsAlike, IsFollowed}

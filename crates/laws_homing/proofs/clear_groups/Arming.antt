@@ -1,10 +1,6 @@
 -- A board whose trigger is armed, while time passes up to the section's first tick.
 use Rattle.std.proofs.Common.{◌≡◌, ℕ, ◌<◌, ◌≤◌, ◌⊎◌, inl, inr, Bool, true, false, [], Some, refl, ap, sym, ◌∙◌, subst, arith}
-use Rattle.plan_types.specs.declared.plan.BoardState.TheVariants.{Running}
-use Rattle.plan_types.specs.Board.{nearest}
-use Rattle.board_sim.specs.Rig.{Passed, Rig, Slot, passes, slot_at}
-use Rattle.board_sim.specs.RigRuns.{AllSound}
-use Rattle.board_sim.proofs.Bound.{one_slot}
+use Rattle.laws_board.proofs.Names.{Running, nearest, Passed, Rig, Slot, passes, slot_at, AllSound, one_slot}
 use Rattle.board_sim.proofs.Sound.{sound_regular}
 use Rattle.laws_homing.specs.clear_boards.Alive.{IsAlive, IsSwitched, StaysAlive}
 use Rattle.laws_homing.specs.clear_boards.Firing.{AllSmall, HasSmall}

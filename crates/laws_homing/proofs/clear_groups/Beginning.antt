@@ -1,40 +1,14 @@
 -- A homing section whose boards take its set-up is safe from then on.
 use Rattle.std.proofs.Common.{◌≡◌, ℕ, suc, ◌+◌, ◌-◌, ◌*◌, ◌^◌, ◌<◌, ◌≤◌, ◌==◌, inl, inr, Bool, true, false, cond, List, [], ◌∷◌, ◌++◌, length, map, Some, None, refl, ap, sym, ◌∙◌, subst, arith}
 use Rattle.std.specs.Prelude.{nat_le}
-use Rattle.std.proofs.lemmas.Bool.Decides.{nat_tests}
-use Rattle.plan_types.specs.declared.levels.Level.{Level}
-use Rattle.plan_types.specs.declared.machine.Machine.{Machine}
-use Rattle.plan_types.specs.declared.plan.BoardState.TheVariants.{Running}
-use Rattle.plan_types.specs.Clock.{board_tick, clock_of, turn_ns}
-use Rattle.plan_types.specs.Lines.{Clocks, lines_tick}
-use Rattle.plan_types.specs.Machines.{axis_at, board_at}
-use Rattle.plan_types.specs.Sections.{clocks_at}
-use Rattle.clock_line.specs.Early.{turn_tick}
-use Rattle.wire_scene.specs.declared.scene.Entry.{Entry}
-use Rattle.wire_scene.specs.declared.scene.Switch.{Switch}
-use Rattle.msg_code.specs.declared.cmd.Cmd.{Cmd}
-use Rattle.msg_code.specs.declared.talk.State.{State}
-use Rattle.board_asking.specs.Machine.{trigger_of}
-use Rattle.board_sim.specs.Fair.{commands_of}
-use Rattle.board_sim.specs.Rig.{Rig, passes, takes_all}
+use Rattle.laws_board.proofs.Names.{nat_tests, Level, Machine, Running, board_tick, clock_of, turn_ns, Clocks, lines_tick, axis_at, board_at, clocks_at, turn_tick, Entry, Switch, Cmd, State, trigger_of, commands_of, Rig, passes, takes_all, queued_in, first_state, orders as taken_orders, Ctl, Member, Sends, Homes, Starts, Seen, GroupState, first_timeout, phase, round_of, unseen, Homing, answer_in, commands_to, hears_all, low, members_of, noted, Came, known_by}
 use Rattle.board_sim.proofs.RigStates.{all_tick}
 use Rattle.laws_homing.specs.clear_boards.Rests.{RestsOver}
-use Rattle.link_work.specs.Runs.{queued_in}
-use Rattle.link_work.specs.Stands.{first_state, orders as taken_orders}
 use Rattle.laws_board.specs.turns.Turns.{AreBoardTurns, BoardTurn, stands_after}
 use Rattle.laws_board.proofs.clocks.Lines.{as_long, noted_phase}
-use Rattle.trigger_group.specs.declared.order.Ctl.{Ctl}
-use Rattle.trigger_group.specs.declared.order.Member.{Member}
 use Rattle.trigger_group.specs.declared.round.Phase.{Phase as GroupPhase}
-use Rattle.trigger_group.specs.declared.round.Phase.TheVariants.{Sends}
-use Rattle.trigger_group.specs.declared.round.Round.TheVariants.{Homes, Starts}
-use Rattle.trigger_group.specs.declared.seen.Seen.{Seen}
-use Rattle.trigger_group.specs.Group.{GroupState, after_in, first_timeout, orders, orders_of_group as ordered_in, phase, round_of, unseen}
-use Rattle.axis_homing.specs.declared.homing.Homing.{Homing}
-use Rattle.axis_homing.specs.Homing.{answer_in, commands_to, hears_all, hears_news, hears_state, hears_states, low}
-use Rattle.axis_homing.specs.Rising.{members_of}
-use Rattle.host_reactor.specs.Notes.{noted}
-use Rattle.host_reactor.specs.Runs.{Came, known_by}
+use Rattle.trigger_group.specs.Group.{after_in, orders, orders_of_group as ordered_in}
+use Rattle.axis_homing.specs.Homing.{hears_news, hears_state, hears_states}
 use Rattle.host_reactor.proofs.Resting.{picked}
 use Rattle.laws_homing.specs.home_runs.Told.{IsMember}
 use Rattle.laws_homing.specs.clear_boards.Alive.{RelayNone}
@@ -57,7 +31,9 @@ use Rattle.laws_homing.proofs.clear_groups.Alike.{AreBy, homes_by, ordered_alike
 use Rattle.laws_homing.proofs.clear_groups.Arming.{armed_alive, armed_limited, armed_passes, armed_small}
 use Rattle.laws_homing.proofs.clear_groups.Known.{behind_turn, homing_next, of_known}
 use Rattle.laws_homing.proofs.clear_groups.Sections.{cut_rests}
-use Rattle.laws_homing.proofs.clear_groups.SetUp.{homed, others, started, takes_both}
+use Rattle.laws_homing.proofs.clear_groups.SetUp.{homed, others, started}
+use Rattle.axis_homing.proofs.Rises.{unseen-members}
+use Rattle.board_sim.proofs.Heeding.{all_append}
 
 -- the turns of the set-up
 chosen : {A : Type 0} → (b : Bool) (x y : A) → b ≡ true → cond b x y ≡ x
@@ -107,10 +83,6 @@ until_new : (start b most : ℕ) (ms : List Member) → start ≤ most → Heard
 until_new start b most [] l = tt
 until_new start b most (m ∷ ms) l = ((λ is. l), until_new start b most ms l)
 
-pub same_unseen : (ms : List Member) → map (λ (s : Seen). s.member) (map unseen ms) ≡ ms
-same_unseen [] = refl
-same_unseen (m ∷ ms) = ap (λ (xs : List Member). m ∷ xs) (same_unseen ms)
-
 -- a board's turn
 module _ (m : Machine) (b : ℕ) (pins : List (List Level)) (entries : List Entry) (t : BoardTurn) (before : List BoardTurn) (rests : RestsOver t before)
     (are : AreBoardTurns (clock_of (board_at m b)) (first_state (board_at m b) pins b entries) (t ∷ before)) (shut : t.state.shut ≡ None)
@@ -157,7 +129,7 @@ module _ (m : Machine) (b : ℕ) (pins : List (List Level)) (entries : List Entr
       let order = f.goes in
       let rises = f.rises (length before) in
       let q = (takes_all Start A).rig in
-      let rigs : Taken ≡ (takes_all q tail).rig = ap (λ (cs : List Cmd). (takes_all Start cs).rig) e ∙ takes_both Start A tail in
+      let rigs : Taken ≡ (takes_all q tail).rig = ap (λ (cs : List Cmd). (takes_all Start cs).rig) e ∙ all_append Start A tail in
       let runs_tail : (takes_all q tail).rig.controller.state ≡ Running = ap (λ (z : Rig). z.controller.state) (sym rigs) ∙ runs in
       let armed : Armed Taken = subst Armed (sym rigs) (others (trigger_of m b) Base (report_ticks m b) q tail (Some Limit) runs_tail behind calm (mid (ran q tail runs_tail))) in
       let limit = ahead_of Timeout (omega (arith, far, order)) (omega arith) (omega arith) in
@@ -299,7 +271,7 @@ module _ (m : Machine) (switches : List Switch) (pins : ℕ → List (List Level
         ordered_alike m (clocks_at (Clocks_of d (e ∷ past)) b) (lines b) b (k + 276) First k Heard.group _ (s.knows.1.0 known.0 First known_first.0 begins b p.run.board).1 (omega (arith, begins, set_up)) by o
 
     pub members_are : members_of Now.group ≡ members
-    members_are = ap (λ (xs : List Seen). map (λ (x : Seen). x.member) xs) new.unheard ∙ same_unseen members
+    members_are = ap (λ (xs : List Seen). map (λ (x : Seen). x.member) xs) new.unheard ∙ unseen-members members
 
     pub armed_first : Set_up (rig_at m pins entries (j ∷ js) b)
     armed_first =

@@ -1,42 +1,23 @@
 -- A homing section that is known was begun in some turn, was known since, and was new then; so the sections of a run are set up.
 use Rattle.std.proofs.Common.{◌≡◌, ℕ, ◌+◌, ◌<◌, ◌≤◌, inl, inr, List, [], ◌∷◌, length, map, Option, Some, None, refl, ap, sym, ◌∙◌, subst, arith}
-use Rattle.plan_types.specs.declared.levels.Level.{Level}
-use Rattle.plan_types.specs.declared.machine.Machine.{Machine}
-use Rattle.plan_types.specs.Clock.{board_tick, clock_of}
-use Rattle.plan_types.specs.Lines.{Clocks}
-use Rattle.plan_types.specs.Machines.{IsValidMachine, board_at}
-use Rattle.msg_code.specs.declared.talk.NoteNews.{NoteNews}
+use Rattle.laws_board.proofs.Names.{Level, Machine, board_tick, clock_of, Clocks, IsValidMachine, board_at, NoteNews, Entry, Switch, End, Member, Seen, GroupState, Homing, answer_in, goes_on_homing, hears_all, homing_after, members_of, Connecting, news_of, noted, Reacted, Came, GoesOn, known_by, states-kept}
 use Rattle.msg_code.specs.declared.talk.NoteNews.TheVariants as news
-use Rattle.wire_scene.specs.declared.scene.Entry.{Entry}
-use Rattle.wire_scene.specs.declared.scene.Switch.{Switch}
 use Rattle.laws_board.specs.turns.Turns.{BoardTurn}
 use Rattle.laws_board.proofs.sections.Linking.{valid_ticks}
-use Rattle.trigger_group.specs.declared.order.End.{End}
 use Rattle.trigger_group.specs.declared.order.End.TheVariants as end
-use Rattle.trigger_group.specs.declared.order.Member.{Member}
-use Rattle.trigger_group.specs.declared.seen.Seen.{Seen}
-use Rattle.trigger_group.specs.Group.{GroupState}
 use Rattle.trigger_group.proofs.Knows.{after_last, after_members, after_start}
-use Rattle.axis_homing.specs.declared.homing.Homing.{Homing}
-use Rattle.axis_homing.specs.Homing.{answer_in, goes_on_homing, hears_all, homing_after}
-use Rattle.axis_homing.specs.Rising.{members_of}
-use Rattle.host_reactor.specs.declared.ordered.Phase.TheVariants.{Connecting}
-use Rattle.host_reactor.specs.Notes.{news_of, noted}
-use Rattle.host_reactor.specs.Reactor.{Reacted}
-use Rattle.host_reactor.specs.Runs.{Came, GoesOn, known_by}
 use Rattle.laws_board.proofs.clocks.Controls.{states_start}
 use Rattle.laws_board.proofs.clocks.Lines.{noted_phase}
 use Rattle.laws_board.proofs.clocks.Turning.{goes}
 use Rattle.laws_homing.specs.home_runs.Sections.{HomesFrom, IsOf}
 use Rattle.laws_homing.specs.home_runs.Told.{IsMember}
 use Rattle.laws_homing.specs.home_runs.Words.{BeginsNone}
-use Rattle.laws_homing.proofs.home_runs.Grouped.{members_states}
 use Rattle.laws_homing.proofs.clear_boards.Keeping.{hears_keep}
 use Rattle.laws_homing.specs.clear_groups.Resting.{BeginsAlone}
 use Rattle.laws_homing.specs.clear_groups.Runs.{AreSetUp, BeginsWell, IsBegunWell, IsClearRun, IsSetUp, IsTracked}
 use Rattle.laws_homing.specs.clear_groups.Sections.{AreOfTurn, BeginsNoneFrom, IsClearSection, IsFollowed, turns_of}
 use Rattle.laws_homing.specs.clear_groups.SetUp.{AllOfTurn, BeginsSome, IsNewAt}
-use Rattle.laws_homing.proofs.clear_groups.Known.{answered_late, behind_turn}
+use Rattle.laws_homing.proofs.clear_groups.Known.{behind_turn}
 use Rattle.laws_homing.proofs.clear_groups.Newly.{stays_new}
 use Rattle.laws_homing.proofs.clear_groups.Noted.{IsNewly, board_followed, noted_new, noted_newly, some_or_none, states_of_turn}
 use Rattle.laws_homing.proofs.clear_groups.Plain.{turn_before}
@@ -44,6 +25,7 @@ use Rattle.laws_homing.proofs.clear_groups.Resting.{clash, next_of, some_same}
 use Rattle.laws_homing.proofs.clear_groups.Runs.{run_never}
 use Rattle.laws_homing.proofs.clear_groups.Sections.{cut}
 use Rattle.laws_homing.proofs.home_runs.Knowing.{noted_none}
+use Rattle.laws_homing.proofs.home_parts.Known.{answer_late}
 
 -- turns before one
 homes_none : (m : Machine) (switches : List Switch) (from start : ℕ) (ms : List Member) (came : List Came) → length came ≤ from → HomesFrom m switches from start ms came
@@ -100,7 +82,7 @@ module _ (m : Machine) (switches : List Switch) (lines : ℕ → ℕ → Clocks)
       let same : behind_turn heard k ≡ h = goes_some k heard h (answer_in k heard.start heard.group) to in
       let start : g.start ≡ h.start = ap (λ (z : Homing). z.start) same in
       let members : members_of g.group ≡ members_of h.group =
-      sym (ap (λ (xs : List Seen). map (λ (y : Seen). y.member) xs) (after_members heard.group k) ∙ members_states n.clocks 0 g.start d.states g.group) ∙ ap (λ (z : Homing). members_of z.group) same in
+      sym (ap (λ (xs : List Seen). map (λ (y : Seen). y.member) xs) (after_members heard.group k) ∙ states-kept n.clocks 0 g.start d.states g.group) ∙ ap (λ (z : Homing). members_of z.group) same in
       let last : g.group.last ≡ h.group.last = sym (after_last heard.group k ∙ (hears_keep n.clocks d.states g).last) ∙ ap (λ (z : Homing). z.group.last) same in
       let begins : h.group.start ≡ h.start = sym (ap (λ (z : Homing). z.group.start) same) ∙ after_start heard.group k ∙ states_start n.clocks 0 g.start d.states g.group ∙ x.together ∙ start in
       let early = x.early in
@@ -191,7 +173,7 @@ module _ (m : Machine) (v : IsValidMachine m) (switches : List Switch) (pins : �
     where
       by : (o : Option End) → answer_in k start g ≡ o → answer_in k start g ≡ None
       by None e = e
-      by (Some end) e = absurd (let late = answered_late k start g end e in omega (arith, late, l))
+      by (Some end) e = absurd (let late = answer_late k start g end e in omega (arith, late, l))
 
   abbrev Clear : Came → List Came → List (ℕ → BoardTurn) → Type 0
   Clear c before all = IsClearRun m switches pins entries lines ready till c before all

@@ -1,37 +1,14 @@
 -- A member's board over a turn of a homing section.
 use Rattle.std.proofs.Common.{◌≡◌, ℕ, ◌+◌, ◌-◌, ◌*◌, ◌%◌, ◌^◌, ◌<◌, ◌≤◌, ◌⊎◌, min, inl, inr, List, [], ◌∷◌, ◌++◌, length, Option, None, Some, ap, sym, ◌∙◌, refl, subst, arith}
-use Rattle.std.proofs.lemmas.Bool.Decides.{leb_tells}
-use Rattle.plan_types.specs.declared.levels.Level.{Level}
-use Rattle.plan_types.specs.declared.machine.Machine.{Machine}
-use Rattle.plan_types.specs.declared.plan.BoardState.TheVariants.{Running}
-use Rattle.plan_types.specs.Board.{ahead, nearest}
-use Rattle.plan_types.specs.Clock.{board_tick, clock_of, turn_ns}
-use Rattle.plan_types.specs.Lines.{Clocks, lines_tick}
-use Rattle.plan_types.specs.Machines.{board_at}
-use Rattle.plan_types.specs.Sections.{clocks_at}
-use Rattle.clock_line.specs.Early.{turn_in_run, turn_tick}
-use Rattle.wire_scene.specs.declared.scene.Entry.{Entry}
-use Rattle.msg_code.specs.declared.cmd.Cmd.{Cmd}
+use Rattle.laws_board.proofs.Names.{leb_tells, Level, Machine, Running, nearest, board_tick, clock_of, turn_ns, Clocks, lines_tick, board_at, clocks_at, turn_in_run, turn_tick, Entry, Cmd, State, trigger_of, commands_of, Rig, Slot, passes, slot_at, takes, takes_all, AllSound, one_slot, says, queued_in, first_state, orders, Seen, Homing, hears_all, low, state_at}
+use Rattle.plan_types.specs.Board.{ahead}
 use Rattle.msg_code.specs.declared.cmd.Cmd.TheVariants as cmd
-use Rattle.msg_code.specs.declared.talk.State.{State}
-use Rattle.board_asking.specs.Machine.{trigger_of}
-use Rattle.board_sim.specs.Fair.{commands_of}
-use Rattle.board_sim.specs.Rig.{Rig, Slot, passes, slot_at, takes, takes_all}
-use Rattle.board_sim.specs.RigRuns.{AllSound}
-use Rattle.board_sim.proofs.Bound.{one_slot}
 use Rattle.board_step.proofs.Whole.{nearest_is}
 use Rattle.laws_board.proofs.sections.Clocks.{ticks_most}
 use Rattle.board_sim.proofs.Sound.{takes_sound}
-use Rattle.board_world.specs.World.{says}
 use Rattle.laws_homing.specs.clear_boards.Rests.{RestsOver}
-use Rattle.link_work.specs.Runs.{queued_in}
-use Rattle.link_work.specs.Stands.{first_state, orders}
 use Rattle.laws_board.specs.turns.Turns.{AreBoardTurns, BoardTurn, stands_after}
 use Rattle.laws_homing.specs.home_runs.Guards.{HasFired, IsSole}
-use Rattle.trigger_group.specs.declared.seen.Seen.{Seen}
-use Rattle.axis_homing.specs.declared.homing.Homing.{Homing}
-use Rattle.axis_homing.specs.Homing.{hears_all, low}
-use Rattle.host_reactor.specs.Runs.{state_at}
 use Rattle.laws_homing.specs.clear_boards.Alive.{IsAlive, RelayNone}
 use Rattle.laws_homing.specs.clear_boards.Clocking.{IsAhead}
 use Rattle.laws_homing.specs.clear_boards.Expiry.{TellExpiry}
@@ -46,7 +23,7 @@ use Rattle.laws_homing.proofs.clear_boards.Alive.{all_left_of, with_timeout}
 use Rattle.laws_homing.proofs.clear_boards.Bridging.{turn_is}
 use Rattle.laws_homing.proofs.clear_boards.Clocking.{line_ahead, lines_up, report_counts, timeout_ahead}
 use Rattle.laws_homing.proofs.clear_boards.Ending.{late_expiry, no_expiry}
-use Rattle.laws_homing.proofs.clear_boards.Knowing.{hears_still, same_when}
+use Rattle.laws_homing.proofs.clear_boards.Knowing.{hears_still}
 use Rattle.laws_homing.proofs.clear_boards.Member.{all_sound, turn_numbered}
 use Rattle.laws_homing.proofs.clear_boards.Small.{turn_small}
 use Rattle.laws_homing.proofs.clear_boards.Standing.{runs_rested, sound_at, tick_is}
@@ -58,17 +35,12 @@ use Rattle.laws_homing.specs.clear_groups.Sections.{IsAlike, IsFollowed, report_
 use Rattle.laws_homing.proofs.clear_groups.Alike.{followed_alike, tracked_alike, turn_alike}
 use Rattle.laws_homing.proofs.clear_groups.Early.{TellsAll, turn_early}
 use Rattle.laws_homing.proofs.clear_groups.Noticing.{AllAbleBy, able_by, hears_until, until_more}
+use Rattle.plan_types.proofs.Facts.{same_when}
+use Rattle.laws_homing.proofs.home_runs.Grouped.{sole_state}
 
 sound_tells : (r : Rig) (cs : List Cmd) → AllSound r → TellsAll r cs
 sound_tells r [] k = tt
 sound_tells r (c ∷ cs) k = (λ oid s at. (k oid s at).told, sound_tells (takes r c).rig cs (takes_sound r c k))
-
-one_state : (s u : State) → u ∷ [] ≡ s ∷ [] → u ≡ s
-one_state s u e = cc
-
-same_next : (o : Option ℕ) (a b : ℕ) → o ≡ Some a → o ≡ Some b → a ≡ b
-same_next None a b e f = cc
-same_next (Some n) a b e f = cc
 
 -- the tick nearest to another
 near_low : (now clock : ℕ) → now ≤ nearest now clock + 2 ^ 31
@@ -200,7 +172,7 @@ module _ (m : Machine) (b : ℕ) (pins : List (List Level)) (entries : List Entr
       let same : u ≡ s = one_slot (slot_at Taken Oid) u s there here in
       let so = still i s at in
       let k : IsReportDue (own (length before)) s =
-      record { told = so.told; moves = so.moves; due = λ x is. (let next : a.next ≡ x = same_next a.slot.trigger.report a.next x a.report (ap (λ (v : Slot). v.trigger.report) same ∙ is) in omega (arith, next, due)) } in
+      record { told = so.told; moves = so.moves; due = λ x is. (let next : a.next ≡ x = same_when a.slot.trigger.report a.next x a.report (ap (λ (v : Slot). v.trigger.report) same ∙ is) in omega (arith, next, due)) } in
       k))
 
   -- what it told of its trigger counts by the next turn
@@ -272,7 +244,7 @@ module _ (m : Machine) (b : ℕ) (pins : List (List Level)) (entries : List Entr
         (λ s there late. (
         let At : ℕ → Type 0 = λ n. AllAbleBy known n (length before + 1 + 249) t.state.news in
         let now : AllAbleBy known t.state.turn (length before + 1 + 249) t.state.news = subst At (sym turn_so) able in
-        subst (λ (x : State). AllAbleBy known x.turn (length before + 1 + 249) x.news) (one_state s t.state (sym is ∙ there)) now)) (until_more start b (length before + 249) (length before + 1 + 249) h.group.members (omega arith) w.1) in
+        subst (λ (x : State). AllAbleBy known x.turn (length before + 1 + 249) x.news) (sole_state s t.state (sym is ∙ there)) now)) (until_more start b (length before + 249) (length before + 1 + 249) h.group.members (omega arith) w.1) in
         let Member : ℕ → ℕ → Type 0 = λ s l. IsMember own Oid base every s l b (length before + 1) After (hears_all all states h).group.members in
         let member : Member start last = subst (λ (s : ℕ). Member s last) group_begins (subst (λ (l : ℕ). Member h.group.start l) group_ends on.1) in (
           (turn_small Oid clock (own (length before + 1)) Start Commands behind_so small).0,

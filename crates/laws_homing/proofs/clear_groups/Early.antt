@@ -2,17 +2,13 @@
 use Rattle.std.proofs.Common.{◌≡◌, ℕ, ◌+◌, ◌<◌, ◌≤◌, Bool, true, false, List, [], ◌∷◌, ◌++◌, Option, Some, None, refl, sym, ◌∙◌, arith}
 use Rattle.std.specs.Prelude.{if◌then◌else◌, nat_le, nat_lt}
 use Rattle.msg_code.specs.Units.{bit}
-use Rattle.plan_types.specs.declared.plan.BoardState.{BoardState}
-use Rattle.plan_types.specs.declared.plan.BoardState.TheVariants.{Running, Shut}
-use Rattle.plan_types.specs.Board.{nearest}
-use Rattle.board_trig.specs.declared.trigger.Trigger.{Trigger}
+use Rattle.laws_board.proofs.Names.{BoardState, Running, Shut, nearest, Trigger, Cmd, Passed, Rig, Slot, acts, acts_running, all_left, expires_at_once, pass, passes, set_timeout, slot_at, takes, takes_all, says}
 use Rattle.board_trig.specs.Trigger as trig
-use Rattle.msg_code.specs.declared.cmd.Cmd.{Cmd}
 use Rattle.msg_code.specs.declared.cmd.Cmd.TheVariants as cmd
 use Rattle.board_sim.specs.Board.{takes as board_takes}
-use Rattle.board_sim.specs.Rig.{Passed, Rig, Slot, acts, acts_running, all_left, expires_at_once, pass, passes, set_timeout, slot_at, takes, takes_all, trigger_answers, trigger}
+use Rattle.board_sim.specs.Rig.{trigger_answers, trigger}
 use Rattle.board_sim.specs.Turn.{says_shut}
-use Rattle.board_world.specs.World.{says, shut_before}
+use Rattle.board_world.specs.World.{shut_before}
 use Rattle.laws_board.proofs.clocks.Answers.{Each}
 use Rattle.laws_homing.specs.clear_groups.Early.{AllDue, AreEarly, TellsBetween}
 use Rattle.laws_homing.proofs.clear_boards.Turned.{triggered_off}

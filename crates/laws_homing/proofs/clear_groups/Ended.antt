@@ -1,30 +1,16 @@
 -- A group whose section is safe answers of no board that it expired.
 use Rattle.std.proofs.Common.{◌≡◌, ℕ, ◌+◌, ◌≤◌, ◌==◌, inl, inr, Bool, true, false, cond, List, [], ◌∷◌, length, map, Option, Some, None, refl, ◌∙◌, subst, arith}
 use Rattle.std.specs.Prelude.{◌&&◌, nat_le}
-use Rattle.plan_types.specs.declared.levels.Level.{Level}
-use Rattle.plan_types.specs.declared.machine.Machine.{Machine}
-use Rattle.plan_types.specs.Lines.{Clocks}
-use Rattle.wire_scene.specs.declared.scene.Entry.{Entry}
-use Rattle.wire_scene.specs.declared.scene.Switch.{Switch}
+use Rattle.laws_board.proofs.Names.{Level, Machine, Clocks, Entry, Switch, End, Member, Fired, Seen, GroupState, Homing, answer_in, hears_all, members_of, noted, Came, known_by, states-kept}
 use Rattle.laws_board.specs.turns.Turns.{BoardTurn}
-use Rattle.trigger_group.specs.declared.order.End.{End}
 use Rattle.trigger_group.specs.declared.order.End.TheVariants as end
-use Rattle.trigger_group.specs.declared.order.Member.{Member}
-use Rattle.trigger_group.specs.declared.seen.Fired.{Fired}
-use Rattle.trigger_group.specs.declared.seen.Seen.{Seen}
-use Rattle.trigger_group.specs.Group.{GroupState, expired, first_expired, first_switched, or_else, switched}
+use Rattle.trigger_group.specs.Group.{expired, first_expired, first_switched, or_else, switched}
 use Rattle.laws_homing.specs.home_runs.Told.{IsMember}
-use Rattle.laws_homing.proofs.home_runs.Grouped.{members_states}
-use Rattle.axis_homing.specs.declared.homing.Homing.{Homing}
-use Rattle.axis_homing.specs.Homing.{answer_in, hears_all}
-use Rattle.axis_homing.specs.Rising.{members_of}
-use Rattle.host_reactor.specs.Notes.{noted}
-use Rattle.host_reactor.specs.Runs.{Came, known_by}
 use Rattle.laws_homing.specs.clear_groups.Safe.{IsSafeAt}
 use Rattle.laws_homing.specs.clear_groups.Sections.{IsRestingSection, IsFollowed}
 use Rattle.laws_homing.proofs.clear_groups.Known.{of_known}
 use Rattle.laws_homing.proofs.clear_groups.Sections.{never_answers}
-use Rattle.laws_homing.proofs.clear_boards.Heard.{no_switch, of_answer, of_turn}
+use Rattle.laws_homing.proofs.clear_boards.Heard.{no_switch, of_answer, of_turn, none_switched}
 
 -- a board of which a group answers so is one of its members
 one_board : (last b turn board : ℕ) (o : Option Fired) → expired last board o ≡ Some (end.Expired b turn) → board ≡ b
@@ -44,14 +30,6 @@ any_board last b turn (x ∷ xs) e = by (expired last x.member.board x.fired) (�
     by None rec is g = inr (rec g)
     by (Some e) rec is g = inl (one_board last b turn x.member.board x.fired (is ∙ g))
 
-none_switched : (b turn : ℕ) (xs : List Seen) → first_switched xs ≡ Some (end.Expired b turn) → ⊥
-none_switched b turn [] e = cc
-none_switched b turn (x ∷ xs) e = by (switched x.member.endstop x.fired) (λ g. none_switched b turn xs g) refl e
-  where
-    by : (o : Option End) → (first_switched xs ≡ Some (end.Expired b turn) → ⊥) → switched x.member.endstop x.fired ≡ o → or_else o (first_switched xs) ≡ Some (end.Expired b turn) → ⊥
-    by None rec is g = rec g
-    by (Some e) rec is g = no_switch b turn x.member.endstop x.fired (is ∙ g)
-
 ends_member : (k start b turn : ℕ) (g : GroupState) → answer_in k start g ≡ Some (end.Expired b turn) → IsMember b (members_of g)
 ends_member k start b turn g e =
     let ended_so = of_turn (nat_le start k) g (end.Expired b turn) e in
@@ -64,5 +42,5 @@ pub never_any : (m : Machine) (switches : List Switch) (pins : ℕ → List (Lis
 never_any m switches pins entries lines ready from start last till at members followed early low_so far first c before all s r l safe h is b turn ends =
     let clocks = (noted m c.note (known_by m switches before)).clocks in
     let of = of_known start members (noted m c.note (known_by m switches before)).homing h (s.homes.0 (omega (arith, early, l))).1 is in
-    let on = subst (IsMember b) (members_states clocks 0 h.start c.states h.group ∙ of.2) (ends_member (length before) h.start b turn (hears_all clocks c.states h).group ends) in
+    let on = subst (IsMember b) (states-kept clocks 0 h.start c.states h.group ∙ of.2) (ends_member (length before) h.start b turn (hears_all clocks c.states h).group ends) in
     never_answers m switches pins entries lines ready from start last till at members followed early low_so far c before all s r l first safe h is of.0 b turn on ends

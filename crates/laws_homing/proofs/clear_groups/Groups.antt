@@ -2,39 +2,15 @@
 use Rattle.std.proofs.Common.{◌≡◌, ℕ, suc, ◌+◌, ◌*◌, ◌^◌, ◌<◌, ◌≤◌, ◌⊎◌, inl, inr, Bool, true, false, List, [], ◌∷◌, length, map, Some, None, refl, ap, sym, ◌∙◌, subst, arith}
 use Rattle.std.specs.Prelude.{◌&&◌, ◌||◌, nat_le}
 use Rattle.std.specs.List.{Contains}
-use Rattle.std.proofs.lemmas.Bool.Decides.{leb_tells}
-use Rattle.plan_types.specs.declared.levels.Level.{Level}
-use Rattle.plan_types.specs.declared.machine.Machine.{Machine}
-use Rattle.plan_types.specs.Clock.{board_tick, clock_of, turn_ns}
-use Rattle.plan_types.specs.Lines.{Clocks, lines_tick}
-use Rattle.plan_types.specs.Machines.{board_at}
-use Rattle.plan_types.specs.Sections.{clocks_at}
-use Rattle.clock_line.specs.Early.{turn_tick}
-use Rattle.wire_scene.specs.declared.scene.Entry.{Entry}
-use Rattle.wire_scene.specs.declared.scene.Switch.{Switch}
-use Rattle.msg_code.specs.declared.cmd.Cmd.{Cmd}
-use Rattle.board_asking.specs.Machine.{trigger_of}
-use Rattle.board_sim.specs.Fair.{commands_of}
-use Rattle.board_sim.specs.Rig.{Rig, Slot, slot_at}
-use Rattle.link_work.specs.Runs.{queued_in}
-use Rattle.link_work.specs.Stands.{first_state, orders}
+use Rattle.laws_board.proofs.Names.{leb_tells, Level, Machine, board_tick, clock_of, turn_ns, Clocks, lines_tick, board_at, clocks_at, turn_tick, Entry, Switch, Cmd, trigger_of, commands_of, Rig, Slot, slot_at, queued_in, first_state, orders, Member, Seen, GroupState, turned_group, all_fired, Homing, answer_in, hears_all, low, members_of, Connecting, noted, Came, known_by, both_parts, states-kept}
 use Rattle.laws_board.specs.turns.Turns.{BoardTurn, stands_after}
 use Rattle.laws_board.proofs.clocks.Lines.{as_long, noted_phase}
 use Rattle.laws_homing.specs.home_runs.Guards.{HasFired}
 use Rattle.laws_homing.specs.home_runs.Told.{IsMember}
-use Rattle.laws_homing.proofs.home_runs.Grouped.{members_states}
 use Rattle.laws_homing.proofs.home_runs.Staging.{staged_after}
-use Rattle.trigger_group.specs.declared.order.Member.{Member}
-use Rattle.trigger_group.specs.declared.seen.Seen.{Seen}
-use Rattle.trigger_group.specs.Group.{GroupState, turned_group, all_fired, any_fired_by, relay_begins}
+use Rattle.trigger_group.specs.Group.{any_fired_by, relay_begins}
 use Rattle.trigger_group.proofs.Answering.{either, none_there}
 use Rattle.trigger_group.proofs.Knows.{after_last, after_members, after_start}
-use Rattle.axis_homing.specs.declared.homing.Homing.{Homing}
-use Rattle.axis_homing.specs.Homing.{answer_in, hears_all, low}
-use Rattle.axis_homing.specs.Rising.{members_of}
-use Rattle.host_reactor.specs.declared.ordered.Phase.TheVariants.{Connecting}
-use Rattle.host_reactor.specs.Notes.{noted}
-use Rattle.host_reactor.specs.Runs.{Came, known_by}
 use Rattle.laws_homing.specs.clear_boards.Expiry.{TellExpiry}
 use Rattle.laws_homing.specs.clear_boards.Firing.{AllSmall}
 use Rattle.laws_homing.specs.clear_boards.Hearing.{FiredOn, NoneOn}
@@ -46,7 +22,7 @@ use Rattle.laws_homing.specs.clear_boards.Turned.{AreSentBehind, RelaysOne}
 use Rattle.laws_homing.proofs.clear_boards.Keeping.{hears_keep}
 use Rattle.laws_homing.proofs.clear_boards.Lately.{lately_all}
 use Rattle.laws_homing.proofs.clear_boards.Leading.{fired_by_flag, leads_on}
-use Rattle.laws_homing.proofs.clear_boards.Modes.{begins_ahead}
+use Rattle.laws_homing.proofs.clear_boards.Modes.{begins_ahead, begins_so, begins_not}
 use Rattle.laws_homing.proofs.clear_boards.Ordered.{turn_ordered}
 use Rattle.laws_homing.proofs.clear_boards.Sent.{sent_relays}
 use Rattle.laws_homing.proofs.clear_boards.Taking.{takes_rested}
@@ -58,44 +34,22 @@ use Rattle.laws_homing.proofs.clear_groups.Alike.{turn_alike}
 use Rattle.laws_homing.proofs.clear_groups.Boards.{After, ahead_step, fired_step, last_step, relay_step, watched_step}
 use Rattle.laws_homing.proofs.clear_groups.Known.{behind_turn, homing_next, member_seen, group_waits, of_known, open_group, seen_member}
 use Rattle.laws_homing.proofs.clear_groups.Orders.{IsSent, near_turn, sent_from, timed_turn}
+use Rattle.plan_types.proofs.Facts.{is_le, was_le, is_above}
+use Rattle.std.proofs.lemmas.Bool.{or_left}
 
 all_at : (f : ℕ → Bool) (b : ℕ) (xs : List Seen) → AllOn f xs → IsMember b (map (λ (s : Seen). s.member) xs) → f b ≡ true
 all_at f b [] a k = absurd k
 all_at f b (x ∷ xs) a (inl e) = ap f (sym e) ∙ a.0
 all_at f b (x ∷ xs) a (inr k) = all_at f b xs a.1 k
 
--- no relay begins, or one is known
-both_parts : (a b : Bool) → (a && b) ≡ true → (a ≡ true) × (b ≡ true)
-both_parts true b e = (refl, e)
-both_parts false b e = cc
-
-either_part : (a b : Bool) → (a || b) ≡ true → (a ≡ true) ⊎ (b ≡ true)
+pub either_part : (a b : Bool) → (a || b) ≡ true → (a ≡ true) ⊎ (b ≡ true)
 either_part true b e = inl refl
 either_part false b e = inr e
-
-le_so : (a b : ℕ) → nat_le a b ≡ true → a ≤ b
-le_so a b e = elim (leb_tells a b) [ inl p ↦ p.1 | inr p ↦ absurd (let bad : false ≡ true = sym p.0 ∙ e in cc) ]
 
 relay_known : (g : GroupState) (turn : ℕ) → relay_begins g turn ≡ true → turn < g.last + 5 → (g.start + 4 ≤ turn) × (any_fired_by g.last g.members ≡ true)
 relay_known g turn e low_so =
     let both = both_parts (nat_le (g.start + 4) turn) (any_fired_by g.last g.members || nat_le (g.last + 5) turn) e in
-    (le_so (g.start + 4) turn both.0, elim (either_part (any_fired_by g.last g.members) (nat_le (g.last + 5) turn) both.1) [ inl some ↦ some | inr late ↦ absurd (let far = le_so (g.last + 5) turn late in omega (arith, far, low_so)) ])
-
-le_is : (a b : ℕ) → a ≤ b → nat_le a b ≡ true
-le_is a b l = elim (leb_tells a b) [ inl p ↦ p.0 | inr p ↦ absurd (omega (arith, p.1, l)) ]
-
-gt_is : (a b : ℕ) → b < a → nat_le a b ≡ false
-gt_is a b l = elim (leb_tells a b) [ inl p ↦ absurd (omega (arith, p.1, l)) | inr p ↦ p.0 ]
-
-first_true : (a b : Bool) → a ≡ true → (a || b) ≡ true
-first_true true b e = refl
-first_true false b e = cc
-
-calm_early : (g : GroupState) (turn : ℕ) → turn < g.start + 4 → relay_begins g turn ≡ false
-calm_early g turn low_so = ap (λ (b : Bool). b && (any_fired_by g.last g.members || nat_le (g.last + 5) turn)) (gt_is (g.start + 4) turn low_so)
-
-begins_so : (g : GroupState) (turn : ℕ) → g.start + 4 ≤ turn → any_fired_by g.last g.members ≡ true → relay_begins g turn ≡ true
-begins_so g turn low_so some = ap (λ (b : Bool). b && (any_fired_by g.last g.members || nat_le (g.last + 5) turn)) (le_is (g.start + 4) turn low_so) ∙ first_true (any_fired_by g.last g.members) (nat_le (g.last + 5) turn) some
+    (was_le (g.start + 4) turn both.0, elim (either_part (any_fired_by g.last g.members) (nat_le (g.last + 5) turn) both.1) [ inl some ↦ some | inr late ↦ absurd (let far = was_le (g.last + 5) turn late in omega (arith, far, low_so)) ])
 
 relay_of : (turn : ℕ) (g : GroupState) → IsLive turn g ⊎ IsFiringKnown turn g → g.relay ≡ None
 relay_of turn g (inl live) = live.relay
@@ -165,7 +119,7 @@ module _ (m : Machine) (switches : List Switch) (pins : ℕ → List (List Level
   are_members = ap (λ (xs : List Seen). map (λ (x : Seen). x.member) xs) (sym same_members) ∙ next_of.2
 
   pub later_members : members_of N ≡ members
-  later_members = members_states All 0 Next.start c.states Next.group ∙ next_of.2
+  later_members = states-kept All 0 Next.start c.states Next.group ∙ next_of.2
 
   pub unended : G.start ≡ start → G.start ≤ K → all_fired G.members ≡ false
   unended e l = (let same = now_of.0 in open_group K h.start G next_known.1 (omega (arith, l, e, same)))
@@ -345,7 +299,7 @@ module _ (m : Machine) (switches : List Switch) (pins : ℕ → List (List Level
         let first = pre.1 in
         let e = safe.begins in
         let more = grown.1 in
-        let each = still relay (calm_early G K (omega (arith, low_start))) (omega (arith, low_start, first, more)) boards in
+        let each = still relay (begins_not G K (omega (arith, low_start))) (omega (arith, low_start, first, more)) boards in
         let next = boards_next each in
         let same = group_waits G K low_start (omega (arith, e, far)) in
         let relay_next : N.relay ≡ None = hears.relay ∙ ap (λ (y : GroupState). y.relay) same ∙ relay in

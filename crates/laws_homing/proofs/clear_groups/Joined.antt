@@ -1,6 +1,6 @@
 -- What all boards did, turn by turn, from what each of them did.
 use Rattle.std.proofs.Common.{◌≡◌, ℕ, zero, suc, ◌<◌, ◌≤◌, List, [], ◌∷◌, length, refl, ap, arith}
-use Rattle.plan_types.specs.Lines.{Clocks}
+use Rattle.laws_board.proofs.Names.{Clocks}
 use Rattle.laws_board.specs.turns.Turns.{BoardTurn}
 use Rattle.laws_board.specs.sections.Parts.{AreTracked}
 use Rattle.laws_homing.specs.clear_groups.Sections.{turns_of}

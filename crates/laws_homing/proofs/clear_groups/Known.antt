@@ -2,23 +2,10 @@
 use Rattle.std.proofs.Common.{◌≡◌, ℕ, ◌+◌, ◌<◌, ◌≤◌, ◌==◌, inl, inr, Bool, true, false, List, [], ◌∷◌, length, map, Option, Some, None, refl, ap, sym, ◌∙◌, subst, arith}
 use Rattle.std.specs.Prelude.{◌-◌, if◌then◌else◌, nat_le}
 use Rattle.std.specs.List.{Contains}
-use Rattle.std.proofs.lemmas.Bool.Decides.{leb_tells, nat_tests}
-use Rattle.plan_types.specs.declared.machine.Machine.{Machine}
-use Rattle.wire_scene.specs.declared.scene.Switch.{Switch}
-use Rattle.trigger_group.specs.declared.order.End.{End}
-use Rattle.trigger_group.specs.declared.order.Member.{Member}
+use Rattle.laws_board.proofs.Names.{leb_tells, nat_tests, Machine, Switch, End, Member, Rests, Seen, GroupState, turned_group, all_fired, phase, Homing, answer_in, goes_on_homing, hears_all, homing_after, members_of, Connecting, news_of, noted, Reacted, Came, GoesOn, known_by, last_reacted}
 use Rattle.trigger_group.specs.declared.round.Phase.{Phase as GroupPhase}
-use Rattle.trigger_group.specs.declared.round.Phase.TheVariants.{Rests}
-use Rattle.trigger_group.specs.declared.seen.Seen.{Seen}
-use Rattle.trigger_group.specs.Group.{GroupState, turned_group, after_in, all_fired, answer, ended, orders, orders_of_group, phase}
+use Rattle.trigger_group.specs.Group.{after_in, answer, ended, orders, orders_of_group}
 use Rattle.trigger_group.proofs.Answering.{first_there, none_there, there_more, either}
-use Rattle.axis_homing.specs.declared.homing.Homing.{Homing}
-use Rattle.axis_homing.specs.Homing.{answer_in, goes_on_homing, hears_all, homing_after}
-use Rattle.axis_homing.specs.Rising.{members_of}
-use Rattle.host_reactor.specs.declared.ordered.Phase.TheVariants.{Connecting}
-use Rattle.host_reactor.specs.Notes.{news_of, noted}
-use Rattle.host_reactor.specs.Reactor.{Reacted}
-use Rattle.host_reactor.specs.Runs.{Came, GoesOn, known_by, last_reacted}
 use Rattle.host_reactor.proofs.Resting.{picked}
 use Rattle.laws_board.proofs.clocks.Lines.{noted_phase}
 use Rattle.laws_board.proofs.clocks.Turning.{goes}
@@ -26,6 +13,8 @@ use Rattle.laws_homing.specs.home_runs.Sections.{HomesFrom, IsOf}
 use Rattle.laws_homing.specs.home_runs.Told.{IsMember}
 use Rattle.laws_homing.specs.home_runs.Words.{BeginsNone}
 use Rattle.laws_homing.proofs.home_runs.Knowing.{noted_none, running_now}
+use Rattle.plan_types.proofs.Facts.{is_le}
+use Rattle.laws_homing.proofs.home_parts.Known.{answer_late}
 
 -- the section behind a turn
 abbrev pub behind_turn : Homing → ℕ → Homing
@@ -69,13 +58,10 @@ not_some : (b : Bool) (e : End) → (if b then Some e else None) ≡ None → b 
 not_some true e h = cc
 not_some false e h = refl
 
-le_is : (a b : ℕ) → a ≤ b → nat_le a b ≡ true
-le_is a b l = elim (leb_tells a b) [ inl p ↦ p.0 | inr p ↦ absurd (omega (arith, p.1, l)) ]
-
 pub open_group : (k start : ℕ) (g : GroupState) → answer_in k start g ≡ None → start ≤ k → all_fired g.members ≡ false
 open_group k start g e l =
     let At : Bool → Type 0 = λ b. (if b then ended g else None) ≡ None in
-    not_some (all_fired g.members) (answer g) (subst At (le_is start k l) e)
+    not_some (all_fired g.members) (answer g) (subst At (is_le start k l) e)
 
 -- a group between its set-up and its start
 pub phase_waits : (start last turn : ℕ) → turn < start → start ≤ turn + 249 → phase start last turn ≡ Rests
@@ -107,9 +93,3 @@ seen_member x (y ∷ ys) c = elim (either y x ys c) [ inl e ↦ inl (ap (λ (s :
 none_some : (b : Bool) (g : GroupState) (e : End) → b ≡ false → (if b then ended g else None) ≡ Some e → ⊥
 none_some true g e f is = cc
 none_some false g e f is = let bad : None ≡ Some e = is in cc
-
-pub answered_late : (k begin : ℕ) (g : GroupState) (e : End) → answer_in k begin g ≡ Some e → begin ≤ k
-answered_late k begin g e is = elim (leb_tells begin k) [
-  | inl p ↦ p.1
-  | inr p ↦ absurd (none_some (nat_le begin k) g e p.0 is)
-]

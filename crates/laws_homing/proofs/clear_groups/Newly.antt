@@ -1,24 +1,12 @@
 -- A homing section from its note on: its group stays new until its boards are started, and then the section is safe.
 use Rattle.std.proofs.Common.{◌≡◌, ℕ, ◌+◌, ◌-◌, ◌<◌, ◌≤◌, ◌==◌, inl, inr, Bool, true, false, cond, List, [], ◌∷◌, length, Some, refl, ap, sym, ◌∙◌, subst, arith}
-use Rattle.std.proofs.lemmas.Bool.{eqb-true}
-use Rattle.std.proofs.lemmas.Bool.Decides.{leb_tells}
-use Rattle.plan_types.specs.declared.levels.Level.{Level}
-use Rattle.plan_types.specs.declared.machine.Machine.{Machine}
-use Rattle.plan_types.specs.Lines.{Clocks}
-use Rattle.wire_scene.specs.declared.scene.Entry.{Entry}
-use Rattle.wire_scene.specs.declared.scene.Switch.{Switch}
+use Rattle.laws_board.proofs.Names.{eqb-true, leb_tells, Level, Machine, Clocks, Entry, Switch, Member, Goes, Rests, Sends, GroupState, phase, Homing, answer_in, hears_all, noted, Came, GoesOn, known_by}
 use Rattle.laws_board.specs.turns.Turns.{BoardTurn}
 use Rattle.trigger_group.specs.declared.order.End.TheVariants as end
-use Rattle.trigger_group.specs.declared.order.Member.{Member}
 use Rattle.trigger_group.specs.declared.round.Phase.{Phase as GroupPhase}
-use Rattle.trigger_group.specs.declared.round.Phase.TheVariants.{Goes, Rests, Sends}
 use Rattle.trigger_group.specs.declared.round.Round.{Round}
-use Rattle.trigger_group.specs.Group.{GroupState, after_in, phase}
+use Rattle.trigger_group.specs.Group.{after_in}
 use Rattle.trigger_group.proofs.Knows.{after_last, after_members, after_start}
-use Rattle.axis_homing.specs.declared.homing.Homing.{Homing}
-use Rattle.axis_homing.specs.Homing.{answer_in, hears_all}
-use Rattle.host_reactor.specs.Notes.{noted}
-use Rattle.host_reactor.specs.Runs.{Came, GoesOn, known_by}
 use Rattle.laws_homing.specs.home_runs.Told.{IsMember}
 use Rattle.laws_homing.specs.clear_groups.Safe.{IsSafeAt, IsSafeIn}
 use Rattle.laws_homing.specs.home_runs.Sections.{HomesFrom}
@@ -26,8 +14,9 @@ use Rattle.laws_homing.specs.clear_groups.Sections.{AreOfTurn, BeginsNoneFrom, I
 use Rattle.laws_homing.specs.clear_groups.SetUp.{AllOfTurn, ArePrepared, ArePreparedAt, IsNew, IsNewAt, IsNewIn}
 use Rattle.laws_homing.proofs.clear_groups.Beginning.{begins_safe, unheard}
 use Rattle.laws_homing.proofs.clear_groups.Ended.{never_any}
-use Rattle.laws_homing.proofs.clear_groups.Known.{answered_late, behind_turn, homing_next, of_known}
+use Rattle.laws_homing.proofs.clear_groups.Known.{behind_turn, homing_next, of_known}
 use Rattle.laws_homing.proofs.clear_groups.Sections.{cut_rests}
+use Rattle.laws_homing.proofs.home_parts.Known.{answer_late}
 
 -- before the start a group doesn't relay
 skip : (b : Bool) (r : Round) (y : GroupPhase) → cond b (Sends r) y ≡ Goes → y ≡ Goes
@@ -128,5 +117,5 @@ module _ (m : Machine) (switches : List Switch) (pins : ℕ → List (List Level
       → (h : Homing) → (noted m c.note (known_by m switches before)).homing ≡ Some h → (b turn : ℕ) → answer_in (length before) h.start (hears_all (noted m c.note (known_by m switches before)).clocks c.states h).group ≡ Some (end.Expired b turn) → ⊥
   begun_never c before all s of reach l new k h is b turn ends =
       let begins = (of_known start members (noted m c.note (known_by m switches before)).homing h (s.homes.0 l).1 is).0 in
-      let late = answered_late (length before) h.start (hears_all (noted m c.note (known_by m switches before)).clocks c.states h).group (end.Expired b turn) ends in
+      let late = answer_late (length before) h.start (hears_all (noted m c.note (known_by m switches before)).clocks c.states h).group (end.Expired b turn) ends in
       never_any m switches pins entries lines ready from start last till At members followed (omega (arith, set_up)) (omega (arith, low_so, set_up)) (omega arith) (omega (arith, set_up)) c before all s reach (omega (arith, late, begins, set_up)) (safe_at c before all s of new k (omega (arith, late, begins, reach))) h is b turn ends

@@ -1,50 +1,31 @@
 -- A homing section that a note begins is new, and its boards are followed.
 use Rattle.std.proofs.Common.{◌≡◌, ℕ, zero, suc, ◌+◌, ◌<◌, ◌≤◌, ◌⊎◌, min, inl, inr, pos, negsuc, Bool, true, false, cond, List, [], ◌∷◌, length, map, Option, Some, None, refl, ap, sym, ◌∙◌, subst, arith, ℤ, ◌≤ℤ◌, ◌++◌, ◌==◌}
 use Rattle.std.proofs.lemmas.Int.{ints}
-use Rattle.plan_types.specs.declared.clock.BoardClock.{BoardClock}
-use Rattle.plan_types.specs.declared.levels.Level.{Level}
-use Rattle.plan_types.specs.declared.machine.Machine.{Machine}
-use Rattle.plan_types.specs.declared.plan.SectionKind.{SectionKind}
-use Rattle.plan_types.specs.declared.plan.SectionKind.TheVariants.{Home, Moves}
-use Rattle.plan_types.specs.Clock.{board_tick, clock_of, run_turns}
-use Rattle.plan_types.specs.Lines.{Clocks}
-use Rattle.plan_types.specs.Machines.{IsValidMachine, axis_at, board_at}
+use Rattle.laws_board.proofs.Names.{BoardClock, Level, Machine, SectionKind, Home, Moves, board_tick, clock_of, Clocks, IsValidMachine, axis_at, board_at, Note, NoteNews, State, Entry, Switch, first_state, LinkState, Member, GroupState, unseen, Homing, AxisDef, BoardDef, leb_tells, Seen, members_from, members_of, Known, news_of, noted, known_behind, told_all, Came, known_by, state_at, both_parts}
+use Rattle.plan_types.specs.Clock.{run_turns}
 use Rattle.clock_line.specs.Samples.{ppm_size}
-use Rattle.msg_code.specs.declared.talk.Note.{Note}
-use Rattle.msg_code.specs.declared.talk.NoteNews.{NoteNews}
 use Rattle.msg_code.specs.declared.talk.NoteNews.TheVariants as news
-use Rattle.msg_code.specs.declared.talk.State.{State}
-use Rattle.wire_scene.specs.declared.scene.Entry.{Entry}
-use Rattle.wire_scene.specs.declared.scene.Switch.{Switch}
-use Rattle.link_work.specs.Stands.{first_state}
-use Rattle.link_work.specs.Turn.{LinkState}
 use Rattle.laws_board.specs.turns.Turns.{AreBoardTurns, BoardTurn, latest_state}
 use Rattle.laws_board.specs.clocks.Runs.{IsInRun}
 use Rattle.laws_board.proofs.clocks.Lines.{as_long}
 use Rattle.laws_board.specs.sections.Parts.{AreTracked}
 use Rattle.laws_board.proofs.sections.Linking.{valid_ticks}
-use Rattle.laws_board.proofs.orders.Controlled.{few_on}
-use Rattle.trigger_group.specs.declared.order.Member.{Member}
-use Rattle.trigger_group.specs.Group.{GroupState, new_group, unseen}
+use Rattle.trigger_group.specs.Group.{new_group}
 use Rattle.trigger_group.specs.Kept.{may_be}
-use Rattle.axis_homing.specs.declared.homing.Homing.{Homing}
 use Rattle.laws_homing.specs.home_runs.Told.{IsMember}
-use Rattle.plan_types.specs.declared.machine.AxisDef.{AxisDef}
-use Rattle.plan_types.specs.declared.machine.BoardDef.{BoardDef}
 use Rattle.std.specs.Prelude.{◌||◌, ◌&&◌, nat_le, nat_lt}
-use Rattle.std.proofs.lemmas.Bool.Decides.{leb_tells}
-use Rattle.trigger_group.specs.declared.seen.Seen.{Seen}
-use Rattle.axis_homing.specs.Homing.{homing_of, homing_with, member_where, members_from, moving_on}
-use Rattle.axis_homing.specs.Rising.{members_of}
-use Rattle.host_reactor.specs.declared.ordered.Known.{Known}
-use Rattle.host_reactor.specs.Notes.{news_of, noted, known_behind, told_all}
-use Rattle.host_reactor.specs.Runs.{Came, HaveStates, known_by, state_at}
+use Rattle.axis_homing.specs.Homing.{homing_of, homing_with, member_where, moving_on}
+use Rattle.host_reactor.specs.Runs.{HaveStates}
 use Rattle.laws_homing.specs.home_runs.Words.{BeginsNone}
 use Rattle.laws_homing.proofs.home_runs.Knowing.{all_none}
-use Rattle.laws_homing.proofs.clear_boards.Clocking.{board_reports, board_rises}
+use Rattle.laws_homing.proofs.clear_boards.Clocking.{board_reports}
 use Rattle.laws_homing.specs.clear_groups.Sections.{AreOfTurn, IsFollowed, turns_of}
 use Rattle.laws_homing.specs.clear_groups.SetUp.{BeginsSome, IsNew, IsNewIn}
-use Rattle.laws_homing.proofs.clear_groups.Beginning.{same_unseen, unheard}
+use Rattle.laws_homing.proofs.clear_groups.Beginning.{unheard}
+use Rattle.laws_homing.proofs.fired_runs.Reported.{sole_state}
+use Rattle.axis_homing.proofs.Room.{on-few}
+use Rattle.laws_board.proofs.clocks.Near.{turn_long}
+use Rattle.axis_homing.proofs.Rises.{unseen-members}
 
 -- the section of a note
 abbrev pub IsNewly : Machine → Option Homing → Type 0
@@ -70,20 +51,15 @@ members_within m axis moving b k (d ∷ boards) x =
       | inr more ↦ (let l = members_within m axis moving b (k + 1) boards more in omega (arith, l))
     ]
 
--- and it doesn't end before it starts
-and_true : (a b : Bool) → (a && b) ≡ true → (a ≡ true) × (b ≡ true)
-and_true true b e = (refl, e)
-and_true false b e = cc
-
 may_order : (xs : List Seen) (start last : ℕ) → may_be xs start last ≡ true → start ≤ last
 may_order xs start last e =
-    let parts = and_true (nat_le 254 start) _ e in
-    let order = (and_true (nat_le start last) _ parts.1).0 in
+    let parts = both_parts (nat_le 254 start) _ e in
+    let order = (both_parts (nat_le start last) _ parts.1).0 in
     elim (leb_tells start last) [ inl p ↦ p.1 | inr p ↦ absurd (let bad : false ≡ true = sym p.0 ∙ order in cc) ]
 
 begun_if : (m : Machine) (c : Bool) (section axis turn last : ℕ) (ms : List Member) → ((b : ℕ) → IsMember b ms → b < length m.boards) → (c ≡ true → turn ≤ last) → IsNewly m (homing_with section axis turn (cond c (Some (new_group ms turn last)) None))
 begun_if m true section axis turn last ms within order =
-    (refl, record { begins = refl; ends = refl; unheard = ap (map unseen) (sym (same_unseen ms)); calm = refl }, λ b on. within b (subst (IsMember b) (same_unseen ms) on), order refl)
+    (refl, record { begins = refl; ends = refl; unheard = ap (map unseen) (sym (unseen-members ms)); calm = refl }, λ b on. within b (subst (IsMember b) (unseen-members ms) on), order refl)
 begun_if m false section axis turn last ms within order = tt
 
 begun_newly : (m : Machine) (section : ℕ) (kind : SectionKind) (turn last moving : ℕ) → IsNewly m (homing_of m section kind turn last moving)
@@ -141,7 +117,7 @@ board_followed m b clocks ready start last till v within k begins goes ends in_r
     let freq = valid.freq in
     let low = freq.low in
     let drift = drift_small (board_at m b).drift valid.drift_low valid.drift_high in
-    let few = few_on b m.steppers in
+    let few = on-few b m.steppers in
     let most = v.steppers_few in
     record {
       tracked = k;
@@ -150,7 +126,7 @@ board_followed m b clocks ready start last till v within k begins goes ends in_r
       ends = ends;
       in_run = in_run;
       ticks = valid_ticks (board_at m b) valid;
-      rises = λ u. board_rises (clock_of (board_at m b)) u freq drift;
+      rises = λ u. turn_long (clock_of (board_at m b)) u freq drift;
       reports = λ u. board_reports (clock_of (board_at m b)) u freq drift;
       trigger = omega (arith, few, most);
       spaced = omega (arith, low);
@@ -162,16 +138,13 @@ some_state b [] s e = absurd (let bad : [] ≡ s ∷ [] = e in cc)
 some_state zero (x ∷ states) s e = omega arith
 some_state (suc b) (x ∷ states) s e = let rest = some_state b states s e in omega (arith, rest)
 
-first_of : (t s : State) → t ∷ [] ≡ s ∷ [] → t ≡ s
-first_of t s e = cc
-
 no_first : (s : State) → [] ≡ s ∷ [] → ⊥
 no_first s e = cc
 
 latest_turn : (clock : BoardClock) (first : LinkState) (turns : List BoardTurn) (s : State) → AreBoardTurns clock first turns → latest_state turns ≡ s ∷ [] → s.turn + 1 ≡ length turns
 latest_turn clock first [] s are e = absurd (no_first s e)
 latest_turn clock first (t ∷ turns) s are e =
-    let same = first_of t.state s e in
+    let same = sole_state t.state s e in
     let turn : t.state.turn ≡ length turns = are.0.1.turn in
     let is : t.state.turn ≡ s.turn = ap (λ (x : State). x.turn) same in
     omega (arith, turn, is)

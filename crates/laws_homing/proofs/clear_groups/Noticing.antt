@@ -1,37 +1,16 @@
 -- A homing group hears of no member in a turn far behind the one in which it hears.
 use Rattle.std.proofs.Common.{◌≡◌, ℕ, zero, suc, ◌+◌, ◌%◌, ◌^◌, ◌<◌, ◌≤◌, ◌==◌, Bool, true, false, not, cond, List, [], ◌∷◌, ◌++◌, length, map, Option, Some, None, refl, ap, sym, ◌∙◌, subst, arith, inl, inr}
 use Rattle.std.specs.Prelude.{nat_lt}
-use Rattle.std.proofs.lemmas.Bool.Decides.{eqb_tells, leb_tells}
-use Rattle.plan_types.specs.declared.levels.Level.{Level}
-use Rattle.plan_types.specs.declared.machine.BoardDef.{BoardDef}
-use Rattle.plan_types.specs.Board.{nearest}
-use Rattle.plan_types.specs.Clock.{board_tick, clock_of}
-use Rattle.plan_types.specs.Lines.{Clocks}
-use Rattle.plan_types.specs.Sections.{clocks_at}
-use Rattle.clock_line.specs.Early.{turn_in_run, turn_tick}
-use Rattle.wire_scene.specs.declared.scene.Entry.{Entry}
-use Rattle.msg_dict.specs.Own.{own_formats}
-use Rattle.msg_code.specs.declared.cmd.Cmd.{Cmd}
+use Rattle.laws_board.proofs.Names.{eqb_tells, leb_tells, Level, BoardDef, nearest, board_tick, clock_of, Clocks, clocks_at, turn_in_run, turn_tick, Entry, own_formats, Cmd, News, State, IsText, commands_of, Rig, takes_all, says, wire_text, queued_in, first_state, orders, Seen, GroupState, Homing, hears_all, state_at}
 use Rattle.msg_code.specs.declared.cmd.Cmd.TheVariants as cmd
 use Rattle.msg_dict.specs.declared.row.Row.TheVariants as row
-use Rattle.msg_code.specs.declared.talk.News.{News}
-use Rattle.msg_code.specs.declared.talk.State.{State}
 use Rattle.msg_code.specs.Table.{row_of}
-use Rattle.msg_code.specs.Text.{IsText}
-use Rattle.board_sim.specs.Fair.{commands_of}
-use Rattle.board_sim.specs.Rig.{Rig, takes_all}
 use Rattle.plan_types.specs.declared.plan.TrigState.{TrigState}
-use Rattle.board_world.specs.World.{says, wire_text}
 use Rattle.link_work.specs.Answers.{IsAmong}
 use Rattle.laws_homing.specs.clear_boards.Rests.{RestsOver}
-use Rattle.link_work.specs.Runs.{queued_in}
-use Rattle.link_work.specs.Stands.{first_state, orders}
 use Rattle.laws_board.specs.turns.Turns.{AreBoardTurns, BoardTurn, stands_after}
-use Rattle.trigger_group.specs.declared.seen.Seen.{Seen}
-use Rattle.trigger_group.specs.Group.{GroupState, came, heard_of, hears_from, later}
-use Rattle.axis_homing.specs.declared.homing.Homing.{Homing}
-use Rattle.axis_homing.specs.Homing.{came_at, hears_all, hears_answer, hears_news, hears_state, hears_states}
-use Rattle.host_reactor.specs.Runs.{state_at}
+use Rattle.trigger_group.specs.Group.{came, heard_of, hears_from, later}
+use Rattle.axis_homing.specs.Homing.{came_at, hears_answer, hears_news, hears_state, hears_states}
 use Rattle.laws_homing.proofs.home_runs.Spelled.{same_kind, state_told}
 use Rattle.laws_homing.specs.clear_boards.Firing.{AreNumbered, AreSmall, IsNumbered, IsSmall}
 use Rattle.laws_homing.specs.clear_boards.Hearing.{IsAble}
@@ -39,6 +18,7 @@ use Rattle.laws_homing.proofs.clear_boards.Knowing.{behind, same_board}
 use Rattle.laws_homing.proofs.clear_boards.Saying.{said_in_turn}
 use Rattle.laws_homing.specs.clear_groups.Early.{AreEarly, HeardUntil, TellsBetween}
 use Rattle.laws_homing.proofs.clear_boards.Ending.{fits_among, small_among}
+use Rattle.plan_types.proofs.Facts.{was_equal}
 
 -- what the news of a turn tell of triggers that can trigger counts in no turn behind this one
 abbrev pub AllAbleBy : Clocks → ℕ → ℕ → List News → Type 0
@@ -92,16 +72,13 @@ one_heard start most true true s tick turn x low k = later_most start most turn 
 one_heard start most true false s tick turn x low k = k
 one_heard start most false can s tick turn x low k = k
 
-here_is : (a b : ℕ) → (a == b) ≡ true → a ≡ b
-here_is a b e = elim (eqb_tells a b) [ inl p ↦ p.1 | inr p ↦ absurd (let bad : false ≡ true = sym p.0 ∙ e in cc) ]
-
 all_heard : (start most b board tick turn : ℕ) (s : TrigState) (xs : List Seen) → (board ≡ b → s.can ≡ true → turn ≤ most) → HeardUntil start b most xs → HeardUntil start b most (map (hears_from board s tick turn) xs)
 all_heard start most b board tick turn s [] low k = tt
 all_heard start most b board tick turn s (x ∷ xs) low k =
     let here = x.member.board == board in (
       (λ is. (
           let at : x.member.board ≡ b = sym (same_board here s.can s tick turn x) ∙ is in
-          one_heard start most here s.can s tick turn x (λ e f. low (sym (here_is x.member.board board e) ∙ at) f) (k.0 at))),
+          one_heard start most here s.can s tick turn x (λ e f. low (sym (was_equal x.member.board board e) ∙ at) f) (k.0 at))),
       all_heard start most b board tick turn s xs low k.1,
     )
 

@@ -1,20 +1,10 @@
 -- What a member's board is sent in a turn of a homing section behind its set-up, before its start and from there on.
 use Rattle.std.proofs.Common.{◌≡◌, ℕ, ◌+◌, ◌≤◌, min, ◌⊎◌, inl, inr, false, List, [], ◌∷◌, ◌++◌, None, ap, sym, ◌∙◌, subst, arith}
 use Rattle.std.specs.List.{Contains}
-use Rattle.std.proofs.lemmas.Bool.Decides.{leb_tells}
-use Rattle.plan_types.specs.declared.machine.Machine.{Machine}
-use Rattle.plan_types.specs.Lines.{Clocks}
-use Rattle.plan_types.specs.Machines.{axis_at}
-use Rattle.clock_line.specs.Early.{turn_tick}
-use Rattle.msg_code.specs.declared.cmd.Cmd.{Cmd}
-use Rattle.trigger_group.specs.declared.order.Ctl.{Ctl}
-use Rattle.trigger_group.specs.declared.seen.Seen.{Seen}
-use Rattle.trigger_group.specs.Group.{GroupState, turned_group, all_fired, heard_of, least_heard, relay_begins}
+use Rattle.laws_board.proofs.Names.{leb_tells, Machine, Clocks, axis_at, turn_tick, Cmd, Ctl, Seen, GroupState, turned_group, all_fired, Homing, commands_to, low, trigger_of}
+use Rattle.trigger_group.specs.Group.{heard_of, least_heard, relay_begins}
 use Rattle.trigger_group.proofs.Answering.{either, none_there}
 use Rattle.trigger_group.proofs.Knows.{after_last, after_start}
-use Rattle.axis_homing.specs.declared.homing.Homing.{Homing}
-use Rattle.axis_homing.specs.Homing.{commands_to, low}
-use Rattle.board_asking.specs.Machine.{trigger_of}
 use Rattle.laws_homing.specs.clear_boards.Alive.{RelayNone}
 use Rattle.laws_homing.specs.clear_boards.Modes.{IsTimed}
 use Rattle.laws_homing.specs.clear_boards.Ordered.{IsOrdered}
@@ -25,6 +15,7 @@ use Rattle.laws_homing.proofs.clear_boards.Sending.{unset_all}
 use Rattle.laws_homing.proofs.clear_boards.Sent.{sent_behind, sent_far, sent_none, sent_sets}
 use Rattle.laws_homing.specs.clear_groups.Early.{HeardUntil}
 use Rattle.laws_homing.proofs.clear_groups.Known.{group_waits, none_waits}
+use Rattle.trigger_group.proofs.Bounds.{least_under}
 
 -- what a board is sent, by what its group knows
 pub record IsSent (m : Machine) (clocks : Clocks) (b turn : ℕ) (g : GroupState) (commands : List Cmd) : Type 0 where
@@ -70,10 +61,6 @@ timed_turn g turn far unended timed = elim (leb_tells g.start turn) [
       let same = group_waits g turn (omega (arith, low_so)) far in
       (subst IsTimed (sym same) timed, (let e : g.sent ≡ (turned_group g turn).sent = ap (λ (y : GroupState). y.sent) (sym same) in omega (arith, e)))
 ]
-
-least_under : (start least : ℕ) (xs : List Seen) → least_heard start least xs ≤ least
-least_under start least [] = omega arith
-least_under start least (x ∷ xs) = let rest = least_under start (min least (heard_of start x.heard)) xs in omega (arith, rest)
 
 pub least_at : (start least : ℕ) (x : Seen) (xs : List Seen) → Contains xs x → least_heard start least xs ≤ heard_of start x.heard
 least_at start least x [] c = absurd (none_there x c)

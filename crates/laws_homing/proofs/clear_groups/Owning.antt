@@ -1,29 +1,13 @@
 -- A board of a clear scene that runs has one trigger once connecting has ended.
 use Rattle.std.proofs.Common.{◌≡◌, ℕ, ◌<◌, ◌==◌, ◌&&◌, ◌⊎◌, inr, Bool, true, false, cond, List, [], ◌∷◌, refl, sym, ◌∙◌, subst, arith}
-use Rattle.std.proofs.lemmas.Bool.{eq-eqb}
-use Rattle.plan_types.specs.declared.levels.Level.{Level}
-use Rattle.plan_types.specs.declared.machine.BoardDef.{BoardDef}
-use Rattle.plan_types.specs.declared.plan.BoardState.TheVariants.{Running}
-use Rattle.plan_types.specs.Clock.{clock_of}
-use Rattle.link_work.specs.Limits.{AllKeepLimits}
+use Rattle.laws_board.proofs.Names.{eq-eqb, Level, BoardDef, Running, clock_of, AllKeepLimits, Machine, IsValidMachine, board_at, Cmd, Entry, Switch, Meant, commands_of, first_state, trigger_of, Connecting, Came, known_by}
 use Rattle.laws_board.specs.clocks.Runs.{orders_in}
-use Rattle.laws_board.proofs.orders.Controlled.{few_on}
 use Rattle.laws_homing.specs.home_runs.Guards.{IsSole}
 use Rattle.laws_homing.proofs.home_runs.Whole.{Has, OneHas, OneOnly, Only, config_has, filter_has, keep_there, queue_has, queue_only, run_only, there_first}
 use Rattle.laws_homing.specs.clear_boards.Rests.{RestsBehind}
 use Rattle.laws_homing.proofs.clear_boards.Rests.{clear_behind, free_at, rests_idle}
 use Rattle.laws_homing.proofs.home_runs.Resting.{rests_took}
-use Rattle.plan_types.specs.declared.machine.Machine.{Machine}
-use Rattle.plan_types.specs.Machines.{IsValidMachine, board_at}
-use Rattle.msg_code.specs.declared.cmd.Cmd.{Cmd}
 use Rattle.msg_code.specs.declared.cmd.Cmd.TheVariants as cmd
-use Rattle.wire_scene.specs.declared.scene.Entry.{Entry}
-use Rattle.wire_scene.specs.declared.scene.Switch.{Switch}
-use Rattle.board_sim.specs.Fair.{Meant, commands_of}
-use Rattle.link_work.specs.Stands.{first_state}
-use Rattle.board_asking.specs.Machine.{trigger_of}
-use Rattle.host_reactor.specs.declared.ordered.Phase.TheVariants.{Connecting}
-use Rattle.host_reactor.specs.Runs.{Came, known_by}
 use Rattle.laws_board.specs.turns.Turns.{AreBoardTurns, BoardTurn, stands_after}
 use Rattle.laws_board.specs.clocks.Ordered.{commands_in}
 use Rattle.laws_board.specs.clocks.Runs.{IsInRun}
@@ -31,6 +15,7 @@ use Rattle.laws_board.proofs.clocks.Configured.{all_configured}
 use Rattle.laws_homing.specs.home_runs.Sections.{queued_in_turns}
 use Rattle.laws_homing.specs.home_runs.Stages.{Stage, lost_stage, no_stage, stage_from, stage_of}
 use Rattle.laws_homing.proofs.home_runs.Staging.{HasSlot, staged_after}
+use Rattle.axis_homing.proofs.Room.{on-few}
 
 -- what commands make of a stage
 abbrev Grown : ℕ → ℕ → Stage → List Cmd → Type 0
@@ -72,7 +57,7 @@ pub one_rested : (m : Machine) (switches : List Switch) (pins : List (List Level
     → IsSole (trigger_of m b) (stands_after (first_state (board_at m b) pins b entries) turns).core.board × HasSlot (trigger_of m b) (stands_after (first_state (board_at m b) pins b entries) turns).core.board
 one_rested m switches pins entries b came turns v r rest n runs =
     let j = trigger_of m b in
-    let few : j < 256 = (let most = v.steppers_few in let here = few_on b m.steppers in omega (arith, most, here)) in
+    let few : j < 256 = (let most = v.steppers_few in let here = on-few b m.steppers in omega (arith, most, here)) in
     let d = board_at m b in
     let all = all_configured m switches pins entries b came turns v r n in
     let g = grown 0 j no_stage (commands_of (queued_in_turns turns)) (queue_only j turns (run_only m switches pins entries b came turns v r)) refl in

@@ -1,19 +1,12 @@
 -- Earlier turns of a board, and a board that nothing was told.
 use Rattle.std.proofs.Common.{◌≡◌, ℕ, zero, suc, ◌+◌, ◌≤◌, List, [], ◌∷◌, length, Option, Some, None, refl, ap, arith}
 use Rattle.std.specs.Prelude.{slice_index_or}
-use Rattle.plan_types.specs.declared.levels.Level.{Level}
-use Rattle.plan_types.specs.declared.machine.Machine.{Machine}
-use Rattle.plan_types.specs.Clock.{board_tick, clock_of}
-use Rattle.plan_types.specs.Machines.{board_at}
-use Rattle.wire_scene.specs.declared.scene.Entry.{Entry}
-use Rattle.wire_scene.specs.declared.scene.Switch.{Switch}
-use Rattle.board_sim.specs.Rig.{Slot, no_objects}
-use Rattle.link_work.specs.Stands.{orders}
+use Rattle.laws_board.proofs.Names.{Level, Machine, board_tick, clock_of, board_at, Entry, Switch, Slot, orders, Came}
+use Rattle.board_sim.specs.Rig.{no_objects}
 use Rattle.laws_board.specs.turns.Turns.{BoardTurn}
 use Rattle.laws_board.specs.clocks.Runs.{orders_in}
 use Rattle.laws_board.proofs.clocks.Lines.{run_before}
 use Rattle.link_work.proofs.Late.{limits_split}
-use Rattle.host_reactor.specs.Runs.{Came}
 use Rattle.laws_homing.specs.clear_groups.Sections.{IsPlain}
 
 pub none_at : (n oid : ℕ) → slice_index_or (no_objects {A = Slot} n) oid None ≡ None

@@ -1,29 +1,8 @@
 -- Between its homing sections no trigger of a board of a clear scene can trigger.
 use Rattle.std.proofs.Common.{◌≡◌, ℕ, ◌+◌, ◌<◌, ◌≤◌, ◌⊎◌, inl, inr, Bool, true, false, List, [], ◌∷◌, ◌++◌, length, map, Option, Some, None, refl, ap, sym, ◌∙◌, subst, arith}
-use Rattle.plan_types.specs.declared.levels.Level.{Level}
-use Rattle.plan_types.specs.declared.machine.Machine.{Machine}
-use Rattle.plan_types.specs.declared.plan.BoardState.TheVariants.{Running}
-use Rattle.plan_types.specs.Clock.{board_tick, clock_of}
-use Rattle.plan_types.specs.Lines.{Clocks}
-use Rattle.plan_types.specs.Machines.{IsValidMachine, board_at}
-use Rattle.plan_types.specs.Sections.{clocks_at}
-use Rattle.clock_line.specs.Early.{turn_tick}
-use Rattle.msg_code.specs.declared.cmd.Cmd.{Cmd}
+use Rattle.laws_board.proofs.Names.{Level, Machine, Running, board_tick, clock_of, Clocks, IsValidMachine, board_at, clocks_at, turn_tick, Cmd, News, State, Unit as StepUnit, dir_commands, reset_commands, Entry, Switch, trigger_of, Meant, commands_of, Rig, Slot, passes, slot_at, takes_all, one_slot, plain, unit_orders, units_orders, queued_in, first_state, orders, End, Seen, GroupState, turned_group, Homing, answer_in, goes_on_homing, hears_all, homing_after, low, members_of, Connecting, Phase, news_of, noted, Reacted, Came, GoesOn, known_by, last_reacted, states-kept}
 use Rattle.msg_code.specs.declared.cmd.Cmd.TheVariants as cmd
-use Rattle.msg_code.specs.declared.talk.News.{News}
-use Rattle.msg_code.specs.declared.talk.State.{State}
-use Rattle.msg_code.specs.declared.unit.Unit.{Unit as StepUnit}
-use Rattle.msg_code.specs.Units.{dir_commands, reset_commands}
-use Rattle.wire_scene.specs.declared.scene.Entry.{Entry}
-use Rattle.wire_scene.specs.declared.scene.Switch.{Switch}
-use Rattle.board_asking.specs.Machine.{trigger_of}
 use Rattle.board_sim.specs.Board.{new_controller}
-use Rattle.board_sim.specs.Fair.{Meant, commands_of}
-use Rattle.board_sim.specs.Rig.{Rig, Slot, passes, slot_at, takes_all}
-use Rattle.board_sim.proofs.Bound.{one_slot}
-use Rattle.board_world.specs.Orders.{plain, unit_orders, units_orders}
-use Rattle.link_work.specs.Runs.{queued_in}
-use Rattle.link_work.specs.Stands.{first_state, orders}
 use Rattle.laws_board.specs.turns.Turns.{BoardTurn, stands_after}
 use Rattle.laws_board.proofs.clocks.Controls.{states_start}
 use Rattle.laws_board.proofs.clocks.Lines.{as_long, noted_phase}
@@ -32,21 +11,11 @@ use Rattle.laws_board.proofs.sections.Boarding.{runs_on}
 use Rattle.laws_homing.specs.home_runs.Guards.{HasFired, IsSole}
 use Rattle.laws_homing.specs.home_runs.Told.{IsMember, TellFiredFrom}
 use Rattle.laws_homing.specs.home_runs.Windows.{IsFired, SayFired}
-use Rattle.laws_homing.proofs.home_runs.Grouped.{answered_told, members_states}
+use Rattle.laws_homing.proofs.home_runs.Grouped.{answered_told}
 use Rattle.laws_homing.proofs.home_runs.Guarding.{passes_next}
 use Rattle.laws_homing.proofs.home_runs.Staging.{HasSlot, commands_both, staged_after}
-use Rattle.trigger_group.specs.declared.order.End.{End}
-use Rattle.trigger_group.specs.declared.seen.Seen.{Seen}
-use Rattle.trigger_group.specs.Group.{GroupState, turned_group}
 use Rattle.trigger_group.proofs.Knows.{after_members, after_start}
-use Rattle.axis_homing.specs.declared.homing.Homing.{Homing}
-use Rattle.axis_homing.specs.Homing.{answer_in, goes_on_homing, hears_all, homing_after, low}
-use Rattle.axis_homing.specs.Rising.{members_of}
-use Rattle.host_reactor.specs.declared.ordered.Phase.TheVariants.{Connecting, Running as RunsPhase}
-use Rattle.host_reactor.specs.declared.ordered.Phase.{Phase}
-use Rattle.host_reactor.specs.Notes.{news_of, noted}
-use Rattle.host_reactor.specs.Reactor.{Reacted}
-use Rattle.host_reactor.specs.Runs.{Came, GoesOn, known_by, last_reacted}
+use Rattle.host_reactor.specs.declared.ordered.Phase.TheVariants.{Running as RunsPhase}
 use Rattle.laws_homing.specs.clear_boards.Hearing.{FiringNone}
 use Rattle.laws_homing.specs.clear_boards.Turned.{AreSentBehind}
 use Rattle.laws_homing.proofs.clear_boards.Rests.{clear_over}
@@ -58,14 +27,17 @@ use Rattle.laws_homing.proofs.clear_boards.Turned.{above, next_all, stays_fired}
 use Rattle.laws_homing.specs.clear_groups.Resting.{BeginsAlone, EachTame, IsUnderWay}
 use Rattle.laws_homing.specs.clear_boards.Limited.{AllFired}
 use Rattle.laws_homing.specs.clear_groups.Sections.{IsPlain}
-use Rattle.laws_homing.proofs.clear_groups.Known.{answered_late, behind_turn, open_group}
+use Rattle.laws_homing.proofs.clear_groups.Known.{behind_turn, open_group}
 use Rattle.laws_homing.proofs.clear_groups.Noted.{IsNewly, noted_newly, some_or_none}
 use Rattle.laws_homing.proofs.clear_groups.Off.{turn_off as turn_all_off}
 use Rattle.laws_homing.proofs.clear_groups.Orders.{sent_from}
 use Rattle.laws_homing.proofs.clear_groups.Owning.{one_trigger}
 use Rattle.laws_homing.proofs.clear_groups.Plain.{none_at, none_some, turn_before}
 use Rattle.laws_homing.proofs.clear_groups.Starting.{starts_either}
-use Rattle.laws_homing.proofs.home_runs.Knowing.{not_connecting, noted_none, running_now}
+use Rattle.laws_homing.proofs.home_runs.Knowing.{noted_none, running_now}
+use Rattle.host_reactor.proofs.Connects.{not-running, stop-phase}
+use Rattle.plan_types.proofs.Facts.{true_or_false}
+use Rattle.laws_homing.proofs.home_parts.Known.{answer_late}
 
 -- what a board takes in a turn beside its controls starts no trigger
 tame_both : (xs ys : List Cmd) → EachTame xs → EachTame ys → EachTame (xs ++ ys)
@@ -128,13 +100,6 @@ homing_together : (clocks : List Clocks) (k : ℕ) (states : List State) (o : Op
 homing_together clocks k states None t = tt
 homing_together clocks k states (Some h) t = let g = hears_all clocks states h in after_together k g (answer_in k g.start g.group) (heard_together clocks states h t)
 
-pub running_not : (p : Phase) → p ≡ RunsPhase → p ≡ Connecting → ⊥
-running_not p e f = let bad : RunsPhase ≡ Connecting = sym e ∙ f in cc
-
-can_or : (b : Bool) → (b ≡ true) ⊎ (b ≡ false)
-can_or true = inl refl
-can_or false = inr refl
-
 pub some_same : (x y : Homing) → Some x ≡ Some y → x ≡ y
 some_same x y e = cc
 
@@ -167,7 +132,7 @@ next_of m switches d past g open_it =
     let known = known_by m switches past in
     let x = last_reacted m switches d past in
     let r = running_now m (noted m d.note known) (length past) d.states x (goes m switches known (length past) d.states d.note g.0) open_it in
-    record { phase = λ e. not_connecting r.stop (sym (ap (λ (y : Reacted). y.known.phase) r.is) ∙ e); homing = ap (λ (y : Reacted). y.known.homing) r.is }
+    record { phase = λ e. stop-phase r.stop (sym (ap (λ (y : Reacted). y.known.phase) r.is) ∙ e); homing = ap (λ (y : Reacted). y.known.homing) r.is }
 
 module _ (m : Machine) (v : IsValidMachine m) (switches : List Switch) (pins : List (List Level)) (entries : List Entry) (none : entries ≡ []) (b : ℕ) where
   abbrev Board : List BoardTurn → Rig
@@ -217,7 +182,7 @@ module _ (m : Machine) (v : IsValidMachine m) (switches : List Switch) (pins : L
         let two = (passes_next (above Commands) Oid q Until).slots one.slot one.is in
         let places = next.places in
         let few = (staged_after (board_at m b) pins b entries turns 0 0 (omega arith) (omega arith) was.run.turns_are).triggers in
-        subst (HasFired Oid) (sym taken) (elim (can_or two.slot.trigger.can) [
+        subst (HasFired Oid) (sym taken) (elim (true_or_false two.slot.trigger.can) [
           | inr off ↦ record { slot = two.slot; is = two.is; fired = off }
           | inl can ↦
               let each = turn_off Oid clock Until (Board turns) Commands (omega (arith, few)) (omega (arith, places, few)) sole (next.sole sole) behind in
@@ -243,7 +208,7 @@ module _ (m : Machine) (v : IsValidMachine m) (switches : List Switch) (pins : L
         let heard = hears_all n.clocks d.states h in
         let to : (known_by m switches (d ∷ past)).homing ≡ Some (behind_turn heard k) = next.homing ∙ ap (λ (o : Option Homing). homing_after n.clocks k d.states o) is ∙ ap (λ (o : Option End). goes_on_homing k heard o) goes_so in
         let begins : heard.group.start ≡ h.start = heard_together n.clocks d.states h together in
-        let members : members_of (turned_group heard.group k) ≡ members_of h.group = ap (λ (xs : List Seen). map (λ (x : Seen). x.member) xs) (after_members heard.group k) ∙ members_states n.clocks 0 h.start d.states h.group in
+        let members : members_of (turned_group heard.group k) ≡ members_of h.group = ap (λ (xs : List Seen). map (λ (x : Seen). x.member) xs) (after_members heard.group k) ∙ states-kept n.clocks 0 h.start d.states h.group in
         let long = as_long m switches b past turns was.run.both in
         let open_past : (known_by m switches past).phase ≡ Connecting → ⊥ = λ e. open_it (noted_phase m d.note (known_by m switches past) ∙ e) in
         let o = turn_ordered m switches pins entries b d past t turns h now.run is open_it goes_so in
@@ -282,7 +247,7 @@ module _ (m : Machine) (v : IsValidMachine m) (switches : List Switch) (pins : L
             | inr no_note ↦ subst Together (sym (noted_none m d.note (known_by m switches past) no_note)) (known_together m switches past was.run.goes_on)
           ] in
           let begins : h.group.start ≡ h.start = subst Together x.1.known together in
-          goes_on_way h x.1.known (λ e. running_not n.phase x.0 e) begins (omega (arith, at, begins)) x.1.member (none_told h.start (omega (arith, at, begins, long))) (not_yet (length past) h.start (hears_all n.clocks d.states h).group (omega (arith, at, begins)))
+          goes_on_way h x.1.known (λ e. not-running n.phase x.0 e) begins (omega (arith, at, begins)) x.1.member (none_told h.start (omega (arith, at, begins, long))) (not_yet (length past) h.start (hears_all n.clocks d.states h).group (omega (arith, at, begins)))
     ]
       where
         not_yet : (k start : ℕ) (g : GroupState) → k < start → answer_in k start g ≡ None
@@ -290,7 +255,7 @@ module _ (m : Machine) (v : IsValidMachine m) (switches : List Switch) (pins : L
           where
             by : (o : Option End) → answer_in k start g ≡ o → answer_in k start g ≡ None
             by None e = e
-            by (Some end) e = absurd (let late = answered_late k start g end e in omega (arith, late, l))
+            by (Some end) e = absurd (let late = answer_late k start g end e in omega (arith, late, l))
     step alone (inr (open_past, u)) =
         let known = known_by m switches past in
         let n = noted m d.note known in

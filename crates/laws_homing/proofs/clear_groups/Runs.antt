@@ -1,34 +1,11 @@
 -- The boards of a run in which axes home stay quiet, so that each homing section is set up, safe, and answers of no expiry.
 use Rattle.std.proofs.Common.{◌≡◌, ℕ, ◌+◌, ◌-◌, ◌*◌, ◌<◌, ◌≤◌, inl, inr, Bool, false, List, [], ◌∷◌, ◌++◌, length, map, Option, Some, None, sym, ◌∙◌, subst, arith}
-use Rattle.std.proofs.lemmas.Bool.Decides.{leb_tells}
-use Rattle.plan_types.specs.declared.levels.Level.{Level}
-use Rattle.plan_types.specs.declared.machine.Machine.{Machine}
-use Rattle.plan_types.specs.Clock.{board_tick, clock_of, turn_ns}
-use Rattle.plan_types.specs.Lines.{Clocks, lines_tick}
-use Rattle.plan_types.specs.Machines.{IsValidMachine, board_at}
-use Rattle.wire_scene.specs.declared.scene.Entry.{Entry}
-use Rattle.wire_scene.specs.declared.scene.Switch.{Switch}
-use Rattle.msg_code.specs.declared.cmd.Cmd.{Cmd}
-use Rattle.msg_code.specs.declared.unit.Unit.{Unit as StepUnit}
-use Rattle.board_asking.specs.Machine.{trigger_of}
-use Rattle.board_sim.specs.Fair.{Meant, commands_of}
-use Rattle.board_sim.specs.Rig.{Rig, slot_at}
-use Rattle.board_sim.specs.RigRuns.{AllSound}
-use Rattle.board_world.specs.Orders.{plain, unit_orders, units_orders}
-use Rattle.msg_code.specs.Units.{dir_commands, reset_commands}
-use Rattle.link_work.specs.Runs.{queued_in}
-use Rattle.link_work.specs.Stands.{orders}
+use Rattle.laws_board.proofs.Names.{leb_tells, Level, Machine, board_tick, clock_of, turn_ns, Clocks, lines_tick, IsValidMachine, board_at, Entry, Switch, Cmd, Unit as StepUnit, trigger_of, Meant, commands_of, Rig, slot_at, AllSound, plain, unit_orders, units_orders, dir_commands, reset_commands, queued_in, orders, Member, Homing, answer_in, hears_all, members_of, noted, Came, known_by}
 use Rattle.laws_board.specs.turns.Turns.{BoardTurn}
 use Rattle.laws_board.proofs.sections.Linking.{valid_ticks}
 use Rattle.laws_homing.specs.home_runs.Told.{IsMember}
 use Rattle.laws_homing.proofs.home_runs.Staging.{commands_both}
 use Rattle.trigger_group.specs.declared.order.End.TheVariants as end
-use Rattle.trigger_group.specs.declared.order.Member.{Member}
-use Rattle.axis_homing.specs.declared.homing.Homing.{Homing}
-use Rattle.axis_homing.specs.Homing.{answer_in, hears_all}
-use Rattle.axis_homing.specs.Rising.{members_of}
-use Rattle.host_reactor.specs.Notes.{noted}
-use Rattle.host_reactor.specs.Runs.{Came, known_by}
 use Rattle.laws_homing.proofs.clear_boards.Standing.{sound_at}
 use Rattle.laws_homing.proofs.clear_boards.Taking.{takes_in_turn}
 use Rattle.laws_homing.specs.clear_groups.Quiet.{EachBlind, ReadsNoSwitch}
@@ -39,7 +16,7 @@ use Rattle.laws_homing.specs.clear_groups.SetUp.{HoldsOf, IsPrepared}
 use Rattle.laws_homing.proofs.clear_groups.Beginning.{armed_second, begins_safe}
 use Rattle.laws_homing.proofs.clear_groups.Sections.{rests_section}
 use Rattle.laws_homing.proofs.clear_groups.Ended.{never_any}
-use Rattle.laws_homing.proofs.clear_groups.Known.{answered_late, of_known, some_known}
+use Rattle.laws_homing.proofs.clear_groups.Known.{of_known, some_known}
 use Rattle.laws_homing.proofs.clear_groups.Owning.{one_trigger}
 use Rattle.laws_homing.proofs.clear_groups.Plain.{none_at, none_some, turn_before}
 use Rattle.laws_homing.proofs.clear_groups.Quiet.{armed_quiet, turn_quiet}
@@ -47,6 +24,7 @@ use Rattle.laws_homing.proofs.clear_groups.Reading.{reads_either}
 use Rattle.laws_homing.proofs.clear_groups.Resting.{board_runs, off_at}
 use Rattle.laws_homing.specs.clear_groups.Resting.{BeginsAlone}
 use Rattle.laws_homing.proofs.clear_boards.Ordered.{plain_are}
+use Rattle.laws_homing.proofs.home_parts.Known.{answer_late}
 
 -- what a board takes in a turn beside its controls lets no trigger read its switch
 blind_both : (xs ys : List Cmd) → EachBlind xs → EachBlind ys → EachBlind (xs ++ ys)
@@ -230,7 +208,7 @@ module _ (m : Machine) (switches : List Switch) (pins : ℕ → List (List Level
         → (h : Homing) → (noted m c.note (known_by m switches before)).homing ≡ Some h → (b turn : ℕ) → answer_in (length before) h.start (hears_all (noted m c.note (known_by m switches before)).clocks c.states h).group ≡ Some (end.Expired b turn) → ⊥
     run_never c before all s alone set_up reach l h is b turn ends =
         let begins = (of_known start members (noted m c.note (known_by m switches before)).homing h (s.homes.0 l).1 is).0 in
-        let late = answered_late (length before) h.start (hears_all (noted m c.note (known_by m switches before)).clocks c.states h).group (end.Expired b turn) ends in
+        let late = answer_late (length before) h.start (hears_all (noted m c.note (known_by m switches before)).clocks c.states h).group (end.Expired b turn) ends in
         let x = find c before all s alone set_up reach (omega (arith, late, begins)) in
         let low_so = x.low_so in
         never_any m switches pins entries (lines start) ready from start x.last till (start - 249) members x.followed (omega (arith, begun)) (omega (arith, low_so)) (omega arith) (omega (arith, begun)) c before all (rests_section m switches pins entries (lines start) from start members c before all none s) reach (omega (arith, late, begins)) x.safe h is b turn ends

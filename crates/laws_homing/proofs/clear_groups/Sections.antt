@@ -1,27 +1,12 @@
 -- A homing section over its turns: once its group and its members' boards are safe, they stay so, and no board tells of an early expiry.
 use Rattle.std.proofs.Common.{◌≡◌, ℕ, suc, ◌+◌, ◌≤◌, inl, inr, List, [], ◌∷◌, ◌++◌, length, Some, ap, sym, ◌∙◌, subst, arith}
-use Rattle.std.proofs.lemmas.Bool.Decides.{leb_tells}
-use Rattle.plan_types.specs.declared.levels.Level.{Level}
-use Rattle.plan_types.specs.declared.machine.Machine.{Machine}
-use Rattle.plan_types.specs.Clock.{board_tick, clock_of}
-use Rattle.plan_types.specs.Lines.{Clocks}
-use Rattle.plan_types.specs.Machines.{board_at}
-use Rattle.plan_types.specs.Sections.{clocks_at}
-use Rattle.wire_scene.specs.declared.scene.Entry.{Entry}
-use Rattle.wire_scene.specs.declared.scene.Switch.{Switch}
-use Rattle.msg_code.specs.declared.talk.State.{State}
-use Rattle.link_work.specs.Stands.{orders}
+use Rattle.laws_board.proofs.Names.{leb_tells, Level, Machine, board_tick, clock_of, Clocks, board_at, clocks_at, Entry, Switch, State, orders, Member, Homing, answer_in, hears_all, noted, Came, known_by, state_at}
 use Rattle.link_work.proofs.Late.{limits_split}
 use Rattle.laws_board.specs.turns.Turns.{BoardTurn}
 use Rattle.laws_board.specs.clocks.Runs.{orders_in}
 use Rattle.laws_board.proofs.clocks.Lines.{as_long, run_before}
 use Rattle.trigger_group.specs.declared.order.End.TheVariants as end
-use Rattle.trigger_group.specs.declared.order.Member.{Member}
 use Rattle.laws_homing.specs.home_runs.Told.{IsMember}
-use Rattle.axis_homing.specs.declared.homing.Homing.{Homing}
-use Rattle.axis_homing.specs.Homing.{answer_in, hears_all}
-use Rattle.host_reactor.specs.Notes.{noted}
-use Rattle.host_reactor.specs.Runs.{Came, known_by, state_at}
 use Rattle.laws_homing.specs.clear_boards.Expiry.{TellExpiry}
 use Rattle.laws_homing.proofs.clear_boards.Keeping.{hears_keep}
 use Rattle.laws_homing.proofs.clear_boards.Never.{never_expires}
@@ -30,10 +15,8 @@ use Rattle.laws_homing.specs.clear_groups.Sections.{AllLate, IsAlike, IsClearSec
 use Rattle.laws_homing.proofs.clear_boards.Rests.{clear_from}
 use Rattle.laws_homing.proofs.clear_groups.Groups.{step_in, step_late}
 use Rattle.laws_homing.proofs.clear_groups.Known.{of_known, some_known}
-use Rattle.laws_homing.proofs.clear_boards.Slots.{some_same}
-
-one_of : (s u : State) → s ∷ [] ≡ u ∷ [] → s ≡ u
-one_of s u e = cc
+use Rattle.laws_homing.proofs.fired_runs.Reported.{sole_state}
+use Rattle.plan_types.proofs.Facts.{some_same}
 
 none_one : (u : State) → [] ≡ u ∷ [] → ⊥
 none_one u e = cc
@@ -146,7 +129,7 @@ module _ (m : Machine) (switches : List Switch) (pins : ℕ → List (List Level
   never_told b on when low_when first c [] [] k late (y ∷ later) d past e s is begun tells = no_list d later past (heads c y [] (later ++ d ∷ past) e).1
   never_told b on when low_when first c (x ∷ more) (j ∷ js) k late [] d past e s is begun tells =
       let both = heads c d (x ∷ more) past e in
-      let told : (j b).state ≡ s = one_of (j b).state s (sym (k.states b on) ∙ ap (λ (z : Came). state_at b z.states) both.0 ∙ is) in
+      let told : (j b).state ≡ s = sole_state (j b).state s (sym (k.states b on) ∙ ap (λ (z : Came). state_at b z.states) both.0 ∙ is) in
       let turn : (j b).state.turn ≡ length (turns_of b js) = (k.plain b on).run.turns_are.0.1.turn in
       let At : State → Type 0 = λ z. start ≤ z.turn + 1 in
       let reached = subst At (sym told) begun in

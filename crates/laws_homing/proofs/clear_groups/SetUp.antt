@@ -2,50 +2,31 @@
 use Rattle.std.proofs.Common.{◌≡◌, ℕ, ◌+◌, ◌-◌, ◌*◌, ◌/◌, ◌<◌, ◌≤◌, ◌==◌, ◌⊎◌, inl, inr, Bool, true, false, List, [], ◌∷◌, ◌++◌, get_or, set, map, take, drop, Option, Some, None, refl, ap, sym, ◌∙◌, subst, arith}
 use Rattle.std.specs.Prelude.{if◌then◌else◌, slice_index_or, nat_lt}
 use Rattle.std.proofs.Math.Nat.{div-eq_of_lt}
-use Rattle.std.proofs.lemmas.Bool.{eqb-true}
-use Rattle.std.proofs.lemmas.Bool.Decides.{eqb_tells, nat_tests}
-use Rattle.std.proofs.lemmas.List.{get_or-set_other, get_or-set_same}
-use Rattle.plan_types.specs.declared.levels.Level.{Level}
-use Rattle.plan_types.specs.declared.machine.AxisDef.{AxisDef}
-use Rattle.plan_types.specs.declared.machine.Machine.{Machine}
-use Rattle.plan_types.specs.declared.plan.BoardState.{BoardState}
-use Rattle.plan_types.specs.declared.plan.BoardState.TheVariants.{Running}
-use Rattle.plan_types.specs.Board.{nearest}
-use Rattle.plan_types.specs.Lines.{Clocks}
+use Rattle.laws_board.proofs.Names.{eqb-true, eqb_tells, nat_tests, get_or-set_same, Level, AxisDef, Machine, BoardState, Running, nearest, Clocks, board_at, turn_tick, Cmd, trigger_of, Pending, Sampling, Trigger, Rig, Slot, acts, acts_running, becomes, expires_at_once, set_timeout, slot_at, takes, takes_all, slot_range, Ctl, Order, Homes, Starts, Seen, round_of, steppers, commands_to, low, order_command}
+use Rattle.std.proofs.lemmas.List.{get_or-set_other}
 use Rattle.plan_types.specs.Machines as machine
-use Rattle.plan_types.specs.Machines.{board_at}
-use Rattle.clock_line.specs.Early.{turn_tick}
-use Rattle.msg_code.specs.declared.cmd.Cmd.{Cmd}
 use Rattle.msg_code.specs.declared.cmd.Cmd.TheVariants as cmd
-use Rattle.board_asking.specs.Machine.{trigger_of}
-use Rattle.board_step.specs.Steps.{Pending}
 use Rattle.board_trig.specs.declared.sampling.Homing.{Homing as Reading}
-use Rattle.board_trig.specs.declared.sampling.Sampling.{Sampling}
-use Rattle.board_trig.specs.declared.trigger.Trigger.{Trigger}
 use Rattle.board_trig.specs.Sampling.{IsTriggerTick, group, reading_tick}
 use Rattle.board_trig.specs.Trigger as trig
 use Rattle.board_trig.proofs.TriggerTicks.{groups_rise}
 use Rattle.board_sim.specs.Board.{stepper_at}
-use Rattle.board_sim.specs.Rig.{Rig, Slot, acts, acts_running, becomes, bind, expires_at_once, home, set_timeout, slot_at, start_trigger, takes, takes_all}
-use Rattle.board_sim.proofs.Bound.{same_or_not, slot_range}
+use Rattle.board_sim.specs.Rig.{bind, home, start_trigger}
+use Rattle.board_sim.proofs.Bound.{same_or_not}
 use Rattle.board_sim.proofs.Halting.{sampling_moves}
 use Rattle.board_sim.proofs.RigStates.{all_tick}
 use Rattle.board_sim.proofs.RigTicks.{takes_rig_tick}
 use Rattle.laws_homing.specs.home_runs.Guards.{IsSole}
 use Rattle.laws_homing.specs.home_runs.Told.{IsMember}
 use Rattle.laws_homing.proofs.home_runs.Setting.{commands_both}
-use Rattle.trigger_group.specs.declared.order.Ctl.{Ctl}
-use Rattle.trigger_group.specs.declared.order.Order.{Order}
 use Rattle.trigger_group.specs.declared.order.Order.TheVariants as order
-use Rattle.trigger_group.specs.declared.round.Round.TheVariants.{Homes, Starts}
-use Rattle.trigger_group.specs.declared.seen.Seen.{Seen}
-use Rattle.trigger_group.specs.Group.{orders_to, round_of, steppers, stop, to_board}
-use Rattle.axis_homing.specs.Homing.{commands_to, low, order_command}
+use Rattle.trigger_group.specs.Group.{orders_to, stop, to_board}
 use Rattle.laws_homing.specs.clear_boards.Alive.{RelayNone}
 use Rattle.laws_homing.specs.clear_boards.Turned.{AreSentBehind, IsSentBehind, Relays}
-use Rattle.laws_homing.proofs.clear_boards.Alive.{less_is}
 use Rattle.laws_homing.proofs.clear_boards.Turned.{ran}
 use Rattle.laws_homing.specs.clear_groups.SetUp.{HoldsOf, IsArmed, IsPrepared}
+use Rattle.board_sim.proofs.Heeding.{all_append}
+use Rattle.plan_types.proofs.Facts.{is_less}
 
 -- the one trigger of a board becomes another
 set_sole : (oid k : ℕ) (r q : Rig) (u s : Slot) → slot_at r k ≡ Some s → q.triggers ≡ set r.triggers k (Some u) → IsSole oid r → IsSole oid q
@@ -122,7 +103,7 @@ module _ (oid base every : ℕ) where
       let now = r.controller.tick in
       let t = trig.with_timeout now clock s.trigger in
       let k = h.so in
-      let is : t ≡ record s.trigger { timeout = Some (nearest now clock) } = timed_is s.trigger.can now (nearest now clock) s.trigger k.can (less_is now (nearest now clock) (omega (arith, at, later))) in
+      let is : t ≡ record s.trigger { timeout = Some (nearest now clock) } = timed_is s.trigger.can now (nearest now clock) s.trigger k.can (is_less now (nearest now clock) (omega (arith, at, later))) in
       let u : Slot = record s { trigger = t } in
       let p = k.prepared in
       let So : Trigger → Type 0 = λ y. IsArmed base every (Some limit) r.pins (record s { trigger = y }) in
@@ -233,11 +214,6 @@ module _ (oid base every : ℕ) where
   others r (c ∷ cs) limit runs k none h =
       others (takes r c).rig cs limit runs (λ clock. (k clock).1) none.1 (running (Armed limit) r c (ran r (c ∷ cs) runs) (other r c limit (λ clock. (k clock).0) none.0 h))
 
--- commands one behind the other
-pub takes_both : (r : Rig) (xs ys : List Cmd) → (takes_all r (xs ++ ys)).rig ≡ (takes_all (takes_all r xs).rig ys).rig
-takes_both r [] ys = refl
-takes_both r (x ∷ xs) ys = takes_both (takes r x).rig xs ys
-
 -- an order that binds a stepper or reads the switch
 abbrev pub IsSetting : Order → Type 0
 IsSetting (order.Stop i) = Unit {0}
@@ -270,21 +246,21 @@ module _ (m : Machine) (clocks : Clocks) (b start : ℕ) (axis : AxisDef) (base 
   Ready l r = HoldsOf (trigger_of m b) (λ pins s. IsArmed base every l pins s) r
 
   abbrev Commands : List Ctl → List Cmd
-  Commands ctls = commands_to m clocks b start_trigger axis ctls
+  Commands ctls = commands_to m clocks b start axis ctls
 
-  setting_one : (what : Order) (r : Rig) (l : Option ℕ) → IsSetting what → r.controller.tick ≡ now → Ready l r → Ready l (acts r (order_command m clocks b start_trigger axis what)).rig
+  setting_one : (what : Order) (r : Rig) (l : Option ℕ) → IsSetting what → r.controller.tick ≡ now → Ready l r → Ready l (acts r (order_command m clocks b start axis what)).rig
   setting_one (order.Stop i) r l k at h = binds (trigger_of m b) base every r (machine.stepper_at m i).oid l h
-  setting_one order.Home r l k at h = reads (trigger_of m b) base every r _ (low (turn_tick clocks start_trigger)) _ _ _ _ l h (ap (λ (n : ℕ). nearest n (low (turn_tick clocks start_trigger))) at ∙ at_base)
+  setting_one order.Home r l k at h = reads (trigger_of m b) base every r _ (low (turn_tick clocks start)) _ _ _ _ l h (ap (λ (n : ℕ). nearest n (low (turn_tick clocks start))) at ∙ at_base)
   setting_one (order.Reset i) r l k at h = absurd k
   setting_one order.Start r l k at h = absurd k
   setting_one (order.Timeout turn) r l k at h = absurd k
   setting_one order.Trigger r l k at h = absurd k
 
   -- one order, to this board or another
-  setting_to : (here : Bool) (what : Order) (rest : List Cmd) (r : Rig) (l : Option ℕ) → IsSetting what → r.controller.tick ≡ now → (takes_all r ((if here then order_command m clocks b start_trigger axis what ∷ [] else []) ++ rest)).rig.controller.state ≡ Running
-      → ((q : Rig) → q.controller.tick ≡ now → (takes_all q rest).rig.controller.state ≡ Running → Ready l q → Ready l (takes_all q rest).rig) → Ready l r → Ready l (takes_all r ((if here then order_command m clocks b start_trigger axis what ∷ [] else []) ++ rest)).rig
+  setting_to : (here : Bool) (what : Order) (rest : List Cmd) (r : Rig) (l : Option ℕ) → IsSetting what → r.controller.tick ≡ now → (takes_all r ((if here then order_command m clocks b start axis what ∷ [] else []) ++ rest)).rig.controller.state ≡ Running
+      → ((q : Rig) → q.controller.tick ≡ now → (takes_all q rest).rig.controller.state ≡ Running → Ready l q → Ready l (takes_all q rest).rig) → Ready l r → Ready l (takes_all r ((if here then order_command m clocks b start axis what ∷ [] else []) ++ rest)).rig
   setting_to true what rest r l k at runs more h =
-      let c = order_command m clocks b start_trigger axis what in
+      let c = order_command m clocks b start axis what in
       more (takes r c).rig (takes_rig_tick r c ∙ at) runs (running (Ready l) r c (ran r (c ∷ rest) runs) (setting_one what r l k at h))
   setting_to false what rest r l k at runs more h = more r at runs h
 
@@ -300,15 +276,15 @@ module _ (m : Machine) (clocks : Clocks) (b start : ℕ) (axis : AxisDef) (base 
       → Ready (Some limit) (takes_all r (Commands (orders_to (Starts timeout) x))).rig
   started_here x h is e r at runs prep =
       let rest = Commands (map (stop x) (take 8 (steppers x))) in
-      let Cs : Bool → List Cmd = λ here. (if here then order_command m clocks b start_trigger axis order.Start ∷ [] else []) ++ ((if here then order_command m clocks b start_trigger axis (order.Timeout timeout) ∷ [] else []) ++ rest) in
+      let Cs : Bool → List Cmd = λ here. (if here then order_command m clocks b start axis order.Start ∷ [] else []) ++ ((if here then order_command m clocks b start axis (order.Timeout timeout) ∷ [] else []) ++ rest) in
       let Out : Bool → Type 0 = λ here. (takes_all r (Cs here)).rig.controller.state ≡ Running → Ready (Some limit) (takes_all r (Cs here)).rig in
-      let first = order_command m clocks b start_trigger axis order.Start in
-      let second = order_command m clocks b start_trigger axis (order.Timeout timeout) in
+      let first = order_command m clocks b start axis order.Start in
+      let second = order_command m clocks b start axis (order.Timeout timeout) in
       let done : Out true =
       (λ runs_so. (
       let q = (takes r first).rig in
       let one : Ready None q = running (Ready None) r first (ran r (first ∷ second ∷ rest) runs_so)
-      (starts_every r (starts (trigger_of m b) base every r (low (turn_tick clocks start_trigger)) prep (omega (arith, at, low_base)) (ap (λ (n : ℕ). nearest n (low (turn_tick clocks start_trigger))) at ∙ at_base) some)) in
+      (starts_every r (starts (trigger_of m b) base every r (low (turn_tick clocks start)) prep (omega (arith, at, low_base)) (ap (λ (n : ℕ). nearest n (low (turn_tick clocks start))) at ∙ at_base) some)) in
       let at_q : q.controller.tick ≡ now = takes_rig_tick r first ∙ at in
       let p = (takes q second).rig in
       let two : Ready (Some limit) p = running (Ready (Some limit)) q second (ran q (second ∷ rest) runs_so)
@@ -316,8 +292,8 @@ module _ (m : Machine) (clocks : Clocks) (b start : ℕ) (axis : AxisDef) (base 
       settings (map (stop x) (take 8 (steppers x))) p (Some limit) (stops_setting x (take 8 (steppers x))) (takes_rig_tick q second ∙ at_q) runs_so two)) in
       subst Out (sym (is ∙ e)) done runs
     where
-      starts_every : (r : Rig) → Ready None (acts r (cmd.TrsyncStart (trigger_of m b) (low (turn_tick clocks start_trigger)) every 2)).rig → Ready None (acts r (order_command m clocks b start_trigger axis order.Start)).rig
-      starts_every r k = subst (λ (n : ℕ). Ready None (acts r (cmd.TrsyncStart (trigger_of m b) (low (turn_tick clocks start_trigger)) n 2)).rig) (sym every_is) k
+      starts_every : (r : Rig) → Ready None (acts r (cmd.TrsyncStart (trigger_of m b) (low (turn_tick clocks start)) every 2)).rig → Ready None (acts r (order_command m clocks b start axis order.Start)).rig
+      starts_every r k = subst (λ (n : ℕ). Ready None (acts r (cmd.TrsyncStart (trigger_of m b) (low (turn_tick clocks start)) n 2)).rig) (sym every_is) k
 
   abbrev AllElse : List Ctl → Type 0
   AllElse [] = Unit {0}
@@ -325,7 +301,7 @@ module _ (m : Machine) (clocks : Clocks) (b start : ℕ) (axis : AxisDef) (base 
 
   none_here : (ctls : List Ctl) → AllElse ctls → Commands ctls ≡ []
   none_here [] k = refl
-  none_here (c ∷ ctls) k = ap (λ (h : Bool). (if h then order_command m clocks b start_trigger axis c.what ∷ [] else []) ++ Commands ctls) k.0 ∙ none_here ctls k.1
+  none_here (c ∷ ctls) k = ap (λ (h : Bool). (if h then order_command m clocks b start axis c.what ∷ [] else []) ++ Commands ctls) k.0 ∙ none_here ctls k.1
 
   stops_else : (x : Seen) (is : List ℕ) → (x.member.board == b) ≡ false → AllElse (map (stop x) is)
   stops_else x [] e = tt
@@ -339,8 +315,8 @@ module _ (m : Machine) (clocks : Clocks) (b start : ℕ) (axis : AxisDef) (base 
       let A = Commands (orders_to (Starts timeout) x) in
       let B = Commands (round_of (Starts timeout) xs) in
       let q = (takes_all r A).rig in
-      let both : Commands (round_of (Starts timeout) (x ∷ xs)) ≡ A ++ B = commands_both m clocks b start_trigger axis (orders_to (Starts timeout) x) (round_of (Starts timeout) xs) in
-      let rigs : (takes_all r (Commands (round_of (Starts timeout) (x ∷ xs)))).rig ≡ (takes_all q B).rig = ap (λ (cs : List Cmd). (takes_all r cs).rig) both ∙ takes_both r A B in
+      let both : Commands (round_of (Starts timeout) (x ∷ xs)) ≡ A ++ B = commands_both m clocks b start axis (orders_to (Starts timeout) x) (round_of (Starts timeout) xs) in
+      let rigs : (takes_all r (Commands (round_of (Starts timeout) (x ∷ xs)))).rig ≡ (takes_all q B).rig = ap (λ (cs : List Cmd). (takes_all r cs).rig) both ∙ all_append r A B in
       let runs_q : (takes_all q B).rig.controller.state ≡ Running = ap (λ (z : Rig). z.controller.state) (sym rigs) ∙ runs in
       subst (Ready (Some limit)) (sym rigs) (elim (eqb_tells x.member.board b) [
         | inl p ↦

@@ -1,43 +1,29 @@
 -- What a trigger reads over commands of which one at most begins readings.
 use Rattle.std.proofs.Common.{◌≡◌, ℕ, ◌+◌, ◌^◌, ◌<◌, Bool, true, false, List, [], ◌∷◌, ◌++◌, length, Option, Some, None, refl, ap, sym, ◌∙◌, subst, arith, append_assoc, append-nil, ◌⊎◌, inl, inr}
 use Rattle.std.specs.Prelude.{slice_index_or}
-use Rattle.std.proofs.lemmas.List.{append_cancel_left}
-use Rattle.plan_types.specs.declared.clock.BoardClock.{BoardClock}
-use Rattle.plan_types.specs.declared.levels.Level.{Level}
-use Rattle.plan_types.specs.declared.plan.BoardState.{BoardState}
-use Rattle.plan_types.specs.declared.plan.BoardState.TheVariants.{Running, Shut}
+use Rattle.laws_board.proofs.Names.{append_cancel_left, BoardClock, Level, BoardState, Running, Shut, Sampling, Happening, Nothing, Expires, Switches, Reports, Cmd, Meant, commands_of, Rig, Slot, acts_running, passes, slot_at, takes, takes_all, Event, Core, Step, Do, Turn, does, in_turn, run_world, takes_in, board_tick, Down, Up, orders, LinkState, Orders, after_board, after_host, come, run_append}
 use Rattle.board_trig.specs.declared.sampling.Homing.{Homing as Reading}
-use Rattle.board_trig.specs.declared.sampling.Sampling.{Sampling}
-use Rattle.board_trig.specs.declared.trigger.Happening.{Happening}
-use Rattle.board_trig.specs.declared.trigger.Happening.TheVariants.{Nothing, Expires, Switches, Reports}
 use Rattle.board_trig.specs.Sampling.{IsTriggerTick}
 use Rattle.board_trig.specs.Trigger as trig
-use Rattle.msg_code.specs.declared.cmd.Cmd.{Cmd}
 use Rattle.msg_code.specs.declared.cmd.Cmd.TheVariants as cmd
-use Rattle.board_sim.specs.Fair.{Meant, commands_of}
-use Rattle.board_sim.specs.Rig.{Rig, Slot, acts_running, passes, slot_at, home, takes, takes_all}
-use Rattle.board_world.specs.declared.event.Event.{Event}
+use Rattle.board_sim.specs.Rig.{home}
 use Rattle.board_world.specs.declared.event.Event.TheVariants as event
-use Rattle.board_world.specs.World.{Core, Step, Do, Turn, does, in_turn, run_world, takes_in}
 use Rattle.board_world.specs.World as world
-use Rattle.plan_types.specs.Clock.{board_tick}
-use Rattle.wire_scene.specs.declared.scene.Way.TheVariants.{Down, Up}
 use Rattle.wire_scene.specs.declared.wire.Fate.{Fate}
 use Rattle.wire_scene.specs.declared.wire.Fate.TheVariants.{Lost, Last, Stays, Garbled}
 use Rattle.board_sim.proofs.RigTicks.{takes_rig_tick}
-use Rattle.link_work.specs.Stands.{orders}
-use Rattle.link_work.specs.Turn.{LinkState, Orders, after_board, after_host, after_replies, come, comes, host_steps}
-use Rattle.link_work.proofs.Sending.{run_append}
+use Rattle.link_work.specs.Turn.{after_replies, comes, host_steps}
 use Rattle.link_work.proofs.Steps.{AllHold, AllOf, Holds, all_append, all_come, come_holds, host_holds, tick_held}
 use Rattle.laws_board.specs.turns.Turns.{AreBoardTurns, BoardTurn, stands_after}
 use Rattle.laws_homing.proofs.clear_boards.Held.{switch_reason}
 use Rattle.laws_homing.proofs.clear_boards.Slots.{Follows, Lasts, Next, OfEach, levels_at, passes_beside, passes_each, running_beside, running_each, set_each, with_trigger}
-use Rattle.laws_homing.proofs.home_runs.Staying.{steps_take, taken_later}
+use Rattle.laws_homing.proofs.home_runs.Staying.{taken_later}
 use Rattle.laws_homing.specs.switch_runs.Reading.{AreFit, IsComplete, IsFitReading}
 use Rattle.laws_homing.specs.switch_runs.Taken.{AreBlind, IsBlind}
 use Rattle.laws_homing.proofs.switch_runs.Firing.{AllTrue, begun_true, read_true, takes_true, time_true}
 use Rattle.laws_homing.proofs.switch_runs.Made.{AnyTick}
 use Rattle.laws_homing.proofs.switch_runs.Telling.{fit_each, fit_parts}
+use Rattle.laws_board.proofs.sections.Naming.{taken_more}
 
 pub blind_parts : (xs ys : List Meant) → AreBlind (xs ++ ys) → AreBlind xs × AreBlind ys
 blind_parts [] ys k = (tt, k)
@@ -254,7 +240,7 @@ module _ (Z : Type 0) (E F : ℕ → (ℕ → Type 0)) (G : ℕ → Type 0) (n :
       let none : [] ≡ ms = append_cancel_left h.taken [] ms (append-nil h.taken ∙ e) in
       subst (λ (x : List Meant). Stands (x ++ more) h.board) (sym none) k
   steps_stage (Do v ∷ steps) h ms more e times fit k =
-      let rest = steps_take steps (world.after_event h v) in
+      let rest = taken_more steps (world.after_event h v) in
       let same : takes_in h v ++ rest.0 ≡ ms = append_cancel_left h.taken (takes_in h v ++ rest.0) ms (sym (append_assoc h.taken (takes_in h v) rest.0) ∙ sym rest.1 ∙ e) in
       let both = fit_parts E F pins (takes_in h v) rest.0 (subst (λ (x : List Meant). AreFit E F pins x) (sym same) fit) in
       let here : Stands (takes_in h v ++ (rest.0 ++ more)) h.board =
@@ -316,7 +302,7 @@ module _ (Z : Type 0) (E F : ℕ → (ℕ → Type 0)) (G : ℕ → Type 0) (n :
       let turn = are.0.0 in
       let steps = turn_times clock (length before) (orders t.control t.batch) turn.resent l in
       let core_is : t.after.core ≡ run_world steps.0 l.core = ap (λ (x : LinkState). x.core) turn.becomes ∙ steps.1 in
-      let took = steps_take steps.0 l.core in
+      let took = taken_more steps.0 l.core in
       let rest = taken_later clock first later past are.1 in
       let h = (stands_after first past).core in
       let now : t.after.core.taken ≡ l.core.taken ++ took.0 = ap (λ (g : Core). g.taken) core_is ∙ took.1 in

@@ -1,42 +1,18 @@
 -- As a homing group answers each stepper that moves is halted, or its board took no step of it.
 use Rattle.std.proofs.Common.{◌≡◌, ℕ, suc, ◌+◌, ◌<◌, ◌≤◌, ◌⊎◌, inl, inr, All, Bool, List, [], ◌∷◌, ◌++◌, length, map, Option, Some, None, refl, ap, sym, ◌∙◌, subst, arith, append_assoc, append-nil, length-append}
-use Rattle.std.proofs.lemmas.Bool.Decides.{leb_tells}
-use Rattle.std.proofs.lemmas.List.{append_cancel_left}
-use Rattle.std.proofs.lemmas.List.Elements.{All-head, All-tail}
-use Rattle.plan_types.specs.declared.levels.Level.{Level}
-use Rattle.plan_types.specs.declared.machine.Machine.{Machine}
-use Rattle.plan_types.specs.declared.plan.BoardState.TheVariants.{Running}
-use Rattle.plan_types.specs.Machines.{IsValidMachine, board_at, stepper_at}
-use Rattle.msg_code.specs.declared.cmd.Cmd.{Cmd}
+use Rattle.laws_board.proofs.Names.{leb_tells, append_cancel_left, All-head, All-tail, Level, Machine, Running, IsValidMachine, board_at, stepper_at, Cmd, Unit as StepUnit, dir_commands, reset_commands, step_command, Entry, Switch, Meant, commands_of, plain, unit_orders, units_orders, Step, queued_in, first_state, orders, LinkState, Member, Homing, hears_all, members_of, trigger_of, Connecting, noted, Came, known_by, state_at, cons_same}
 use Rattle.msg_code.specs.declared.cmd.Cmd.TheVariants as cmd
-use Rattle.msg_code.specs.declared.unit.Unit.{Unit as StepUnit}
-use Rattle.msg_code.specs.Units.{dir_commands, reset_commands, step_command}
-use Rattle.wire_scene.specs.declared.scene.Entry.{Entry}
-use Rattle.wire_scene.specs.declared.scene.Switch.{Switch}
 use Rattle.board_sim.specs.Board as board
-use Rattle.board_sim.specs.Fair.{Meant, commands_of}
 use Rattle.board_sim.specs.RigRuns.{IsHalted}
-use Rattle.board_world.specs.Orders.{plain, unit_orders, unit_ticks, units_orders}
-use Rattle.board_world.specs.World.{Step}
-use Rattle.link_work.specs.Runs.{queued_in}
-use Rattle.link_work.specs.Stands.{first_state, orders}
-use Rattle.link_work.specs.Turn.{LinkState}
-use Rattle.trigger_group.specs.declared.order.Member.{Member}
+use Rattle.board_world.specs.Orders.{unit_ticks}
 use Rattle.trigger_group.specs.Kept.{BoardsRise}
-use Rattle.axis_homing.specs.declared.homing.Homing.{Homing}
-use Rattle.axis_homing.specs.Homing.{hears_all}
-use Rattle.axis_homing.specs.Rising.{HomingRises, members_of}
-use Rattle.board_asking.specs.Machine.{trigger_of}
-use Rattle.host_reactor.specs.declared.ordered.Phase.TheVariants.{Connecting}
-use Rattle.host_reactor.specs.Notes.{noted}
-use Rattle.host_reactor.specs.Runs.{Came, known_by, state_at}
+use Rattle.axis_homing.specs.Rising.{HomingRises}
 use Rattle.laws_board.specs.turns.Turns.{BoardTurn, latest_state, stands_after}
 use Rattle.laws_board.specs.clocks.Ordered.{MayOrder, SetsClocks}
 use Rattle.laws_board.specs.clocks.Runs.{IsInRun}
 use Rattle.laws_board.proofs.clocks.Lines.{as_long, run_before}
 use Rattle.laws_board.proofs.clocks.Ordering.{may_order}
-use Rattle.laws_board.proofs.sections.Lists.{cons_same, cuts}
-use Rattle.laws_board.proofs.orders.Controlled.{few_on}
+use Rattle.laws_board.proofs.sections.Lists.{cuts}
 use Rattle.laws_homing.specs.home_runs.Guards.{AreCalm, IsCalm}
 use Rattle.laws_homing.specs.home_runs.Sections.{HomesFrom, GroupAnswers, IsMoved, IsOf, Moves, SetNoneFrom, queued_in_turns}
 use Rattle.laws_homing.specs.home_runs.Stages.{Stage, no_stage, stage_from}
@@ -50,13 +26,15 @@ use Rattle.laws_homing.proofs.home_runs.Staging.{commands_both, stage_append, st
 use Rattle.laws_homing.proofs.home_runs.Whole.{OneOnly, Only, brings_calm, only_parts, queue_only, ready_on, run_only, run_ready, units_calm, whole_by}
 use Rattle.laws_homing.proofs.home_runs.Windows.{ordered_after}
 use Rattle.laws_homing.specs.clear_groups.Resting.{EachTame, IsTame}
-use Rattle.laws_homing.proofs.clear_groups.Known.{answered_late}
 use Rattle.laws_homing.specs.fired_runs.Since.{AreNotAhead, AreReadTrue, BeginsApart, IsAtRest, IsOff}
 use Rattle.laws_board.specs.sections.Finds.{AllSetNot, SetsNot, StepsFindHalted}
 use Rattle.laws_homing.specs.fired_runs.Waiting.{AllStepNot, MoveNone, MoveNoneIn, StepsNot, TookNone}
 use Rattle.laws_homing.proofs.fired_runs.Old.{tame_parts}
 use Rattle.laws_homing.proofs.fired_runs.Rested.{answered_fired, left_of, queue_later}
 use Rattle.laws_homing.proofs.fired_runs.Waiting.{Waits, steps_settle}
+use Rattle.laws_homing.proofs.home_runs.Staying.{not_parts}
+use Rattle.axis_homing.proofs.Room.{on-few}
+use Rattle.laws_homing.proofs.home_parts.Known.{answer_late}
 
 -- commands without steps of a stepper
 step_both : (i : ℕ) (xs ys : List Meant) → AllStepNot i xs → AllStepNot i ys → AllStepNot i (xs ++ ys)
@@ -123,10 +101,6 @@ calm_one i j c tame only sets = tt
 calm_by : (i j : ℕ) (ms : List Meant) → EachTame (commands_of ms) → Only j (commands_of ms) → AllSetNot i ms → AreCalm i j ms
 calm_by i j [] tame only sets = tt
 calm_by i j (m ∷ ms) tame only sets = (calm_one i j m.command tame.0 only.0 sets.0, calm_by i j ms tame.1 only.1 sets.1)
-
-set_parts : (i : ℕ) (xs ys : List Meant) → AllSetNot i (xs ++ ys) → AllSetNot i xs × AllSetNot i ys
-set_parts i [] ys a = (tt, a)
-set_parts i (x ∷ xs) ys a = let p = set_parts i xs ys a.1 in ((a.0, p.0), p.1)
 
 step_behind : (i : ℕ) (xs ys : List Meant) → AllStepNot i (xs ++ ys) → AllStepNot i ys
 step_behind i [] ys a = a
@@ -317,7 +291,7 @@ module _ (m : Machine) (v : IsValidMachine m) (switches : List Switch) (pins : L
   taken_halts came early run open_it small front k took calm off =
       let tail = front ++ Stop ∷ k in
       let left = left_of m v switches pins entries b turns r.turns_are in
-      let few : Trigger < 256 = let q = v.steppers_few in omega (arith, few_on b m.steppers, q) in
+      let few : Trigger < 256 = let q = v.steppers_few in omega (arith, on-few b m.steppers, q) in
       let ready = run_ready m switches pins entries b came early s v run open_it x.there x.on in
       let all : Only Trigger (commands_of (queued_in_turns turns)) = queue_only Trigger turns (run_only m switches pins entries b before turns v r) in
       let Is : List Meant → Type 0 = λ l. Only Trigger (commands_of l) in
@@ -340,7 +314,7 @@ module _ (m : Machine) (v : IsValidMachine m) (switches : List Switch) (pins : L
   left_waits came early run open_it small tail front back took are rest none sets =
       let core = (stands_after First turns).core in
       let left = left_of m v switches pins entries b turns r.turns_are in
-      let few : Trigger < 256 = let q = v.steppers_few in omega (arith, few_on b m.steppers, q) in
+      let few : Trigger < 256 = let q = v.steppers_few in omega (arith, on-few b m.steppers, q) in
       let ready = run_ready m switches pins entries b came early s v run open_it x.there x.on in
       let all : Only Trigger (commands_of (queued_in_turns turns)) = queue_only Trigger turns (run_only m switches pins entries b before turns v r) in
       let Is : List Meant → Type 0 = λ l. Only Trigger (commands_of l) in
@@ -375,7 +349,7 @@ module _ (m : Machine) (v : IsValidMachine m) (switches : List Switch) (pins : L
       let begin = x.begun in
       let from : x.from ≡ a.from = omega (arith, set_up, begin) in
       let sets = subst (λ (n : ℕ). SetNoneFrom Oid n turns) from x.sets_none in
-      let late = answered_late (length before) h.start (hears_all (noted m c.note (known_by m switches before)).clocks c.states h).group a.end a.answer in
+      let late = answer_late (length before) h.start (hears_all (noted m c.note (known_by m switches before)).clocks c.states h).group a.end a.answer in
       let long = as_long m switches b before turns r.both in
       let fired = answered_fired m v switches pins entries b c before turns h a.end r latest apart reads behind a.known a.answer (moves_among b s Members x.moves) in
       let cut = split_at a.from turns (omega (arith, late, long, set_up)) in
@@ -409,8 +383,8 @@ module _ (m : Machine) (v : IsValidMachine m) (switches : List Switch) (pins : L
                   let queue : tail ++ left.0 ≡ late_sets.0 =
                   append_cancel_left (queued_in_turns fired.early) (tail ++ left.0) late_sets.0
                   (sym (append_assoc (queued_in_turns fired.early) tail left.0) ∙ ap (λ (l : List Meant). l ++ left.0) (sym fired.took) ∙ left.1 ∙ ap queued_in_turns fired.are ∙ late_sets.1) in
-                  let set_left = (set_parts Oid tail left.0 (subst (λ (l : List Meant). AllSetNot Oid l) (sym queue) late_sets.2)).1 in
-                  let set_front = (set_parts Oid y.0 (Stop ∷ bound.back) (subst (λ (l : List Meant). AllSetNot Oid l) y.2 set_left)).0 in
+                  let set_left = (not_parts Oid tail left.0 (subst (λ (l : List Meant). AllSetNot Oid l) (sym queue) late_sets.2)).1 in
+                  let set_front = (not_parts Oid y.0 (Stop ∷ bound.back) (subst (λ (l : List Meant). AllSetNot Oid l) y.2 set_left)).0 in
                   inr (
                     record { later = recent; early = early; are = cut.2; long = early_long; more = q.0 ++ tail; took = took; none = step_front Oid (q.0 ++ tail) y.0 steps },
                     left_waits open_at.0 early open_at.1 open_at.2 small (q.0 ++ tail) y.0 bound.back took y.2 fired.at_rest (step_behind Oid (q.0 ++ tail) y.0 steps) set_front,

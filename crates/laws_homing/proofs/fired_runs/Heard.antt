@@ -1,35 +1,11 @@
 -- What a board tells of its trigger within half a round of its clock is read true, where it took the set-up of the section in time.
 use Rattle.std.proofs.Common.{◌≡◌, ℕ, ◌+◌, ◌≤◌, inl, inr, List, [], ◌∷◌, ◌++◌, length, drop, Some, refl, ap, sym, ◌∙◌, subst, arith, append_assoc, append-nil, length-append}
-use Rattle.std.proofs.lemmas.List.{append_cancel_left, take-append-drop}
-use Rattle.plan_types.specs.declared.levels.Level.{Level}
-use Rattle.plan_types.specs.declared.machine.Machine.{Machine}
-use Rattle.plan_types.specs.declared.plan.BoardState.TheVariants.{Running}
-use Rattle.plan_types.specs.Board.{nearest}
-use Rattle.plan_types.specs.Clock.{clock_of}
-use Rattle.plan_types.specs.Machines.{IsValidMachine, board_at}
-use Rattle.plan_types.specs.Sections.{clocks_at}
-use Rattle.clock_line.specs.Early.{turn_tick}
+use Rattle.laws_board.proofs.Names.{append_cancel_left, take-append-drop, Level, Machine, Running, nearest, clock_of, IsValidMachine, board_at, clocks_at, turn_tick, News, State, Entry, Switch, Meant, queued_in, first_state, orders, LinkState, trigger_of, Member, Fired, Homing, members_of, noted, Came, known_by, state_at, cons_same}
 use Rattle.msg_code.specs.declared.cmd.Cmd.TheVariants as cmd
-use Rattle.msg_code.specs.declared.talk.News.{News}
-use Rattle.msg_code.specs.declared.talk.State.{State}
-use Rattle.wire_scene.specs.declared.scene.Entry.{Entry}
-use Rattle.wire_scene.specs.declared.scene.Switch.{Switch}
-use Rattle.board_sim.specs.Fair.{Meant}
 use Rattle.board_step.proofs.Whole.{nearest_is}
-use Rattle.link_work.specs.Runs.{queued_in}
-use Rattle.link_work.specs.Stands.{first_state, orders}
-use Rattle.link_work.specs.Turn.{LinkState}
-use Rattle.board_asking.specs.Machine.{trigger_of}
-use Rattle.trigger_group.specs.declared.order.Member.{Member}
-use Rattle.trigger_group.specs.declared.seen.Fired.{Fired}
-use Rattle.axis_homing.specs.declared.homing.Homing.{Homing}
-use Rattle.axis_homing.specs.Rising.{members_of}
-use Rattle.host_reactor.specs.Notes.{noted}
-use Rattle.host_reactor.specs.Runs.{Came, known_by, state_at}
 use Rattle.laws_board.specs.turns.Turns.{BoardTurn, latest_state, stands_after}
 use Rattle.laws_board.specs.clocks.Runs.{IsInRun}
 use Rattle.laws_board.proofs.clocks.Lines.{run_before}
-use Rattle.laws_board.proofs.sections.Lists.{cons_same}
 use Rattle.laws_homing.specs.home_runs.Guards.{AreCalm, StandsFired}
 use Rattle.laws_homing.specs.home_runs.Sections.{HomesFrom, SetNoneFrom, TakesSetUp, queued_in_turns}
 use Rattle.laws_homing.specs.home_runs.Settled.{SetNoClockFrom}
@@ -123,7 +99,7 @@ module _ (m : Machine) (v : IsValidMachine m) (switches : List Switch) (pins : L
       let fits = (whole_after (IsEndstop m b) (board_at m b) pins b entries turns 0 j r.turns_are (omega arith) (bring_fit m switches pins entries b (λ now. AnyTick) before turns r (λ tick k. tt))).0.board in
       told_stands (board_at m b) pins b entries t w Mid 0 j oid reason clock r.turns_are watch calm (λ s is. (fits.slots j s is).reason) told
 
-some_same : (x y : Homing) → Some x ≡ Some y → x ≡ y
+pub some_same : (x y : Homing) → Some x ≡ Some y → x ≡ y
 some_same x y e = cc
 
 -- what such a state tells is so

@@ -1,27 +1,15 @@
 -- A trigger that can't trigger stays as it is over commands of which none starts one.
 use Rattle.std.proofs.Common.{◌≡◌, ℕ, ◌<◌, Bool, true, false, List, [], ◌∷◌, ◌++◌, length, Some, None, refl, ap, sym, ◌∙◌, subst, arith, append_assoc}
-use Rattle.std.proofs.lemmas.List.{append_cancel_left}
-use Rattle.plan_types.specs.declared.clock.BoardClock.{BoardClock}
-use Rattle.plan_types.specs.declared.levels.Level.{Level}
-use Rattle.board_trig.specs.declared.trigger.Trigger.{Trigger}
-use Rattle.board_trig.specs.declared.trigger.Happening.{Happening}
-use Rattle.board_trig.specs.declared.trigger.Happening.TheVariants.{Nothing, Expires, Switches, Reports}
+use Rattle.laws_board.proofs.Names.{append_cancel_left, BoardClock, Level, Trigger, Happening, Nothing, Expires, Switches, Reports, Cmd, Meant, commands_of, Rig, Slot, passes, slot_at, takes_all, Event, Core, Step, Do, Turn, does, in_turn, run_world, takes_in, orders, LinkState, turns_are_steps, no_both}
 use Rattle.board_trig.specs.Trigger as trig
-use Rattle.msg_code.specs.declared.cmd.Cmd.{Cmd}
-use Rattle.board_sim.specs.Fair.{Meant, commands_of}
-use Rattle.board_sim.specs.Rig.{Rig, Slot, passes, slot_at, takes_all}
-use Rattle.board_world.specs.declared.event.Event.{Event}
 use Rattle.board_world.specs.declared.event.Event.TheVariants as event
-use Rattle.board_world.specs.World.{Core, Step, Do, Turn, does, in_turn, run_world, takes_in}
 use Rattle.board_world.specs.World as world
-use Rattle.link_work.specs.Stands.{orders}
-use Rattle.link_work.specs.Turn.{LinkState}
-use Rattle.link_work.proofs.Turns.{turns_are_steps}
 use Rattle.laws_board.specs.turns.Turns.{AreBoardTurns, BoardTurn, stands_after}
 use Rattle.laws_homing.proofs.clear_boards.Slots.{Follows, Lasts, Next, OfEach, passes_each, takes_each}
 use Rattle.laws_homing.proofs.clear_groups.Off.{Tame, tame_each}
-use Rattle.laws_homing.proofs.home_runs.Staying.{steps_take, taken_later}
+use Rattle.laws_homing.proofs.home_runs.Staying.{taken_later}
 use Rattle.laws_homing.specs.clear_groups.Resting.{EachTame}
+use Rattle.laws_board.proofs.sections.Naming.{taken_more}
 
 -- a trigger can't trigger, since a tick before this one, and has no timeout
 pub record Old (most : ℕ) (t : Trigger) : Type 0 where
@@ -33,14 +21,10 @@ pub record Old (most : ℕ) (t : Trigger) : Type 0 where
 abbrev pub OldAt : ℕ → ℕ → Rig → Type 0
 OldAt j most r = (oid : ℕ) (s : Slot) → oid ≡ j → slot_at r oid ≡ Some s → Old most s.trigger
 
-pub clash : (b : Bool) → b ≡ true → b ≡ false → ⊥
-clash true e f = cc
-clash false e f = cc
-
 pub happened_old : (most : ℕ) (levels : List Level) (until : ℕ) (e : Happening) (t : Trigger) → Next levels until t e → Old most t → Old most (trig.happened levels until e t).trigger
 happened_old most levels until Nothing t next k = record { off = k.off; idle = k.idle; before = k.before }
 happened_old most levels until (Expires at) t next k = absurd (let bad : None ≡ Some at = sym k.idle ∙ next.comes.0 in cc)
-happened_old most levels until (Switches at) t next k = absurd (clash t.can next.comes.0.1 k.off)
+happened_old most levels until (Switches at) t next k = absurd (no_both t.can next.comes.0.1 k.off)
 happened_old most levels until (Reports at) t next k = record { off = k.off; idle = k.idle; before = k.before }
 
 abbrev One : ℕ → ℕ → (List (List Level) → ℕ → Slot → Type 0)
@@ -59,10 +43,10 @@ follows_old : (j most : ℕ) → 0 < most → Follows (One j most) Tame
 follows_old j most some = record {
   made = λ pins now oid fit own. record { off = refl; idle = refl; before = some };
   starts = λ pins now oid s clock every reason fit k. absurd fit;
-  limits = λ pins now oid s clock fit can ahead k own. absurd (clash s.trigger.can can (k own).off);
-  expires = λ pins now oid s clock fit can past k own. absurd (clash s.trigger.can can (k own).off);
+  limits = λ pins now oid s clock fit can ahead k own. absurd (no_both s.trigger.can can (k own).off);
+  expires = λ pins now oid s clock fit can past k own. absurd (no_both s.trigger.can can (k own).off);
   says = λ pins oid s n e k own. same_old most s.trigger _ refl refl refl (k own);
-  fires = λ pins now oid s reason fit can k own. absurd (clash s.trigger.can can (k own).off);
+  fires = λ pins now oid s reason fit can k own. absurd (no_both s.trigger.can can (k own).off);
   binds = λ pins now oid s i fit k. k;
   homes = λ pins now oid s i pin g fit k own. same_old most s.trigger _ refl refl refl (k own);
 }
@@ -102,7 +86,7 @@ old_by j most h event.LoseReply some k all = all
 steps_old : (j most : ℕ) (steps : List Step) (h : Core) (ms : List Meant) → 0 < most → (run_world steps h).taken ≡ h.taken ++ ms → EachTame (commands_of ms) → OldAt j most h.board → OldAt j most (run_world steps h).board
 steps_old j most [] h ms some e k all = all
 steps_old j most (Do v ∷ steps) h ms some e k all =
-    let rest = steps_take steps (world.after_event h v) in
+    let rest = taken_more steps (world.after_event h v) in
     let same : takes_in h v ++ rest.0 ≡ ms = append_cancel_left h.taken (takes_in h v ++ rest.0) ms (sym (append_assoc h.taken (takes_in h v) rest.0) ∙ sym rest.1 ∙ e) in
     let both = tame_parts (takes_in h v) rest.0 (subst (λ (x : List Meant). EachTame (commands_of x)) (sym same) k) in
     steps_old j most steps (world.after_event h v) rest.0 some rest.1 both.1 (old_by j most h v some both.0 all)
@@ -116,7 +100,7 @@ turns_old j most clock first (t ∷ later) past ms some are e k all =
     let before = later ++ past in
     let l = stands_after first before in
     let steps = turns_are_steps clock (length before) (orders t.control t.batch ∷ []) l t.after (t.after, are.0.0, refl) in
-    let took = steps_take steps.0 l.core in
+    let took = taken_more steps.0 l.core in
     let rest = taken_later clock first later past are.1 in
     let h = (stands_after first past).core in
     let whole : h.taken ++ (rest.0 ++ took.0) ≡ h.taken ++ ms =

@@ -1,50 +1,19 @@
 -- In the turn 251 turns before a homing section's start one command that starts a trigger comes to the board of each member.
 use Rattle.std.proofs.Common.{◌≡◌, ℕ, suc, ◌+◌, ◌*◌, ◌/◌, ◌<◌, ◌⊎◌, inl, inr, Bool, cond, List, [], ◌∷◌, ◌++◌, length, map, take, get_or, Option, Some, refl, ap, sym, ◌∙◌, subst, arith}
-use Rattle.std.proofs.lemmas.Bool.{eq-eqb}
-use Rattle.plan_types.specs.declared.levels.Level.{Level}
-use Rattle.plan_types.specs.declared.machine.AxisDef.{AxisDef}
-use Rattle.plan_types.specs.declared.machine.Machine.{Machine}
-use Rattle.plan_types.specs.Lines.{Clocks}
-use Rattle.plan_types.specs.Machines.{axis_at, board_at}
-use Rattle.plan_types.specs.Sections.{clocks_at}
-use Rattle.clock_line.specs.Early.{turn_tick}
-use Rattle.msg_code.specs.declared.cmd.Cmd.{Cmd}
+use Rattle.laws_board.proofs.Names.{eq-eqb, Level, AxisDef, Machine, Clocks, axis_at, board_at, clocks_at, turn_tick, Cmd, State, Control, Entry, Switch, Meant, commands_of, units_orders, queued_in, orders, End, Member, Starts, Seen, first_timeout, round_of, steppers, Homing, by_answer, commands_to, hears_all, homing_turn, low, order_command, members_of, Asking, trigger_of, clock_question, drifts, waits_in, Known, Connecting, noted, Reacted, homing_commands, stop_command, stops, Came, known_by, last_reacted, states-kept}
 use Rattle.msg_code.specs.declared.cmd.Cmd.TheVariants as cmd
-use Rattle.msg_code.specs.declared.talk.State.{State}
-use Rattle.msg_code.specs.declared.unit.Control.{Control}
-use Rattle.wire_scene.specs.declared.scene.Entry.{Entry}
-use Rattle.wire_scene.specs.declared.scene.Switch.{Switch}
-use Rattle.board_sim.specs.Fair.{Meant, commands_of}
-use Rattle.board_world.specs.Orders.{units_orders}
-use Rattle.link_work.specs.Runs.{queued_in}
-use Rattle.link_work.specs.Stands.{orders}
-use Rattle.trigger_group.specs.declared.order.End.{End}
-use Rattle.trigger_group.specs.declared.order.Member.{Member}
 use Rattle.trigger_group.specs.declared.order.Order.TheVariants as order
 use Rattle.trigger_group.specs.declared.round.Phase.{Phase}
-use Rattle.trigger_group.specs.declared.round.Round.TheVariants.{Starts}
-use Rattle.trigger_group.specs.declared.seen.Seen.{Seen}
-use Rattle.trigger_group.specs.Group.{first_timeout, orders_of_group, orders_to, round_of, steppers, stop}
+use Rattle.trigger_group.specs.Group.{orders_of_group, orders_to, stop}
 use Rattle.trigger_group.specs.Kept.{BoardsRise}
-use Rattle.axis_homing.specs.declared.homing.Homing.{Homing}
-use Rattle.axis_homing.specs.Homing.{by_answer, commands_to, hears_all, homing_turn, low, order_command}
-use Rattle.axis_homing.specs.Rising.{HomingRises, members_of}
-use Rattle.board_asking.specs.declared.asking.Asking.{Asking}
-use Rattle.board_asking.specs.Machine.{trigger_of}
-use Rattle.board_asking.specs.Drift.{clock_question, drifts, waits_in}
-use Rattle.host_reactor.specs.declared.ordered.Known.{Known}
-use Rattle.host_reactor.specs.declared.ordered.Phase.TheVariants.{Connecting}
-use Rattle.host_reactor.specs.Notes.{noted}
-use Rattle.host_reactor.specs.Reactor.{Reacted, homing_commands, stop_command, stops}
-use Rattle.host_reactor.specs.Runs.{Came, known_by, last_reacted}
+use Rattle.axis_homing.specs.Rising.{HomingRises}
 use Rattle.laws_board.specs.turns.Turns.{BoardTurn}
 use Rattle.laws_board.specs.clocks.Runs.{IsInRun}
 use Rattle.laws_board.proofs.clocks.Controls.{states_start}
 use Rattle.laws_board.proofs.clocks.Lines.{turn_of}
 use Rattle.laws_board.proofs.clocks.Turning.{Asks, BoardTurned, Ends, Runs}
 use Rattle.laws_homing.specs.home_runs.Told.{IsMember}
-use Rattle.laws_homing.proofs.home_runs.Controlling.{not_yet, phase_starts}
-use Rattle.laws_homing.proofs.home_runs.Grouped.{members_states}
+use Rattle.laws_homing.proofs.home_runs.Controlling.{phase_starts}
 use Rattle.laws_homing.proofs.home_runs.Joining.{known_rises, noted_rises}
 use Rattle.laws_homing.proofs.home_runs.Setting.{commands_both, rise_behind}
 use Rattle.laws_homing.proofs.home_runs.Whole.{turn_commands}
@@ -53,6 +22,7 @@ use Rattle.laws_homing.proofs.clear_groups.Resting.{units_tame}
 use Rattle.laws_homing.proofs.clear_groups.Starting.{MembersOf, ctls_tame, question_tame, round_tame, stops_tame, to_tame}
 use Rattle.laws_homing.proofs.switch_runs.Ordering.{lines_at}
 use Rattle.laws_homing.specs.fired_runs.Since.{IsStart}
+use Rattle.host_reactor.proofs.Idle.{not-yet}
 
 -- the command that starts the trigger of a board for a section
 abbrev pub StartOf : Machine → ℕ → Clocks → ℕ → Cmd
@@ -131,11 +101,11 @@ homing_once : (m : Machine) (all : List Clocks) (states : List State) (own : Clo
 homing_once m all states own b k h together e rise is =
     let g = hears_all all states h in
     let So : List Cmd → Type 0 = λ cs. StartsOnce (StartOf m b own h.start) (trigger_of m b) cs in
-    let members = members_states all 0 h.start states h.group in
+    let members = states-kept all 0 h.start states h.group in
     let begins : g.group.start ≡ k + 251 = states_start all 0 h.start states h.group ∙ together ∙ e in
     let By : Option End → Type 0 = λ o. So (homing_commands m (by_answer k g o) own b) in
     let In : Phase → Type 0 = λ p. So (commands_to m own b g.start (axis_at m g.axis) (orders_of_group p g.group k)) in
-    subst By (sym (not_yet k g.start g.group (omega (arith, e))))
+    subst By (sym (not-yet k g.start g.group (omega (arith, e))))
     (subst In (sym (phase_starts g.group.start g.group.last k begins))
     (round_once m own b g.start (axis_at m g.axis) (first_timeout g.group.start g.group.last) g.group.members (subst BoardsRise (sym members) rise) (subst (IsMember b) (sym members) is)))
 

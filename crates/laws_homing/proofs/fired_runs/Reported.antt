@@ -1,74 +1,39 @@
 -- Of each member of a homing group that is known to have triggered its board told so; and the answer that a switch closed has the tick of a report of the endstop's board.
 use Rattle.std.proofs.Common.{◌≡◌, ℕ, zero, suc, ◌+◌, ◌-◌, ◌*◌, ◌<◌, ◌≤◌, ◌⊎◌, ◌==◌, Bool, true, false, not, cond, List, [], ◌∷◌, ◌++◌, length, map, Option, Some, None, refl, ap, sym, ◌∙◌, subst, arith, inl, inr}
 use Rattle.std.specs.Prelude.{nat_le, nat_lt, ◌&&◌, ◌||◌, if◌then◌else◌}
-use Rattle.std.proofs.lemmas.Bool.Decides.{eqb_tells, leb_tells}
-use Rattle.plan_types.specs.declared.machine.AxisDef.{AxisDef}
-use Rattle.plan_types.specs.declared.machine.BoardDef.{BoardDef}
-use Rattle.plan_types.specs.declared.machine.Machine.{Machine}
-use Rattle.plan_types.specs.declared.plan.SectionKind.{SectionKind}
-use Rattle.plan_types.specs.declared.plan.SectionKind.TheVariants.{Home, Moves}
+use Rattle.laws_board.proofs.Names.{eqb_tells, leb_tells, AxisDef, BoardDef, Machine, SectionKind, Home, Moves, nearest, turn_ns, Clocks, lines_tick, axis_at, clocks_at, turn_in_run, turn_tick, Cmd, News, Note, NoteNews, State, Switch, End, Member, Goes, Rests, Sends, Fired, Seen, GroupState, all_fired, phase, unseen, Homing, answer_in, goes_on_homing, hears_all, homing_after, members_from, members_of, Known, noted, known_behind, told_all, Reacted, Came, GoesOn, known_by, state_at, item, both_parts, states-kept}
 use Rattle.plan_types.specs.declared.plan.TrigState.{TrigState}
-use Rattle.plan_types.specs.Board.{nearest}
-use Rattle.plan_types.specs.Clock.{turn_ns}
-use Rattle.plan_types.specs.Lines.{Clocks, lines_tick, lines_turn}
-use Rattle.plan_types.specs.Machines.{axis_at}
-use Rattle.plan_types.specs.Sections.{clocks_at}
-use Rattle.clock_line.specs.Early.{is_in_run, turn_in_run, turn_tick}
+use Rattle.plan_types.specs.Lines.{lines_turn}
+use Rattle.clock_line.specs.Early.{is_in_run}
 use Rattle.clock_line.proofs.Turns.{turn-below}
-use Rattle.msg_code.specs.declared.cmd.Cmd.{Cmd}
 use Rattle.msg_code.specs.declared.cmd.Cmd.TheVariants as cmd
-use Rattle.msg_code.specs.declared.talk.News.{News}
-use Rattle.msg_code.specs.declared.talk.Note.{Note}
-use Rattle.msg_code.specs.declared.talk.NoteNews.{NoteNews}
 use Rattle.msg_code.specs.declared.talk.NoteNews.TheVariants as news
-use Rattle.msg_code.specs.declared.talk.State.{State}
-use Rattle.wire_scene.specs.declared.scene.Switch.{Switch}
-use Rattle.trigger_group.specs.declared.order.End.{End}
 use Rattle.trigger_group.specs.declared.order.End.TheVariants.{Endstop, Expired, NoSwitch}
-use Rattle.trigger_group.specs.declared.order.Member.{Member}
 use Rattle.trigger_group.specs.declared.round.Phase.{Phase}
-use Rattle.trigger_group.specs.declared.round.Phase.TheVariants.{Goes, Rests, Sends}
-use Rattle.trigger_group.specs.declared.seen.Fired.{Fired}
-use Rattle.trigger_group.specs.declared.seen.Seen.{Seen}
-use Rattle.trigger_group.specs.Group.{GroupState, after_in, all_fired, answer, came, ended, expired, first_fired, first_expired, first_switched, has_fired, member_hears, hears_from, later, new_group, or_else, or_none, phase, switched, unseen}
+use Rattle.trigger_group.specs.Group.{after_in, answer, came, ended, expired, first_fired, first_expired, first_switched, has_fired, member_hears, hears_from, later, new_group, or_else, or_none, switched}
 use Rattle.trigger_group.specs.Kept.{may_be}
-use Rattle.axis_homing.specs.declared.homing.Homing.{Homing}
-use Rattle.axis_homing.specs.Homing.{answer_in, came_at, goes_on_homing, hears_all, hears_answer, hears_news, hears_state, hears_states, homing_after, homing_of, homing_with, members_from, moving_on}
-use Rattle.axis_homing.specs.Rising.{members_of}
-use Rattle.host_reactor.specs.declared.ordered.Known.{Known}
-use Rattle.host_reactor.specs.Notes.{noted, known_behind, told_all}
-use Rattle.host_reactor.specs.Reactor.{Reacted}
-use Rattle.host_reactor.specs.Runs.{Came, GoesOn, known_by, state_at}
-use Rattle.session_work.specs.Rows.{item}
+use Rattle.axis_homing.specs.Homing.{came_at, hears_answer, hears_news, hears_state, hears_states, homing_of, homing_with, moving_on}
 use Rattle.laws_board.proofs.clocks.Controls.{states_start}
 use Rattle.laws_board.proofs.clocks.Turning as turning
 use Rattle.laws_homing.specs.home_runs.Told.{IsMember}
 use Rattle.laws_homing.specs.home_runs.Windows.{HasAnswer}
-use Rattle.laws_homing.proofs.home_runs.Grouped.{answered, members_states}
-use Rattle.laws_homing.proofs.home_runs.Knowing.{group_start}
+use Rattle.laws_homing.proofs.home_runs.Grouped.{answered}
 use Rattle.laws_homing.specs.switch_runs.Reports.{WasReported}
-
--- the state of a board
-pub same_state : (b : ℕ) (states : List State) → state_at b states ≡ item b states
-same_state b [] = refl
-same_state zero (s ∷ states) = refl
-same_state (suc b) (s ∷ states) = same_state b states
+use Rattle.axis_homing.proofs.Starts.{came_start, answer_start, in_start}
+use Rattle.laws_homing.proofs.clear_boards.Knowing.{no_can}
+use Rattle.laws_homing.proofs.missed_groups.Told.{same_state, item_lines}
+use Rattle.laws_homing.proofs.clear_boards.Ending.{when_if}
 
 -- the state of a report is that of the board's latest turn
 pub sole_state : (s t : State) → s ∷ [] ≡ t ∷ [] → s ≡ t
 sole_state s t e = cc
-
--- the turn of a tick of the run
-pub turn_if : (in_run : Bool) (n turn : ℕ) → (if in_run then Some n else None) ≡ Some turn → n ≡ turn
-turn_if true n turn e = cc
-turn_if false n turn e = cc
 
 -- a tick before that at which a section starts is in no turn from the start on
 pub before_start : (lines : Clocks) (start tick turn : ℕ) → 0 < start → tick < lines_tick lines (start * turn_ns) → turn_in_run lines tick ≡ Some turn → turn < start
 before_start lines start tick turn some low is =
     let next : start ≡ start - 1 + 1 = omega (arith, some) in
     let below = turn-below lines tick (start - 1) (subst (λ (k : ℕ). tick < lines_tick lines (k * turn_ns)) next low) in
-    let same = turn_if (is_in_run lines tick) (lines_turn lines tick) turn is in
+    let same = when_if (is_in_run lines tick) (lines_turn lines tick) turn is in
     omega (arith, some, below, same)
 
 -- what is known of a member's trigger was told, and the member with the endstop is its board
@@ -121,20 +86,6 @@ at_each : (W : ℕ → Fired → Type 0) (own b : ℕ) (s : TrigState) (at : ℕ
 at_each W own b s at None g new given = given
 at_each W own b s at (Some when) g new given = came_each W own b s at when g (new when refl) given
 
--- a report of a trigger that can't trigger any more says so
-can_none : (can : ℕ) → not (can == 0) ≡ false → can ≡ 0
-can_none can e = elim (eqb_tells can 0) [ inl p ↦ p.1 | inr p ↦ absurd (let f : true ≡ false = ap not (sym p.0) ∙ e in cc) ]
-
-came_start : (b : ℕ) (s : TrigState) (at : ℕ) (o : Option ℕ) (g : GroupState) → (came_at b s at o g).start ≡ g.start
-came_start b s at None g = refl
-came_start b s at (Some when) g = refl
-
-answer_start : (lines : Clocks) (b turn : ℕ) (c : Cmd) (g : GroupState) → (hears_answer lines b turn c g).start ≡ g.start
-answer_start lines b turn (cmd.TrsyncState oid can reason clock) g =
-    let at = nearest (turn_tick lines turn) clock in
-    came_start b (record { can = not (can == 0); reason = reason; clock = clock }) at (turn_in_run lines at) g
-answer_start lines b turn c g = refl
-
 -- what a state of a turn tells of a board's trigger, that counts for a homing section with this start
 record Telling (clocks : List Clocks) (states : List State) (start board : ℕ) (f : Fired) : Type 0 where
   state : State
@@ -146,11 +97,6 @@ record Telling (clocks : List Clocks) (states : List State) (start board : ℕ) 
   tick_is : f.tick ≡ nearest (turn_tick (clocks_at clocks board) state.turn) clock
   turn_is : turn_in_run (clocks_at clocks board) f.tick ≡ Some f.turn
   late : start ≤ f.turn
-
-item_lines : (b : ℕ) (clocks : List Clocks) (lines : Clocks) → item b clocks ≡ lines ∷ [] → lines ≡ clocks_at clocks b
-item_lines b [] lines e = cc
-item_lines zero (x ∷ clocks) lines e = cc
-item_lines (suc b) (x ∷ clocks) lines e = item_lines b clocks lines e
 
 -- behind all states of a turn
 module _ (clocks : List Clocks) (states : List State) (start own : ℕ) (W : ℕ → Fired → Type 0) (new : (b : ℕ) (f : Fired) → Telling clocks states start b f → W b f) where
@@ -167,7 +113,7 @@ module _ (clocks : List Clocks) (states : List State) (start own : ℕ) (W : ℕ
         counts = counts;
         oid = oid;
         clock = clock;
-        told = subst (λ (n : ℕ). HasAnswer (cmd.TrsyncState oid n reason clock) s.news) (can_none can off) told;
+        told = subst (λ (n : ℕ). HasAnswer (cmd.TrsyncState oid n reason clock) s.news) (no_can can off) told;
         tick_is = ap (λ (l : Clocks). nearest (turn_tick l s.turn) clock) same;
         turn_is = ap (λ (l : Clocks). turn_in_run l tick) (sym same) ∙ is;
         late = omega (arith, late, at);
@@ -272,7 +218,7 @@ members_on Rests g turn = refl
 goes_knows : (m : Machine) (switches : List Switch) (came : List Came) (k : ℕ) (h : Homing) (o : Option End) → Knows m switches came (Some h) → Knows m switches came (goes_on_homing k h o)
 goes_knows m switches came k h None a =
     let p = phase h.group.start h.group.last k in
-    (group_start p h.group k ∙ a.0, subst (Each (λ b f. WasReported m switches b h.start f came) (axis_at m h.axis).board) (sym (members_on p h.group k)) a.1)
+    (in_start p h.group k ∙ a.0, subst (Each (λ b f. WasReported m switches b h.start f came) (axis_at m h.axis).board) (sym (members_on p h.group k)) a.1)
 goes_knows m switches came k h (Some end) a = tt
 
 heard_knows : (m : Machine) (switches : List Switch) (c : Came) (before : List Came) (h : Homing) → Knows m switches before (Some h)
@@ -348,10 +294,6 @@ switch_if : (c : Bool) (tick at : ℕ) → cond c (Some (Endstop at)) None ≡ S
 switch_if true tick at e = (refl, cc)
 switch_if false tick at e = absurd (let f : None ≡ Some (Endstop tick) = e in cc)
 
-and_both : (a b : Bool) → (a && b) ≡ true → (a ≡ true) × (b ≡ true)
-and_both true b e = (refl, e)
-and_both false b e = absurd (let f : false ≡ true = e in cc)
-
 or_first : (x y : Option End) (end : End) → or_else x y ≡ Some end → (x ≡ Some end) ⊎ (y ≡ Some end)
 or_first None y end e = inr e
 or_first (Some other) y end e = inl e
@@ -360,7 +302,7 @@ switched_told : (W : ℕ → Fired → Type 0) (own tick : ℕ) (x : Seen) (o : 
 switched_told W own tick x None is given e = absurd (let f : None ≡ Some (Endstop tick) = e in cc)
 switched_told W own tick x (Some f) is given e =
     let s = switch_if (x.member.endstop && (f.reason == 1)) tick f.tick e in
-    let both = and_both x.member.endstop (f.reason == 1) s.0 in
+    let both = both_parts x.member.endstop (f.reason == 1) s.0 in
     elim (eqb_tells f.reason 1) [
       | inl p ↦
           let board = given.1 both.0 in
@@ -400,12 +342,12 @@ all_told m switches c before h g known =
 -- each member of a group that answers is known to have triggered
 among_each : (W : ℕ → Fired → Type 0) (own b : ℕ) (xs : List Seen) → all_fired xs ≡ true → IsMember b (map (λ (s : Seen). s.member) xs) → Each W own xs → (f : Fired) × W b f
 among_each W own b [] all is given = absurd is
-among_each W own b (x ∷ xs) all (inl e) given = one x.fired refl (and_both (has_fired x.fired) (all_fired xs) all).0
+among_each W own b (x ∷ xs) all (inl e) given = one x.fired refl (both_parts (has_fired x.fired) (all_fired xs) all).0
   where
     one : (o : Option Fired) → x.fired ≡ o → has_fired o ≡ true → (f : Fired) × W b f
     one None same h = absurd (let bad : false ≡ true = h in cc)
     one (Some f) same h = (f, subst (λ (n : ℕ). W n f) e (given.0.0 f same))
-among_each W own b (x ∷ xs) all (inr is) given = among_each W own b xs (and_both (has_fired x.fired) (all_fired xs) all).1 is given.1
+among_each W own b (x ∷ xs) all (inr is) given = among_each W own b xs (both_parts (has_fired x.fired) (all_fired xs) all).1 is given.1
 
 pub member_told : (m : Machine) (switches : List Switch) (b : ℕ) (c : Came) (before : List Came) (h : Homing) (e : End) → GoesOn m switches before → (noted m c.note (known_by m switches before)).homing ≡ Some h
     → answer_in (length before) h.start (hears_all (noted m c.note (known_by m switches before)).clocks c.states h).group ≡ Some e → IsMember b (members_of h.group) → (f : Fired) × WasReported m switches b h.start f (c ∷ before)
@@ -413,7 +355,7 @@ member_told m switches b c before h e g known ends among =
     let n = noted m c.note (known_by m switches before) in
     let group = (hears_all n.clocks c.states h).group in
     among_each (λ a f. WasReported m switches a h.start f (c ∷ before)) (axis_at m h.axis).board b group.members (answered (nat_le h.start (length before)) group e ends)
-    (subst (λ (l : List Member). IsMember b l) (sym (members_states n.clocks 0 h.start c.states h.group)) among) (all_told m switches c before h g known)
+    (subst (λ (l : List Member). IsMember b l) (sym (states-kept n.clocks 0 h.start c.states h.group)) among) (all_told m switches c before h g known)
 
 -- where it answers that the switch closed no member expired in time
 none_ahead : (x y : Option End) (tick : ℕ) → IsExpiry x → or_none (or_else x y) ≡ Endstop tick → x ≡ None

@@ -1,52 +1,19 @@
 -- Between a board's homing sections its trigger is at rest; and in the turn in which a group answers it has triggered since the section's start.
 use Rattle.std.proofs.Common.{◌≡◌, ℕ, ◌+◌, ◌-◌, ◌*◌, ◌<◌, ◌≤◌, ◌⊎◌, inl, inr, false, List, [], ◌∷◌, ◌++◌, length, drop, map, Option, Some, None, refl, ap, sym, ◌∙◌, subst, arith, append_assoc, append-nil}
-use Rattle.std.proofs.lemmas.Bool.Decides.{eqb_tells, leb_tells}
-use Rattle.std.proofs.lemmas.List.{append_cancel_left, take-append-drop}
-use Rattle.plan_types.specs.declared.levels.Level.{Level}
-use Rattle.plan_types.specs.declared.machine.Machine.{Machine}
-use Rattle.plan_types.specs.Clock.{board_tick, clock_of, turn_ns}
-use Rattle.plan_types.specs.Lines.{lines_tick}
-use Rattle.plan_types.specs.Machines.{IsValidMachine, board_at}
-use Rattle.plan_types.specs.Sections.{clocks_at}
+use Rattle.laws_board.proofs.Names.{eqb_tells, leb_tells, append_cancel_left, take-append-drop, Level, Machine, board_tick, clock_of, turn_ns, lines_tick, IsValidMachine, board_at, clocks_at, State, Entry, Switch, Meant, commands_of, Rig, Slot, slot_at, one_slot, queued_in, first_state, orders, LinkState, trigger_of, End, Member, Fired, Seen, turned_group, Homing, answer_in, goes_on_homing, hears_all, homing_after, members_of, Phase, Connecting, news_of, noted, Reacted, Came, known_by, state_at, cons_same, states-kept}
 use Rattle.plan_types.proofs.OwnTicks.{rise}
-use Rattle.msg_code.specs.declared.talk.State.{State}
-use Rattle.wire_scene.specs.declared.scene.Entry.{Entry}
-use Rattle.wire_scene.specs.declared.scene.Switch.{Switch}
-use Rattle.board_sim.specs.Fair.{Meant, commands_of}
-use Rattle.board_sim.specs.Rig.{Rig, Slot, slot_at}
-use Rattle.board_sim.proofs.Bound.{one_slot}
-use Rattle.link_work.specs.Runs.{queued_in}
-use Rattle.link_work.specs.Stands.{first_state, orders}
-use Rattle.link_work.specs.Turn.{LinkState}
-use Rattle.board_asking.specs.Machine.{trigger_of}
-use Rattle.trigger_group.specs.declared.order.End.{End}
-use Rattle.trigger_group.specs.declared.order.Member.{Member}
-use Rattle.trigger_group.specs.declared.seen.Fired.{Fired}
-use Rattle.trigger_group.specs.declared.seen.Seen.{Seen}
-use Rattle.trigger_group.specs.Group.{turned_group}
 use Rattle.trigger_group.proofs.Knows.{after_members, after_start}
-use Rattle.axis_homing.specs.declared.homing.Homing.{Homing}
-use Rattle.axis_homing.specs.Homing.{answer_in, goes_on_homing, hears_all, homing_after}
-use Rattle.axis_homing.specs.Rising.{members_of}
-use Rattle.host_reactor.specs.declared.ordered.Phase.{Phase}
-use Rattle.host_reactor.specs.declared.ordered.Phase.TheVariants.{Connecting}
-use Rattle.host_reactor.specs.Notes.{news_of, noted}
-use Rattle.host_reactor.specs.Reactor.{Reacted}
-use Rattle.host_reactor.specs.Runs.{Came, known_by, state_at}
 use Rattle.laws_board.specs.turns.Turns.{AreBoardTurns, BoardTurn, latest_state, stands_after}
 use Rattle.laws_board.specs.clocks.Runs.{IsInRun}
 use Rattle.laws_board.proofs.clocks.Lines.{as_long, noted_phase, run_before}
 use Rattle.laws_board.proofs.clocks.Turning.{goes}
-use Rattle.laws_board.proofs.sections.Lists.{cons_same, cuts}
+use Rattle.laws_board.proofs.sections.Lists.{cuts}
 use Rattle.laws_homing.specs.home_runs.Sections.{HomesFrom, IsOf, queued_in_turns}
 use Rattle.laws_homing.specs.home_runs.Told.{IsMember}
-use Rattle.laws_homing.proofs.home_runs.Controlling.{not_yet}
-use Rattle.laws_homing.proofs.home_runs.Grouped.{members_states}
 use Rattle.laws_homing.proofs.home_runs.Joining.{all_queued}
 use Rattle.laws_homing.proofs.home_runs.Knowing.{noted_none}
 use Rattle.laws_homing.proofs.home_runs.Staying.{taken_later}
 use Rattle.laws_homing.proofs.home_runs.Windows.{begun, ordered_after}
-use Rattle.laws_homing.proofs.clear_boards.Clocking.{board_rises}
 use Rattle.laws_homing.proofs.clear_boards.Standing.{sound_at}
 use Rattle.laws_homing.specs.switch_runs.Reports.{IsReport, WasReported}
 use Rattle.laws_homing.specs.clear_groups.Resting.{EachTame}
@@ -54,13 +21,17 @@ use Rattle.laws_homing.proofs.clear_groups.Known.{behind_turn}
 use Rattle.laws_homing.proofs.clear_groups.Noted.{drift_small, noted_newly, some_or_none}
 use Rattle.laws_homing.proofs.clear_groups.Plain.{none_at, none_some}
 use Rattle.laws_homing.proofs.clear_groups.Resting.{Together, clash, known_together, newly_together, next_of, some_same, taken_tame, heard_together}
-use Rattle.laws_homing.proofs.clear_groups.Starting.{member_or_not, starts_either}
+use Rattle.laws_homing.proofs.clear_groups.Starting.{starts_either}
 use Rattle.laws_homing.specs.missed_groups.Ticks.{IsReader}
 use Rattle.laws_homing.specs.fired_runs.Since.{AreNotAhead, AreSoInTurns, AreReadTrue, BeginsApart, HasFiredSince, IsAtRest, IsFiredAt, IsOff, IsStart, ReadsSwitchTrue, ReadsTrue, WasFiredAt}
 use Rattle.laws_homing.proofs.fired_runs.Old.{OldAt, tame_both, tame_parts, turns_old}
 use Rattle.laws_homing.proofs.fired_runs.Once.{turn_split}
 use Rattle.laws_homing.proofs.fired_runs.Reported.{before_start, member_told, sole_state}
 use Rattle.laws_homing.proofs.fired_runs.Under.{under_after}
+use Rattle.laws_board.proofs.causes.Soon.{phase_or}
+use Rattle.host_reactor.proofs.Idle.{not-yet}
+use Rattle.laws_board.proofs.clocks.Near.{turn_long}
+use Rattle.laws_homing.proofs.clear_groups.Reading.{member_or_not}
 
 -- what is queued behind some turns
 unfoldable pub queue_later : (later past : List BoardTurn) → (q : List Meant) × (queued_in_turns (later ++ past) ≡ queued_in_turns past ++ q)
@@ -141,10 +112,6 @@ switch_read m switches pins entries b from start ms f c before turns r latest ho
     was_read m switches pins entries b from start ms low f (ReadsSwitchTrue m switches b) (WasFiredAt (trigger_of m b) 1 f.tick) (λ t ts w. inr w)
     (λ d past ts h is members read x. read h f is (subst (IsReader b) (sym members) reader) one x) c before turns r latest homes reads behind told
 
-connecting_or : (p : Phase) → (p ≡ Connecting) ⊎ (p ≡ Connecting → ⊥)
-connecting_or Connecting = inl refl
-connecting_or p = inr (λ e. cc)
-
 module _ (m : Machine) (v : IsValidMachine m) (switches : List Switch) (pins : List (List Level)) (entries : List Entry) (b : ℕ) where
   abbrev First : LinkState
   First = first_state (board_at m b) pins b entries
@@ -173,7 +140,7 @@ module _ (m : Machine) (v : IsValidMachine m) (switches : List Switch) (pins : L
   pub rises : b < length m.boards → (k : ℕ) → Own k < Own (k + 1)
   rises within k =
       let valid = v.boards b _ within in
-      board_rises (clock_of (board_at m b)) k valid.freq (drift_small (board_at m b).drift valid.drift_low valid.drift_high)
+      turn_long (clock_of (board_at m b)) k valid.freq (drift_small (board_at m b).drift valid.drift_low valid.drift_high)
 
   -- what is left of the queue
   pub left_of : (turns : List BoardTurn) → Turns turns → (left : List Meant) × (Taken turns ++ left ≡ queued_in_turns turns)
@@ -457,7 +424,7 @@ module _ (m : Machine) (v : IsValidMachine m) (switches : List Switch) (pins : L
     pub same_members : (h : Homing) → members_of (turned_group (Heard h).group K) ≡ members_of h.group
     same_members h =
         let n = noted m d.note (known_by m switches past) in
-        ap (λ (xs : List Seen). map (λ (x : Seen). x.member) xs) (after_members (Heard h).group K) ∙ members_states n.clocks 0 h.start d.states h.group
+        ap (λ (xs : List Seen). map (λ (x : Seen). x.member) xs) (after_members (Heard h).group K) ∙ states-kept n.clocks 0 h.start d.states h.group
 
     pub same_start : (h : Homing) → h.group.start ≡ h.start → (behind_turn (Heard h) K).group.start ≡ h.start
     same_start h e = after_start (Heard h).group K ∙ heard_together (noted m d.note (known_by m switches past)).clocks d.states h e
@@ -544,7 +511,7 @@ module _ (m : Machine) (v : IsValidMachine m) (switches : List Switch) (pins : L
           behind = split.behind;
         } in
         let n = noted m d.note (known_by m switches past) in
-        goes_way h is open_it together (omega (arith, at)) member (t ∷ []) turns refl g (homes_none past (omega (arith, size))) (not_yet K h.start (Heard h).group (omega (arith, at)))
+        goes_way h is open_it together (omega (arith, at)) member (t ∷ []) turns refl g (homes_none past (omega (arith, size))) (not-yet K h.start (Heard h).group (omega (arith, at)))
       where
         homes_none : (came : List Came) → length came ≤ length turns → HomesFrom m switches (length turns) h.start (members_of h.group) came
         homes_none [] l = tt

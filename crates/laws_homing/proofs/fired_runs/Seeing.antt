@@ -1,44 +1,14 @@
 -- Between a board's homing sections its trigger reads nothing; and where a group answers that the switch of its section closed, the section's own readings triggered it.
 use Rattle.std.proofs.Common.{◌≡◌, ℕ, ◌+◌, ◌-◌, ◌<◌, ◌≤◌, ◌⊎◌, inl, inr, List, [], ◌∷◌, ◌++◌, length, map, Option, Some, None, refl, ap, sym, ◌∙◌, subst, arith, append_assoc, append-nil, length-append}
-use Rattle.std.proofs.lemmas.Bool.Decides.{eqb_tells}
-use Rattle.std.proofs.lemmas.List.{append_cancel_left}
-use Rattle.plan_types.specs.declared.levels.Level.{Level}
-use Rattle.plan_types.specs.declared.machine.Machine.{Machine}
-use Rattle.plan_types.specs.Clock.{board_tick, clock_of}
-use Rattle.plan_types.specs.Lines.{Clocks}
-use Rattle.plan_types.specs.Machines.{IsValidMachine, axis_at, board_at}
-use Rattle.plan_types.specs.Sections.{clocks_at}
-use Rattle.board_trig.specs.declared.sampling.Sampling.{Sampling}
-use Rattle.msg_code.specs.declared.cmd.Cmd.{Cmd}
+use Rattle.laws_board.proofs.Names.{eqb_tells, append_cancel_left, Level, Machine, board_tick, clock_of, Clocks, IsValidMachine, axis_at, board_at, clocks_at, Sampling, Cmd, Entry, Switch, Meant, Rig, Slot, slot_at, one_slot, plain, units_orders, queued_in, first_state, orders, LinkState, trigger_of, End, Member, Fired, Homing, answer_in, by_answer, hears_all, homing_turn, members_of, Phase, Connecting, noted, Came, known_by, last_reacted, state_at, cons_same}
 use Rattle.msg_code.specs.declared.cmd.Cmd.TheVariants as cmd
-use Rattle.wire_scene.specs.declared.scene.Entry.{Entry}
-use Rattle.wire_scene.specs.declared.scene.Switch.{Switch}
-use Rattle.board_sim.specs.Fair.{Meant}
-use Rattle.board_sim.specs.Rig.{Rig, Slot, slot_at}
-use Rattle.board_sim.proofs.Bound.{one_slot}
-use Rattle.board_world.specs.Orders.{plain, units_orders}
-use Rattle.link_work.specs.Runs.{queued_in}
-use Rattle.link_work.specs.Stands.{first_state, orders}
-use Rattle.link_work.specs.Turn.{LinkState}
-use Rattle.board_asking.specs.Machine.{trigger_of}
-use Rattle.trigger_group.specs.declared.order.End.{End}
 use Rattle.trigger_group.specs.declared.order.End.TheVariants as end
-use Rattle.trigger_group.specs.declared.order.Member.{Member}
-use Rattle.trigger_group.specs.declared.seen.Fired.{Fired}
-use Rattle.axis_homing.specs.declared.homing.Homing.{Homing}
-use Rattle.axis_homing.specs.Homing.{answer_in, by_answer, hears_all, homing_turn}
-use Rattle.axis_homing.specs.Rising.{members_of}
-use Rattle.host_reactor.specs.declared.ordered.Phase.{Phase}
-use Rattle.host_reactor.specs.declared.ordered.Phase.TheVariants.{Connecting}
-use Rattle.host_reactor.specs.Notes.{noted}
-use Rattle.host_reactor.specs.Runs.{Came, known_by, last_reacted, state_at}
 use Rattle.laws_board.specs.turns.Turns.{AreBoardTurns, BoardTurn, latest_state, stands_after}
 use Rattle.laws_board.specs.clocks.Runs.{IsInRun}
 use Rattle.laws_board.proofs.clocks.Lines.{as_long, noted_phase, run_before, turn_of}
 use Rattle.laws_board.proofs.clocks.Turning.{goes}
-use Rattle.laws_board.proofs.sections.Lists.{cons_same, cuts}
+use Rattle.laws_board.proofs.sections.Lists.{cuts}
 use Rattle.laws_homing.specs.home_runs.Sections.{HomesFrom, IsOf, queued_in_turns}
-use Rattle.laws_homing.proofs.home_runs.Controlling.{not_yet}
 use Rattle.laws_homing.proofs.home_runs.Knowing.{noted_none, running_now, turn_end}
 use Rattle.laws_homing.proofs.home_runs.Staying.{taken_later}
 use Rattle.laws_homing.specs.switch_runs.Reading.{AreFit, BringFit}
@@ -50,7 +20,7 @@ use Rattle.laws_homing.proofs.switch_runs.Firing.{AllTrue}
 use Rattle.laws_homing.proofs.switch_runs.Ordering.{Reads, bring_fit, control_fit, fit_both, plain_fit, units_fit}
 use Rattle.laws_homing.proofs.switch_runs.Made.{AnyTick, whole_after}
 use Rattle.laws_homing.proofs.switch_runs.Telling.{fit_parts}
-use Rattle.laws_homing.proofs.clear_groups.Known.{answered_late, behind_turn}
+use Rattle.laws_homing.proofs.clear_groups.Known.{behind_turn}
 use Rattle.laws_homing.proofs.clear_groups.Plain.{none_at, none_some}
 use Rattle.laws_homing.proofs.clear_groups.Resting.{clash, next_of, some_same}
 use Rattle.laws_homing.specs.missed_groups.Ticks.{IsReader}
@@ -61,6 +31,8 @@ use Rattle.laws_homing.proofs.fired_runs.Reported.{answer_told}
 use Rattle.laws_homing.proofs.fired_runs.Rested.{Heard, answered_over, earlier_reads, goes_to, group_start, grows, left_of, none_stays, queue_later, rest_of, rises, run_at, same_members, same_start, switch_read, was_at}
 use Rattle.laws_homing.proofs.fired_runs.Sight.{blind_both, blind_once, read_behind, read_front, reader_or_not, reads_either}
 use Rattle.laws_homing.proofs.fired_runs.Under.{under_after}
+use Rattle.host_reactor.proofs.Idle.{not-yet}
+use Rattle.laws_homing.proofs.home_parts.Known.{answer_late}
 
 -- a turn that goes on answers that a switch closed, if at all
 closes : (k : ℕ) (h : Homing) (o : Option End) (e : End) → o ≡ Some e → (by_answer k h o).end ≡ None → (tick : ℕ) × (e ≡ end.Endstop tick)
@@ -547,7 +519,7 @@ module _ (m : Machine) (v : IsValidMachine m) (switches : List Switch) (pins : L
         let size = long in
         let once : ReadOnce New = elim (reads_either m switches pins entries b d past t turns now) [ inl blind ↦ blind_once New blind | inr x ↦ x.0 ] in
         let fit = turn_fit m switches pins entries b d past t turns h now is at in
-        goes_way h is open_it together (omega (arith, at)) reads (t ∷ []) turns refl (omega (arith, at, size)) rest [] t refl New refl [] (sym (append-nil New)) tt once fit (homes_none past (omega (arith, size))) (not_yet K h.start (Hears h).group (omega (arith, at)))
+        goes_way h is open_it together (omega (arith, at)) reads (t ∷ []) turns refl (omega (arith, at, size)) rest [] t refl New refl [] (sym (append-nil New)) tt once fit (homes_none past (omega (arith, size))) (not-yet K h.start (Hears h).group (omega (arith, at)))
       where
         homes_none : (came : List Came) → length came ≤ length turns → HomesFrom m switches (length turns) h.start (members_of h.group) came
         homes_none [] l = tt
@@ -625,7 +597,7 @@ module _ (m : Machine) (v : IsValidMachine m) (switches : List Switch) (pins : L
   answered_read c before turns h tick r latest apart reads behind is on ends =
       let known = known_by m switches before in
       let n = noted m c.note known in
-      let late = answered_late (length before) h.start (hears_all n.clocks c.states h).group (end.Endstop tick) ends in
+      let late = answer_late (length before) h.start (hears_all n.clocks c.states h).group (end.Endstop tick) ends in
       let own : IsReader b (members_of h.group) = subst (λ (k : ℕ). IsReader k (members_of h.group)) on ((of_axis m switches c before r.goes_on h is).1 (subst (λ (k : ℕ). k < length m.boards) (sym on) r.board)) in
       elim (all_way before turns r apart.1 (earlier_reads m v switches pins entries b (ReadsSwitchTrue m switches b) c before turns r reads) behind.1) [
         | inl x ↦ elim apart.0 [

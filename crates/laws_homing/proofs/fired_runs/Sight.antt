@@ -1,55 +1,21 @@
 -- Which controls begin readings: the one that is sent to the endstop's board of a homing section 250 turns before its start.
 use Rattle.std.proofs.Common.{◌≡◌, ℕ, ◌+◌, ◌-◌, ◌*◌, ◌==◌, ◌⊎◌, inl, inr, Bool, true, false, cond, List, [], ◌∷◌, ◌++◌, length, map, take, drop, Option, Some, None, refl, sym, ◌∙◌, subst, arith}
 use Rattle.std.specs.Prelude.{nat_lt}
-use Rattle.std.proofs.lemmas.Bool.{eqb-true}
-use Rattle.std.proofs.lemmas.Bool.Decides.{eqb_tells}
-use Rattle.plan_types.specs.declared.levels.Level.{Level}
-use Rattle.plan_types.specs.declared.machine.AxisDef.{AxisDef}
-use Rattle.plan_types.specs.declared.machine.Machine.{Machine}
-use Rattle.plan_types.specs.Lines.{Clocks}
-use Rattle.plan_types.specs.Machines.{axis_at, board_at}
-use Rattle.msg_code.specs.declared.cmd.Cmd.{Cmd}
+use Rattle.laws_board.proofs.Names.{eqb-true, eqb_tells, Level, AxisDef, Machine, Clocks, axis_at, board_at, Cmd, State, Control, Unit as StepUnit, dir_commands, reset_commands, step_command, Entry, Switch, Meant, plain, unit_orders, units_orders, queued_in, orders, Ctl, End, Member, Order, Goes, Rests, Sends, Homes, Starts, Fired, Seen, GroupState, all_fired, first_timeout, phase, relay_in, relays_in, round_of, steppers, Homing, answer_in, by_answer, command_to, commands_to, hears_all, homing_turn, order_command, members_of, Asking, Stage, Config, Configure, Connected, Identify, Uptime, Setup, is_question_due, ready, asks_now, clock_question, drifts, waits_in, configuration, Known, noted, Reacted, homing_commands, stop_command, stops, Came, known_by, last_reacted, states-kept}
 use Rattle.msg_code.specs.declared.cmd.Cmd.TheVariants as cmd
-use Rattle.msg_code.specs.declared.talk.State.{State}
-use Rattle.msg_code.specs.declared.unit.Control.{Control}
-use Rattle.msg_code.specs.declared.unit.Unit.{Unit as StepUnit}
-use Rattle.msg_code.specs.Units.{dir_commands, reset_commands, step_command}
-use Rattle.wire_scene.specs.declared.scene.Entry.{Entry}
-use Rattle.wire_scene.specs.declared.scene.Switch.{Switch}
-use Rattle.board_sim.specs.Fair.{Meant}
-use Rattle.board_world.specs.Orders.{plain, unit_orders, unit_ticks, units_orders}
-use Rattle.link_work.specs.Runs.{queued_in}
-use Rattle.link_work.specs.Stands.{orders}
-use Rattle.trigger_group.specs.declared.order.Ctl.{Ctl}
-use Rattle.trigger_group.specs.declared.order.End.{End}
+use Rattle.board_world.specs.Orders.{unit_ticks}
 use Rattle.trigger_group.specs.declared.order.End.TheVariants as end
-use Rattle.trigger_group.specs.declared.order.Member.{Member}
-use Rattle.trigger_group.specs.declared.order.Order.{Order}
 use Rattle.trigger_group.specs.declared.order.Order.TheVariants as order
 use Rattle.trigger_group.specs.declared.round.Phase.{Phase}
-use Rattle.trigger_group.specs.declared.round.Phase.TheVariants.{Goes, Rests, Sends}
 use Rattle.trigger_group.specs.declared.round.Round.{Round}
-use Rattle.trigger_group.specs.declared.round.Round.TheVariants.{Homes, Relays, Resets, Starts, Timeouts}
-use Rattle.trigger_group.specs.declared.seen.Fired.{Fired}
-use Rattle.trigger_group.specs.declared.seen.Seen.{Seen}
-use Rattle.trigger_group.specs.Group.{GroupState, all_fired, first_timeout, goes, limit, orders as group_orders, orders_of_group, orders_to, phase, relay_in, relays_in, reset, round_of, steppers, stop, to_board, unless_fired}
+use Rattle.trigger_group.specs.declared.round.Round.TheVariants.{Relays, Resets, Timeouts}
+use Rattle.trigger_group.specs.Group.{goes, limit, orders as group_orders, orders_of_group, orders_to, reset, stop, to_board, unless_fired}
 use Rattle.trigger_group.specs.Kept.{BoardsRise}
-use Rattle.axis_homing.specs.declared.homing.Homing.{Homing}
-use Rattle.axis_homing.specs.Homing.{answer_in, by_answer, command_to, commands_to, hears_all, homing_turn, order_command}
-use Rattle.axis_homing.specs.Rising.{HomingRises, members_of}
-use Rattle.board_asking.specs.declared.asking.Asking.{Asking}
-use Rattle.board_asking.specs.declared.asking.Stage.{Stage}
-use Rattle.board_asking.specs.declared.asking.Stage.TheVariants.{Config, Configure, Connected, Identify, Uptime}
-use Rattle.board_asking.specs.declared.setup.Setup.{Setup}
+use Rattle.axis_homing.specs.Rising.{HomingRises}
 use Rattle.board_asking.specs.declared.setup.Setup.TheVariants.{Endstop, Finish, Oids, Stepper, Trsync}
-use Rattle.board_asking.specs.Asking.{asks, is_question_due, question, ready}
-use Rattle.board_asking.specs.Drift.{asks_now, clock_question, drifts, waits_in}
-use Rattle.board_asking.specs.Machine.{configuration, control_bytes, fitting, setup_command}
-use Rattle.host_reactor.specs.declared.ordered.Known.{Known}
+use Rattle.board_asking.specs.Asking.{asks, question}
+use Rattle.board_asking.specs.Machine.{control_bytes, fitting, setup_command}
 use Rattle.host_reactor.specs.declared.ordered.Phase.TheVariants.{Running}
-use Rattle.host_reactor.specs.Notes.{noted}
-use Rattle.host_reactor.specs.Reactor.{Reacted, homing_commands, stop_command, stops}
-use Rattle.host_reactor.specs.Runs.{Came, known_by, last_reacted}
 use Rattle.laws_board.specs.turns.Turns.{BoardTurn}
 use Rattle.laws_board.specs.clocks.Runs.{IsInRun}
 use Rattle.laws_board.proofs.clocks.Answers.{Each, each_both}
@@ -58,7 +24,6 @@ use Rattle.laws_board.proofs.clocks.Lines.{turn_of}
 use Rattle.laws_board.proofs.clocks.Turning.{Asks, BoardTurned, Ends, Runs}
 use Rattle.laws_homing.specs.home_runs.Told.{IsMember}
 use Rattle.laws_homing.proofs.home_runs.Controlling.{phase_homes}
-use Rattle.laws_homing.proofs.home_runs.Grouped.{members_states}
 use Rattle.laws_homing.proofs.home_runs.Joining.{known_rises, noted_rises}
 use Rattle.laws_homing.proofs.home_runs.Setting.{commands_both, rise_behind}
 use Rattle.laws_homing.proofs.clear_groups.Starting.{MembersOf}
@@ -293,7 +258,7 @@ homing_either m all k states (Some h) own b rises =
     let g = hears_all all states h in
     let turn = by_answer k g (answer_in k g.start g.group) in
     let same : g.group.start ≡ h.group.start = states_start all 0 h.start states h.group in
-    let members : members_of g.group ≡ members_of h.group = members_states all 0 h.start states h.group in
+    let members : members_of g.group ≡ members_of h.group = states-kept all 0 h.start states h.group in
     elim (group_either b k g) [
       | inl f ↦ inl (ctls_blind m own b turn.start (axis_at m turn.axis) turn.ctls.items (answer_blind b k g (answer_in k g.start g.group) (in_blind b (phase g.group.start g.group.last k) g.group k f)))
       | inr x ↦

@@ -1,21 +1,14 @@
 -- A stepper that waits to be bound to a trigger that can't trigger is halted before the board takes a step of it.
 use Rattle.std.proofs.Common.{◌≡◌, ℕ, ◌⊎◌, inl, inr, false, true, List, [], ◌∷◌, ◌++◌, refl, ap, sym, ◌∙◌, subst, append_assoc}
-use Rattle.plan_types.specs.declared.plan.BoardState.{BoardState}
-use Rattle.plan_types.specs.declared.plan.BoardState.TheVariants.{Running, Shut}
-use Rattle.msg_code.specs.declared.cmd.Cmd.{Cmd}
+use Rattle.laws_board.proofs.Names.{BoardState, Running, Shut, Cmd, Meant, commands_of, Rig, acts_running, passes, slot_at, takes, takes_all, Event, IsOrdered, Core, Step, Do, Turn, does, after_event, in_turn, takes_in, cons_same}
 use Rattle.msg_code.specs.declared.cmd.Cmd.TheVariants as cmd
 use Rattle.board_sim.specs.Board.{stepper_at}
-use Rattle.board_sim.specs.Fair.{Meant, commands_of}
-use Rattle.board_sim.specs.Rig.{Rig, acts_running, passes, slot_at, takes, takes_all}
 use Rattle.board_sim.specs.RigRuns.{IsHalted, IsThere}
 use Rattle.board_sim.proofs.RigPlaces.{halted_is, is_halted, is_there, there_is}
 use Rattle.board_sim.proofs.RigStates.{passes_state}
-use Rattle.board_world.specs.declared.event.Event.{Event}
 use Rattle.board_world.specs.declared.event.Event.TheVariants as event
-use Rattle.board_world.specs.Stands.{IsOrdered}
-use Rattle.board_world.specs.World.{Core, Step, Do, Turn, does, after_event, in_turn, orders_of, takes_in}
+use Rattle.board_world.specs.World.{orders_of}
 use Rattle.board_world.proofs.Runs.{ordered_by, ordered_turn}
-use Rattle.laws_board.proofs.sections.Lists.{cons_same}
 use Rattle.laws_homing.specs.home_runs.Guards.{AreCalm, HasFired}
 use Rattle.laws_homing.proofs.home_runs.Firing.{left_by}
 use Rattle.laws_homing.proofs.home_runs.Guarding.{Next, fired_next, guard_halts, passes_next, takes_next}

@@ -1,31 +1,10 @@
 -- What a board is sent from the turn on in which its trigger is started until four turns behind a section's start: timeouts and readings from the start on, and no relay.
 use Rattle.std.proofs.Common.{◌≡◌, inl, inr, ℕ, suc, ◌+◌, ◌-◌, ◌*◌, ◌%◌, ◌^◌, ◌<◌, ◌≤◌, min, max, Bool, true, false, List, [], ◌∷◌, length, Option, Some, None, ap, sym, ◌∙◌, subst, arith}
 use Rattle.std.specs.Prelude.{nat_lt}
-use Rattle.std.proofs.lemmas.Bool.Decides.{leb_tells}
-use Rattle.plan_types.specs.declared.levels.Level.{Level}
-use Rattle.plan_types.specs.declared.machine.AxisDef.{AxisDef}
-use Rattle.plan_types.specs.declared.machine.Machine.{Machine}
-use Rattle.plan_types.specs.Board.{nearest}
-use Rattle.plan_types.specs.Clock.{board_tick, clock_of, turn_ns}
-use Rattle.plan_types.specs.Lines.{Clocks, lines_tick}
-use Rattle.plan_types.specs.Machines.{axis_at, board_at}
-use Rattle.plan_types.specs.Sections.{clocks_at}
-use Rattle.clock_line.specs.Early.{turn_tick}
-use Rattle.msg_code.specs.declared.cmd.Cmd.{Cmd}
+use Rattle.laws_board.proofs.Names.{leb_tells, Level, AxisDef, Machine, nearest, board_tick, clock_of, turn_ns, Clocks, lines_tick, axis_at, board_at, clocks_at, turn_tick, Cmd, Entry, Switch, Meant, commands_of, Member, Order, first_timeout, relay_in, relays_in, Homing, hears_all, low, order_command, noted, Came, known_by, queued_in, orders}
 use Rattle.msg_code.specs.declared.cmd.Cmd.TheVariants as cmd
-use Rattle.wire_scene.specs.declared.scene.Entry.{Entry}
-use Rattle.wire_scene.specs.declared.scene.Switch.{Switch}
-use Rattle.board_sim.specs.Fair.{Meant, commands_of}
-use Rattle.trigger_group.specs.declared.order.Member.{Member}
-use Rattle.trigger_group.specs.declared.order.Order.{Order}
 use Rattle.trigger_group.specs.declared.order.Order.TheVariants as order
-use Rattle.trigger_group.specs.Group.{first_timeout, limit, relay_begins, relay_from, relay_in, relays_in}
-use Rattle.axis_homing.specs.declared.homing.Homing.{Homing}
-use Rattle.axis_homing.specs.Homing.{hears_all, low, order_command}
-use Rattle.host_reactor.specs.Notes.{noted}
-use Rattle.host_reactor.specs.Runs.{Came, known_by}
-use Rattle.link_work.specs.Runs.{queued_in}
-use Rattle.link_work.specs.Stands.{orders}
+use Rattle.trigger_group.specs.Group.{limit, relay_begins, relay_from}
 use Rattle.laws_board.specs.turns.Turns.{BoardTurn}
 use Rattle.laws_board.specs.clocks.Runs.{IsInRun}
 use Rattle.laws_board.proofs.clocks.Lines.{as_long, run_before}
@@ -41,7 +20,7 @@ use Rattle.laws_homing.proofs.clear_groups.Alike.{turn_alike}
 use Rattle.laws_homing.proofs.clear_groups.Known.{of_known}
 use Rattle.laws_homing.proofs.missed_runs.Meek.{AllSo, SoIn}
 use Rattle.laws_homing.proofs.missed_runs.Orders.{IsFree, turn_so}
-use Rattle.laws_homing.proofs.hindered.Holding.{AllFit}
+use Rattle.laws_homing.proofs.hindered.Holding.{AllFit, not_can}
 use Rattle.laws_homing.proofs.hindered.Nearing.{limit_near, near_at}
 use Rattle.laws_homing.proofs.hindered.Since.{Fits}
 
@@ -79,10 +58,6 @@ order_aims m known lines b near most start at axis order.Trigger far alike up e 
 none_relays : (turn : ℕ) (o : Option ℕ) → o ≡ None → relays_in o turn ≡ true → ⊥
 none_relays turn None e f = cc
 none_relays turn (Some first) e f = cc
-
-not_yet : (a : Bool) → a ≡ false → a ≡ true → ⊥
-not_yet true e f = cc
-not_yet false e f = cc
 
 -- so up to a turn behind the section's last one, and not far behind its start
 abbrev pub Aimed : Clocks → (start last : ℕ) → Cmd → Type 0
@@ -183,7 +158,7 @@ module _ (m : Machine) (switches : List Switch) (pins : List (List Level)) (entr
               let most = limit_near m switches y from start last members on_y begins rises c before h of.2 (heard.0 from_so h x.known) in (
                 λ grows. (elim (leb_tells (suc g.sent) (limit g)) [
                   | inl p ↦ (let grew = p.1 in let first = x.first from_so in (omega (arith, grew, first, rises), omega (arith, most, soon, ends)))
-                  | inr p ↦ absurd (not_yet (nat_lt g.sent (limit g)) p.0 grows)
+                  | inr p ↦ absurd (not_can (nat_lt g.sent (limit g)) p.0 grows)
                 ]),
                 λ relays. absurd (none_relays K (relay_in g K)
                     (ap (λ (o : Option ℕ). relay_from o (relay_begins g K) K) (x.calm (omega (arith, soon))) ∙ ap (λ (a : Bool). relay_from None a K) (begins_not g K (omega (arith, soon, starts)))) relays),

@@ -1,8 +1,8 @@
 -- A homing group that knows of a member which has triggered calls the others every four turns.
 use Rattle.std.proofs.Common.{◌≡◌, ℕ, suc, ◌+◌, ◌-◌, ◌%◌, ◌≤◌, inl, inr, Bool, true, false, Option, Some, None, refl, ap, sym, ◌∙◌, arith}
 use Rattle.std.specs.Prelude.{◌==◌}
-use Rattle.std.proofs.lemmas.Bool.Decides.{leb_tells}
-use Rattle.trigger_group.specs.Group.{GroupState, turned_group, all_fired, any_fired_by, relay_begins, relay_from, relay_in, relays_in}
+use Rattle.laws_board.proofs.Names.{leb_tells, GroupState, turned_group, all_fired, relay_in, relays_in}
+use Rattle.trigger_group.specs.Group.{any_fired_by, relay_begins, relay_from}
 use Rattle.laws_homing.proofs.clear_boards.Modes.{begins_so, relay_is}
 
 -- so many turns behind this one it does

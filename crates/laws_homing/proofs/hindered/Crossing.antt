@@ -1,14 +1,8 @@
 -- The turn in which a board takes a command, and what holds from there on over turns in which it takes commands of a kind.
 use Rattle.std.proofs.Common.{◌≡◌, ◌⊎◌, inl, inr, ℕ, ◌+◌, ◌<◌, ◌≤◌, List, [], ◌∷◌, ◌++◌, length, ap, sym, ◌∙◌, subst, arith, append_assoc, length-append}
-use Rattle.std.proofs.lemmas.Bool.Decides.{leb_tells}
-use Rattle.plan_types.specs.declared.clock.BoardClock.{BoardClock}
-use Rattle.plan_types.specs.Clock.{board_tick}
-use Rattle.msg_code.specs.declared.cmd.Cmd.{Cmd}
-use Rattle.board_sim.specs.Fair.{Meant, commands_of}
-use Rattle.board_sim.specs.Rig.{Rig, passes, takes_all}
-use Rattle.link_work.specs.Turn.{LinkState}
+use Rattle.laws_board.proofs.Names.{leb_tells, BoardClock, board_tick, Cmd, Meant, commands_of, Rig, passes, takes_all, LinkState, cons_same}
 use Rattle.laws_board.specs.turns.Turns.{AreBoardTurns, BoardTurn, stands_after}
-use Rattle.laws_board.proofs.sections.Lists.{cons_same, cuts}
+use Rattle.laws_board.proofs.sections.Lists.{cuts}
 use Rattle.laws_homing.specs.home_runs.Sections.{queued_in_turns}
 use Rattle.laws_homing.specs.clear_groups.Resting.{EachTame, IsTame}
 use Rattle.laws_homing.proofs.fired_runs.Rested.{queue_later}

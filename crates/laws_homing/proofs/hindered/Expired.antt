@@ -1,29 +1,8 @@
 -- Where the trigger of a member's board stands expired in a homing section, the link of a member's board was hindered.
 use Rattle.std.proofs.Common.{◌≡◌, ◌⊎◌, ℕ, suc, ◌+◌, ◌-◌, ◌*◌, ◌≤◌, inl, inr, List, [], ◌∷◌, ◌++◌, length, Option, Some, refl, ap, sym, ◌∙◌, subst, arith}
-use Rattle.std.proofs.lemmas.Bool.Decides.{leb_tells}
-use Rattle.plan_types.specs.declared.levels.Level.{Level}
-use Rattle.plan_types.specs.declared.machine.Machine.{Machine}
-use Rattle.plan_types.specs.Clock.{board_tick, clock_of, turn_ns}
-use Rattle.plan_types.specs.Lines.{Clocks, lines_tick}
-use Rattle.plan_types.specs.Machines.{IsValidMachine, axis_at, board_at}
-use Rattle.wire_scene.specs.declared.scene.Entry.{Entry}
-use Rattle.wire_scene.specs.declared.scene.Switch.{Switch}
-use Rattle.trigger_group.specs.declared.order.Member.{Member}
-use Rattle.trigger_group.specs.declared.seen.Fired.{Fired}
-use Rattle.trigger_group.specs.declared.seen.Seen.{Seen}
-use Rattle.trigger_group.specs.Group.{GroupState}
-use Rattle.axis_homing.specs.declared.homing.Homing.{Homing}
-use Rattle.axis_homing.specs.Homing.{hears_all}
-use Rattle.axis_homing.specs.Rising.{members_of}
-use Rattle.board_asking.specs.Machine.{trigger_of}
-use Rattle.board_sim.specs.Rig.{Rig, Slot, slot_at}
-use Rattle.board_sim.proofs.Bound.{one_slot}
-use Rattle.link_work.specs.Stands.{first_state}
-use Rattle.host_reactor.specs.Notes.{noted}
-use Rattle.host_reactor.specs.Runs.{Came, GoesOn, known_by}
+use Rattle.laws_board.proofs.Names.{leb_tells, Level, Machine, board_tick, clock_of, turn_ns, Clocks, lines_tick, IsValidMachine, axis_at, board_at, Entry, Switch, Member, Fired, Seen, GroupState, Homing, hears_all, members_of, trigger_of, Rig, Slot, slot_at, one_slot, first_state, noted, Came, GoesOn, known_by, cons_same}
 use Rattle.laws_board.specs.turns.Turns.{BoardTurn, stands_after}
 use Rattle.laws_board.proofs.sections.Clocks.{ticks_rise}
-use Rattle.laws_board.proofs.sections.Lists.{cons_same}
 use Rattle.laws_board.proofs.clocks.Lines.{as_long, run_before}
 use Rattle.laws_homing.specs.home_runs.Guards.{HasFired}
 use Rattle.laws_homing.specs.home_runs.Sections.{HomesFrom}

@@ -1,42 +1,18 @@
 -- A member's board over a turn over which its link rests, in any scene: where its trigger triggers, the group hears of that at once; and an order to trigger triggers it.
 use Rattle.std.proofs.Common.{◌≡◌, ◌⊎◌, ℕ, ◌+◌, ◌*◌, ◌%◌, ◌^◌, ◌<◌, ◌≤◌, inl, inr, Bool, true, false, List, [], ◌∷◌, ◌++◌, length, Some, refl, ap, sym, ◌∙◌, subst, arith, append-nil}
-use Rattle.plan_types.specs.declared.levels.Level.{Level}
-use Rattle.plan_types.specs.declared.machine.Machine.{Machine}
-use Rattle.plan_types.specs.Board.{nearest}
-use Rattle.plan_types.specs.Clock.{board_tick, clock_of, turn_ns, run_turns}
-use Rattle.plan_types.specs.Lines.{Clocks, lines_tick, lines_turn}
-use Rattle.plan_types.specs.Machines.{IsValidMachine, board_at}
-use Rattle.plan_types.specs.Sections.{clocks_at}
-use Rattle.clock_line.specs.Early.{turn_in_run, turn_tick}
-use Rattle.wire_scene.specs.declared.scene.Entry.{Entry}
-use Rattle.wire_scene.specs.declared.scene.Switch.{Switch}
-use Rattle.msg_code.specs.declared.cmd.Cmd.{Cmd}
+use Rattle.laws_board.proofs.Names.{Level, Machine, nearest, board_tick, clock_of, turn_ns, Clocks, lines_tick, IsValidMachine, board_at, clocks_at, turn_in_run, turn_tick, Entry, Switch, Cmd, State, trigger_of, commands_of, Rig, Slot, passes, slot_at, takes_all, one_slot, says, queued_in, first_state, orders, Member, Fired, Seen, GroupState, turned_group, relay_in, relays_in, Homing, hears_all, low, Connecting, noted, Came, known_by, no_both}
+use Rattle.plan_types.specs.Clock.{run_turns}
+use Rattle.plan_types.specs.Lines.{lines_turn}
 use Rattle.msg_code.specs.declared.cmd.Cmd.TheVariants as cmd
-use Rattle.msg_code.specs.declared.talk.State.{State}
-use Rattle.board_asking.specs.Machine.{trigger_of}
-use Rattle.board_sim.specs.Fair.{commands_of}
-use Rattle.board_sim.specs.Rig.{Rig, Slot, passes, slot_at, takes_all}
 use Rattle.board_sim.specs.Turn.{says_shut}
-use Rattle.board_sim.proofs.Bound.{one_slot}
 use Rattle.board_sim.proofs.RigStates.{all_tick}
 use Rattle.board_sim.proofs.Sound.{sound_regular}
-use Rattle.board_world.specs.World.{says, shut_before}
-use Rattle.link_work.specs.Runs.{queued_in}
-use Rattle.link_work.specs.Stands.{first_state, orders}
+use Rattle.board_world.specs.World.{shut_before}
 use Rattle.laws_board.specs.turns.Turns.{AreBoardTurns, BoardTurn, stands_after}
 use Rattle.laws_board.specs.clocks.Runs.{IsInRun}
 use Rattle.laws_board.proofs.clocks.Lines.{run_before}
 use Rattle.laws_board.proofs.sections.Clocks.{ticks_rise}
 use Rattle.laws_board.specs.sections.Parts.{AreTracked}
-use Rattle.trigger_group.specs.declared.order.Member.{Member}
-use Rattle.trigger_group.specs.declared.seen.Fired.{Fired}
-use Rattle.trigger_group.specs.declared.seen.Seen.{Seen}
-use Rattle.trigger_group.specs.Group.{GroupState, turned_group, relay_in, relays_in}
-use Rattle.axis_homing.specs.declared.homing.Homing.{Homing}
-use Rattle.axis_homing.specs.Homing.{hears_all, low}
-use Rattle.host_reactor.specs.declared.ordered.Phase.TheVariants.{Connecting}
-use Rattle.host_reactor.specs.Notes.{noted}
-use Rattle.host_reactor.specs.Runs.{Came, known_by}
 use Rattle.laws_homing.specs.home_runs.Guards.{HasFired, StandsFired}
 use Rattle.laws_homing.specs.home_runs.Told.{IsMember}
 use Rattle.laws_homing.specs.home_runs.Windows.{HasAnswer, IsWatched, SayFired}
@@ -68,8 +44,8 @@ use Rattle.laws_homing.proofs.clear_groups.Groups.{none_at}
 use Rattle.laws_homing.proofs.clear_groups.Known.{behind_turn}
 use Rattle.laws_homing.proofs.clear_groups.Orders.{IsSent}
 use Rattle.laws_homing.proofs.clear_groups.Owning.{one_rested}
-use Rattle.laws_homing.proofs.missed_groups.Fresh.{firing_in, none_firing, off_parts, one_state, small_parts}
-use Rattle.laws_homing.proofs.missed_groups.Stepping.{calm_meant}
+use Rattle.laws_homing.proofs.missed_groups.Fresh.{firing_in, none_firing, off_parts, small_parts}
+use Rattle.laws_homing.proofs.missed_groups.Stepping.{calm_meant, still_fired}
 use Rattle.laws_homing.specs.fired_runs.Since.{ReadsTrue}
 use Rattle.laws_homing.specs.hindered.Hindered.{HasRoundAhead}
 use Rattle.laws_homing.specs.switch_runs.Reports.{IsReport}
@@ -77,18 +53,11 @@ use Rattle.laws_homing.proofs.hindered.Repeating.{IsSilenced, repeats}
 use Rattle.laws_homing.proofs.hindered.Reporting.{takes_due}
 use Rattle.laws_homing.proofs.hindered.Running.{runs_shut, small_at}
 use Rattle.laws_homing.proofs.hindered.Told.{report_early}
-
-pub no_both : (b : Bool) → b ≡ true → b ≡ false → ⊥
-no_both true e f = cc
-no_both false e f = cc
+use Rattle.laws_homing.proofs.fired_runs.Reported.{sole_state}
 
 -- a board's trigger has triggered, or it can trigger, and its group knows of nothing else
 abbrev pub IsPlainly : Machine → ℕ → List Seen → Rig → Type 0
 IsPlainly m b xs r = HasFired (trigger_of m b) r ⊎ ((u : Slot) × (slot_at r (trigger_of m b) ≡ Some u) × (u.trigger.can ≡ true) × NoneOn b xs)
-
-still_off : (could can : Bool) → (can ≡ true → could ≡ true) → could ≡ false → can ≡ false
-still_off could true f off = absurd (no_both could (f refl) off)
-still_off could false f off = refl
 
 -- A board's trigger at a tick: it has triggered, from a section's start on and by then; and it reports so often, the next time at the tick or later, and that is no later than a limit.
 pub record IsTelling (m : Machine) (b limit start : ℕ) (lines : Clocks) (now : ℕ) (r : Rig) : Type 0 where
@@ -339,7 +308,7 @@ module _ (m : Machine) (v : IsValidMachine m) (switches : List Switch) (pins : �
         let behind = sent.behind in
         let u = (next_all Oid Clock Before Commands behind).slots x.slot x.is in
         let kept = u.stays.same x.silenced.off x.silenced.idle in
-        let off = still_off x.slot.trigger.can u.slot.trigger.can u.stays.can x.silenced.off in
+        let off = still_fired x.slot.trigger.can u.slot.trigger.can u.stays.can x.silenced.off in
         let due = takes_due Oid (report_ticks m b) x.next Clock Before Commands x.slot u.slot behind x.is u.is (x.silenced.every_is, x.silenced.report_is) in
         let silenced : IsSilenced x.next (report_ticks m b) x.tick u.slot = record { off = off; idle = u.stays.quiet (λ e. x.silenced.idle) off; same = kept.1 ∙ x.silenced.same; every_is = due.0; report_is = due.1 } in
         let regular = sound_regular Taken (all_sound Before Commands (sound_at (board_at m b) (pins b) b entries Turns are.1)) in
@@ -370,7 +339,7 @@ module _ (m : Machine) (v : IsValidMachine m) (switches : List Switch) (pins : �
                   base = base;
                   early = omega (arith, by, up);
                 },
-                hears_known b last All c.states Next (λ y at_it behind_it. subst (λ (w : State). AllFiredIn Known w.turn Next.group.start last w.news) (one_state (j b).state y (sym (s.states b on) ∙ at_it)) all) (known_next known),
+                hears_known b last All c.states Next (λ y at_it behind_it. subst (λ (w : State). AllFiredIn Known w.turn Next.group.start last w.news) (sole_state (j b).state y (sym (s.states b on) ∙ at_it)) all) (known_next known),
               )
         ]
       where
@@ -404,7 +373,7 @@ module _ (m : Machine) (v : IsValidMachine m) (switches : List Switch) (pins : �
           let x = told_so o r n told in
           let same : x.slot ≡ z = one_slot (slot_at Later Oid) x.slot z x.is there in
           no_both z.trigger.can can_on (ap (λ (y : Slot). y.trigger.can) (sym same) ∙ x.fired))) in
-          hears_none b All c.states Next (λ x at_it. subst (λ (y : State). FiringNone y.news) (one_state (j b).state x (sym (s.states b on) ∙ at_it)) silent) before
+          hears_none b All c.states Next (λ x at_it. subst (λ (y : State). FiringNone y.news) (sole_state (j b).state x (sym (s.states b on) ∙ at_it)) silent) before
 
   fired_on : HasFired Oid Before → HasFired Oid Later
   fired_on f = subst (HasFired Oid) (sym taken) (stays_fired Oid Clock Until Before Commands sent.behind f)

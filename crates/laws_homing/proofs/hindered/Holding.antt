@@ -1,20 +1,11 @@
 -- A board's trigger over commands that start none: it stays there, and keeps what no such command takes from it.
 use Rattle.std.proofs.Common.{◌≡◌, ◌⊎◌, inl, inr, ℕ, ◌+◌, ◌<◌, ◌≤◌, Bool, true, false, List, [], ◌∷◌, get_or, set, Option, Some, None, refl, ap, sym, ◌∙◌, subst, arith}
 use Rattle.std.specs.Prelude.{nat_lt, ◌==◌, if◌then◌else◌}
-use Rattle.std.proofs.lemmas.List.{get_or-set_same}
-use Rattle.plan_types.specs.declared.levels.Level.{Level}
-use Rattle.plan_types.specs.declared.plan.BoardState.{BoardState}
-use Rattle.plan_types.specs.declared.plan.BoardState.TheVariants.{Running, Shut}
-use Rattle.plan_types.specs.Board.{nearest}
-use Rattle.board_trig.specs.declared.trigger.Trigger.{Trigger}
-use Rattle.board_trig.specs.declared.trigger.Happening.{Happening}
+use Rattle.laws_board.proofs.Names.{get_or-set_same, Level, BoardState, Running, Shut, nearest, Trigger, Happening, Cmd, Rig, Slot, acts_running, becomes, expires_at_once, passes, set_timeout, slot_at, takes, takes_all, AllSound, one_slot, slot_range}
 use Rattle.board_trig.specs.declared.trigger.Happening.TheVariants as happening
 use Rattle.board_trig.specs.Trigger as trig
-use Rattle.msg_code.specs.declared.cmd.Cmd.{Cmd}
 use Rattle.msg_code.specs.declared.cmd.Cmd.TheVariants as cmd
-use Rattle.board_sim.specs.Rig.{Rig, Slot, acts_running, becomes, expires_at_once, make_trigger, passes, set_timeout, slot_at, start_trigger, takes, takes_all}
-use Rattle.board_sim.specs.RigRuns.{AllSound}
-use Rattle.board_sim.proofs.Bound.{one_slot, slot_range}
+use Rattle.board_sim.specs.Rig.{make_trigger, start_trigger}
 use Rattle.board_sim.proofs.RigTicks.{takes_rig_tick}
 use Rattle.board_sim.proofs.Sound.{sound_regular}
 use Rattle.laws_homing.specs.clear_groups.Resting.{EachTame, IsTame}
@@ -22,6 +13,7 @@ use Rattle.laws_homing.proofs.home_runs.Staging.{HasSlot}
 use Rattle.laws_homing.proofs.clear_boards.Alive.{late_passes}
 use Rattle.laws_homing.proofs.clear_groups.SetUp.{report_at}
 use Rattle.laws_homing.proofs.clear_boards.Slots.{Beside, Follows, Lasts, MakesNone, OfEach, levels_at, passes_beside, passes_each, running_beside, running_each}
+use Rattle.laws_homing.proofs.clear_groups.Plain.{none_some}
 
 -- the trigger with an object id stands here, and this holds of it
 pub record Holds (j : ℕ) (M : Trigger → Type 0) (r : Rig) : Type 0 where
@@ -32,10 +24,6 @@ pub record Holds (j : ℕ) (M : Trigger → Type 0) (r : Rig) : Type 0 where
 pub put_holds : (j : ℕ) (M : Trigger → Type 0) (r q : Rig) (u s : Slot) → q.triggers ≡ set r.triggers j (Some u) → slot_at r j ≡ Some s → M u.trigger → Holds j M q
 put_holds j M r q u s e is so =
     record { slot = u; is = ap (λ (xs : List (Option Slot)). get_or xs j None) e ∙ get_or-set_same r.triggers j (Some u) None (slot_range r.triggers j s is); so = so }
-
-none_some : (o : Option Slot) (s : Slot) → o ≡ None → o ≡ Some s → ⊥
-none_some None s e f = cc
-none_some (Some u) s e f = cc
 
 -- at a tick each of some commands is of a kind
 abbrev pub AllFit : (ℕ → Cmd → Type 0) → ℕ → List Cmd → Type 0
@@ -105,7 +93,7 @@ follows_due j every next = record {
 abbrev pub Limits : Trigger → Type 0
 Limits t = t.can ≡ true → (x : ℕ) × (t.timeout ≡ Some x)
 
-not_can : (b : Bool) → b ≡ false → b ≡ true → ⊥
+pub not_can : (b : Bool) → b ≡ false → b ≡ true → ⊥
 not_can true e f = cc
 not_can false e f = cc
 

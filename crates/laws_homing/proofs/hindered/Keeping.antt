@@ -1,16 +1,7 @@
 -- A trigger that can trigger keeps a timeout, and its readings their reason; so its board's timeout is at one tick.
 use Rattle.std.proofs.Common.{◌≡◌, ℕ, Bool, true, false, List, [], ◌∷◌, Some, None, refl, sym, ◌∙◌, subst}
-use Rattle.plan_types.specs.declared.levels.Level.{Level}
-use Rattle.plan_types.specs.Board.{nearest}
-use Rattle.board_trig.specs.declared.sampling.Sampling.{Sampling}
-use Rattle.board_trig.specs.declared.trigger.Trigger.{Trigger}
-use Rattle.board_trig.specs.declared.trigger.Happening.{Happening}
-use Rattle.board_trig.specs.declared.trigger.Happening.TheVariants.{Nothing, Expires, Switches, Reports}
+use Rattle.laws_board.proofs.Names.{Level, nearest, Sampling, Trigger, Happening, Nothing, Expires, Switches, Reports, Cmd, Rig, Slot, passes, slot_at, takes_all, AllSound, one_slot, no_both}
 use Rattle.board_trig.specs.Trigger as trig
-use Rattle.msg_code.specs.declared.cmd.Cmd.{Cmd}
-use Rattle.board_sim.specs.Rig.{Rig, Slot, passes, slot_at, takes_all}
-use Rattle.board_sim.specs.RigRuns.{AllSound}
-use Rattle.board_sim.proofs.Bound.{one_slot}
 use Rattle.laws_homing.specs.home_runs.Guards.{IsSole}
 use Rattle.laws_homing.specs.clear_boards.Held.{IsTriggerHeld}
 use Rattle.laws_homing.specs.clear_boards.Limited.{IsLimited, limit_of}
@@ -18,6 +9,7 @@ use Rattle.laws_homing.specs.clear_boards.Turned.{AreSentBehind, IsSentBehind}
 use Rattle.laws_homing.proofs.switch_runs.Firing.{read_true}
 use Rattle.laws_board.proofs.clocks.Answers.{Each}
 use Rattle.laws_homing.proofs.clear_boards.Slots.{Follows, levels_at, passes_each, takes_each}
+use Rattle.plan_types.proofs.Facts.{false_true}
 
 abbrev pub Timed : Trigger → Type 0
 Timed t = (t.can ≡ true → (x : ℕ) × (t.timeout ≡ Some x)) × ((y : Sampling) → t.sampling ≡ Some y → y.reason ≡ 2 → ⊥)
@@ -25,13 +17,10 @@ Timed t = (t.can ≡ true → (x : ℕ) × (t.timeout ≡ Some x)) × ((y : Samp
 none_read : (y : Sampling) → None ≡ Some y → ⊥
 none_read y e = cc
 
-not_can : false ≡ true → ⊥
-not_can e = cc
-
 comes_it : (levels : List Level) (until : ℕ) (t : Trigger) (e : Happening) → Timed t → Timed (trig.happened levels until e t).trigger
 comes_it levels until t Nothing k = (k.0, λ y is two. (let x = read_true t.sampling levels until y is in k.1 x.0 x.1 (sym x.2 ∙ two)))
-comes_it levels until t (Expires at) k = (λ can. absurd (not_can can), λ y is. absurd (none_read y is))
-comes_it levels until t (Switches at) k = (λ can. absurd (not_can can), λ y is. absurd (none_read y is))
+comes_it levels until t (Expires at) k = (λ can. absurd (false_true can), λ y is. absurd (none_read y is))
+comes_it levels until t (Switches at) k = (λ can. absurd (false_true can), λ y is. absurd (none_read y is))
 comes_it levels until t (Reports at) k = (k.0, k.1)
 
 -- of the trigger with this object id
@@ -47,9 +36,9 @@ follows_it j clock = record {
   made = λ pins now oid fit. absurd fit;
   starts = λ pins now oid s at every reason fit k. absurd fit;
   limits = λ pins now oid s at fit can ahead k own. (λ on. (nearest now at, refl), (k own).1);
-  expires = λ pins now oid s at fit can past k own. (λ on. absurd (not_can on), λ y is. absurd (none_read y is));
+  expires = λ pins now oid s at fit can past k own. (λ on. absurd (false_true on), λ y is. absurd (none_read y is));
   says = λ pins oid s n e k own. ((k own).0, (k own).1);
-  fires = λ pins now oid s reason fit can k own. (λ on. absurd (not_can on), λ y is. absurd (none_read y is));
+  fires = λ pins now oid s reason fit can k own. (λ on. absurd (false_true on), λ y is. absurd (none_read y is));
   binds = λ pins now oid s i fit k. absurd fit;
   homes = λ pins now oid s i pin g fit k. absurd fit;
 }
@@ -67,9 +56,6 @@ turn_timed j clock until r cs behind k =
     }) (takes_all r cs).rig took in
     λ oid s own at. passed oid s at own
 
-clash : (b : Bool) → b ≡ true → b ≡ false → ⊥
-clash b e f = let bad : true ≡ false = sym e ∙ f in cc
-
 -- the board's one trigger, where it can trigger
 pub limited_now : (j tick : ℕ) (r : Rig) (s : Slot) → IsSole j r → AllSound r → AllTimed j r → slot_at r j ≡ Some s → s.trigger.can ≡ true → (limit : ℕ) × IsLimited j tick limit r
 limited_now j tick r s sole sound timed is can =
@@ -77,7 +63,7 @@ limited_now j tick r s sole sound timed is can =
     let x = own.0 can in
     let so = sound j s is in
     let same : (oid : ℕ) (u : Slot) → slot_at r oid ≡ Some u → s ≡ u = (λ oid u at. one_slot (slot_at r j) s u is (subst (λ (n : ℕ). slot_at r n ≡ Some u) (sole oid u at) at)) in
-    let held : IsTriggerHeld tick s = record { told = so.told; moves = so.moves; other = own.1; expiry = λ off why. absurd (clash s.trigger.can can off) } in
+    let held : IsTriggerHeld tick s = record { told = so.told; moves = so.moves; other = own.1; expiry = λ off why. absurd (no_both s.trigger.can can off) } in
     let limited : s.trigger.timeout ≡ limit_of s.trigger.can x.0 = subst (λ (b : Bool). s.trigger.timeout ≡ limit_of b x.0) (sym can) x.1 in (
       x.0,
       record {

@@ -1,17 +1,9 @@
 -- How far ahead the timeouts of a homing group go, in any scene, where it heard of none of its members in a turn to come.
 use Rattle.std.proofs.Common.{◌≡◌, ℕ, ◌+◌, ◌≤◌, Bool, false, max, inl, inr, List, [], ◌∷◌, length, Option, Some, None, ap, sym, ◌∙◌, subst, arith}
-use Rattle.std.proofs.lemmas.Bool.Decides.{leb_tells}
-use Rattle.plan_types.specs.declared.machine.Machine.{Machine}
-use Rattle.wire_scene.specs.declared.scene.Switch.{Switch}
-use Rattle.trigger_group.specs.declared.order.Member.{Member}
+use Rattle.laws_board.proofs.Names.{leb_tells, Machine, Switch, Member, GroupState, turned_group, all_fired, first_timeout, Homing, hears_all, members_of, noted, Came, GoesOn, known_by, states-kept}
 use Rattle.trigger_group.specs.declared.round.Phase.{Phase as GroupPhase}
-use Rattle.trigger_group.specs.Group.{GroupState, turned_group, after_in, all_fired, first_timeout, limit, relay_begins, relay_from}
+use Rattle.trigger_group.specs.Group.{after_in, limit, relay_begins, relay_from}
 use Rattle.trigger_group.proofs.Knows.{after_last, after_start}
-use Rattle.axis_homing.specs.declared.homing.Homing.{Homing}
-use Rattle.axis_homing.specs.Homing.{hears_all}
-use Rattle.axis_homing.specs.Rising.{members_of}
-use Rattle.host_reactor.specs.Notes.{noted}
-use Rattle.host_reactor.specs.Runs.{Came, GoesOn, known_by}
 use Rattle.laws_homing.specs.home_runs.Sections.{HomesFrom}
 use Rattle.laws_homing.specs.home_runs.Told.{IsMember}
 use Rattle.laws_homing.specs.clear_boards.Modes.{IsTimed}
@@ -20,7 +12,6 @@ use Rattle.laws_homing.specs.clear_groups.Sections.{BeginsNoneFrom}
 use Rattle.laws_homing.specs.clear_groups.SetUp.{IsNewAt, IsNewIn}
 use Rattle.laws_homing.specs.hindered.Hindered.{HeardByNow}
 use Rattle.laws_homing.proofs.home_runs.Controlling.{phase_homes, phase_starts}
-use Rattle.laws_homing.proofs.home_runs.Grouped.{members_states}
 use Rattle.laws_homing.proofs.clear_boards.Keeping.{hears_keep}
 use Rattle.laws_homing.proofs.clear_boards.Modes.{begins_not, relay_is}
 use Rattle.laws_homing.proofs.clear_boards.Renewed.{after_is}
@@ -42,7 +33,7 @@ module _ (m : Machine) (switches : List Switch) (b from start last : ℕ) (membe
   pub limit_near : (d : Came) (past : List Came) (h : Homing) → members_of h.group ≡ members → let g = (hears_all (noted m d.note (known_by m switches past)).clocks d.states h).group in HeardUntil g.start b (length past) g.members → limit g ≤ length past + 25
   limit_near d past h of heard =
       let g = (hears_all (noted m d.note (known_by m switches past)).clocks d.states h).group in
-      let are = members_states (noted m d.note (known_by m switches past)).clocks 0 h.start d.states h.group ∙ of in
+      let are = states-kept (noted m d.note (known_by m switches past)).clocks 0 h.start d.states h.group ∙ of in
       let seen = member_seen b g.members (subst (IsMember b) (sym are) on) in
       let least = least_at g.start g.last seen.0 g.members seen.1 in
       let most_heard = heard_there g.start b (length past) seen.0 g.members seen.1 seen.2 heard in

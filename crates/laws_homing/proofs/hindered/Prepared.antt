@@ -1,19 +1,7 @@
 -- A member's board that goes on in any scene is prepared 251 turns before a homing section's start, where its link rests then.
 use Rattle.std.proofs.Common.{◌≡◌, ℕ, ◌+◌, ◌≤◌, false, List, [], ◌∷◌, length, Some, refl, subst, arith}
-use Rattle.plan_types.specs.declared.levels.Level.{Level}
-use Rattle.plan_types.specs.declared.machine.Machine.{Machine}
-use Rattle.plan_types.specs.declared.plan.BoardState.TheVariants.{Running}
-use Rattle.plan_types.specs.Machines.{IsValidMachine, board_at}
-use Rattle.wire_scene.specs.declared.scene.Entry.{Entry}
-use Rattle.wire_scene.specs.declared.scene.Switch.{Switch}
+use Rattle.laws_board.proofs.Names.{Level, Machine, Running, IsValidMachine, board_at, Entry, Switch, Rig, slot_at, trigger_of, first_state, Homing, Connecting, noted, Came, known_by}
 use Rattle.board_sim.specs.Board.{new_controller}
-use Rattle.board_sim.specs.Rig.{Rig, slot_at}
-use Rattle.board_asking.specs.Machine.{trigger_of}
-use Rattle.link_work.specs.Stands.{first_state}
-use Rattle.axis_homing.specs.declared.homing.Homing.{Homing}
-use Rattle.host_reactor.specs.declared.ordered.Phase.TheVariants.{Connecting}
-use Rattle.host_reactor.specs.Notes.{noted}
-use Rattle.host_reactor.specs.Runs.{Came, known_by}
 use Rattle.laws_board.specs.turns.Turns.{BoardTurn, stands_after}
 use Rattle.laws_board.proofs.sections.Boarding.{runs_on}
 use Rattle.laws_homing.specs.clear_boards.Rests.{RestsBehind}

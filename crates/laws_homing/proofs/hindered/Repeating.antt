@@ -1,26 +1,23 @@
 -- While time passes, a trigger that has triggered tells so at each of its reports.
 use Rattle.std.proofs.Common.{◌≡◌, ◌≢◌, ◌⊎◌, ℕ, zero, suc, ◌+◌, ◌/◌, ◌%◌, ◌^◌, ◌<◌, ◌≤◌, inl, inr, Bool, true, false, List, [], ◌++◌, Option, Some, None, refl, ap, sym, ◌∙◌, subst, arith}
 use Rattle.std.specs.Prelude.{if◌then◌else◌}
-use Rattle.std.proofs.lemmas.Bool.Decides.{leb_tells}
-use Rattle.std.proofs.lemmas.List.{get_or-set_other, get_or-set_same}
-use Rattle.plan_types.specs.declared.levels.Level.{Level}
-use Rattle.board_trig.specs.declared.trigger.Happening.{Happening}
-use Rattle.board_trig.specs.declared.trigger.Happening.TheVariants.{Expires, Nothing, Reports, Switches}
+use Rattle.laws_board.proofs.Names.{leb_tells, get_or-set_same, Level, Happening, Expires, Nothing, Reports, Switches, Cmd, Passed, Rig, Slot, all_left, at_of, earliest_moment, goes_on, happens_to, pass, passes, passes_by, rests_to, runs_to, slot_at, one_slot, slot_range, no_both}
+use Rattle.std.proofs.lemmas.List.{get_or-set_other}
 use Rattle.board_trig.specs.Nexts.{IsNextOf}
 use Rattle.board_trig.specs.Trigger as trig
 use Rattle.board_trig.proofs.Nexts.{is_next}
-use Rattle.msg_code.specs.declared.cmd.Cmd.{Cmd}
 use Rattle.msg_code.specs.Units.{bit}
-use Rattle.board_sim.specs.Rig.{Passed, Rig, Slot, all_left, at_of, earliest_moment, goes_on, happens_at, happens_to, levels_of, moment_in, pass, passes, passes_by, rested, rests_to, runs_to, slot_at, trigger_answers}
+use Rattle.board_sim.specs.Rig.{happens_at, levels_of, moment_in, rested, trigger_answers}
 use Rattle.board_sim.specs.RigRuns.{AreRegular, IsRegular}
-use Rattle.board_sim.proofs.Bound.{map_at, one_slot, same_or_not, slot_range}
+use Rattle.board_sim.proofs.Bound.{map_at, same_or_not}
 use Rattle.board_sim.proofs.Chosen.{chosen_is}
 use Rattle.board_sim.proofs.Moments.{all_in}
 use Rattle.board_sim.proofs.Passing.{Left, happens_left, in_time}
 use Rattle.board_sim.proofs.Ticks.{timed}
 use Rattle.laws_homing.specs.clear_boards.Firing.{TellOff}
 use Rattle.laws_homing.proofs.clear_boards.Firing.{off_behind, off_front}
-use Rattle.laws_homing.proofs.clear_boards.Reports.{none_in, none_left, regular_at, same_report}
+use Rattle.laws_homing.proofs.clear_boards.Reports.{none_in, none_left, regular_at}
+use Rattle.plan_types.proofs.Facts.{none_or_some, same_when}
 
 -- a trigger that has triggered, with a next report
 pub record IsSilenced (report every tick : ℕ) (s : Slot) : Type 0 where
@@ -44,20 +41,12 @@ record Stepped (oid until report every tick : ℕ) (s : Slot) (a : trig.Advanced
   silenced : IsSilenced next every tick (record s { trigger = a.trigger })
   tells : (next ≡ report) ⊎ ((at : ℕ) × (report ≤ at) × (at < until) × (at + every ≡ next) × TellOff oid (tick % 2 ^ 32) (trigger_answers oid a.event))
 
-no_time : (o : Option ℕ) (at : ℕ) → o ≡ None → o ≡ Some at → ⊥
-no_time None at e f = cc
-no_time (Some n) at e f = cc
-
-no_both : (b : Bool) → b ≡ true → b ≡ false → ⊥
-no_both true e f = cc
-no_both false e f = cc
-
 happened_step : (oid until report every tick : ℕ) (levels : List Level) (e : Happening) (s : Slot) → IsNextOf levels until s.trigger e → IsSilenced report every tick s → Stepped oid until report every tick s (trig.happened levels until e s.trigger)
 happened_step oid until report every tick levels Nothing s next k = record { next = report; silenced = record { off = k.off; idle = k.idle; same = k.same; every_is = k.every_is; report_is = k.report_is }; tells = inl refl }
-happened_step oid until report every tick levels (Expires at) s next k = absurd (no_time s.trigger.timeout at k.idle next.0)
+happened_step oid until report every tick levels (Expires at) s next k = absurd (none_or_some s.trigger.timeout at k.idle next.0)
 happened_step oid until report every tick levels (Switches at) s next k = absurd (no_both s.trigger.can next.0.1 k.off)
 happened_step oid until report every tick levels (Reports at) s next k =
-    let same : report ≡ at = same_report s.trigger.report report at k.report_is next.0 in
+    let same : report ≡ at = same_when s.trigger.report report at k.report_is next.0 in
     let clock : (if s.trigger.can then at else s.trigger.tick) % 2 ^ 32 ≡ tick % 2 ^ 32 = ap (λ (b : Bool). (if b then at else s.trigger.tick) % 2 ^ 32) k.off ∙ ap (λ (n : ℕ). n % 2 ^ 32) k.same in
     record {
       next = at + s.trigger.every;
@@ -67,7 +56,7 @@ happened_step oid until report every tick levels (Reports at) s next k =
 
 tells_step : (o : Option ℕ) (oid until report every tick : ℕ) (levels : List Level) (s : Slot) → s.trigger.untold ≡ o → IsRegular (Some s) → IsSilenced report every tick s → Stepped oid until report every tick s (trig.tells o levels until s.trigger)
 tells_step None oid until report every tick levels s e h k = happened_step oid until report every tick levels (trig.next_happening levels until s.trigger) s (is_next levels until s.trigger h.1) k
-tells_step (Some n) oid until report every tick levels s e h k = absurd (no_time s.trigger.untold n h.0 e)
+tells_step (Some n) oid until report every tick levels s e h k = absurd (none_or_some s.trigger.untold n h.0 e)
 
 -- what happens on the board
 happens_here : (oid i until report every tick : ℕ) (r : Rig) (s u : Slot) → (oid ≡ i) ⊎ (oid ≢ i) → slot_at r i ≡ Some u → slot_at r oid ≡ Some s → IsRegular (Some s) → IsSilenced report every tick s

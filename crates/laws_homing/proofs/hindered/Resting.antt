@@ -1,26 +1,21 @@
 -- A link is hindered in a turn, or it rests in each.
 use Rattle.std.proofs.Common.{◌≡◌, ◌⊎◌, ℕ, ◌+◌, ◌≤◌, inl, inr, Bool, true, false, List, [], ◌∷◌, length, refl, subst, arith}
-use Rattle.std.proofs.lemmas.Bool.Decides.{leb_tells}
+use Rattle.laws_board.proofs.Names.{leb_tells, LinkState, Member}
 use Rattle.link_core.specs.Core.{Command}
 use Rattle.link_work.specs.Ends.{is_quiet, none_wait}
-use Rattle.link_work.specs.Turn.{LinkState}
-use Rattle.trigger_group.specs.declared.order.Member.{Member}
 use Rattle.laws_board.specs.turns.Turns.{BoardTurn}
 use Rattle.laws_homing.specs.home_runs.Told.{IsMember}
 use Rattle.laws_homing.specs.clear_boards.Rests.{LinkRests, RestsFrom}
 use Rattle.laws_homing.specs.clear_groups.Sections.{turns_of}
 use Rattle.laws_homing.specs.hindered.Hindered.{HinderedIn, IsHinderedTurn, SomeHinderedIn}
-
-no_wait : (cs : List Command) → none_wait cs ≡ true → cs ≡ []
-no_wait [] e = refl
-no_wait (c ∷ cs) e = absurd (let bad : false ≡ true = e in cc)
+use Rattle.link_work.proofs.Bounds.{nothing_waits}
 
 -- a turn
 rest_or : (turn : ℕ) (l : LinkState) → IsHinderedTurn turn l ⊎ LinkRests turn l
 rest_or turn l = by (is_quiet (record { turn = turn; link = l })) (none_wait l.core.link.waiting) refl refl
   where
     by : (q w : Bool) → is_quiet (record { turn = turn; link = l }) ≡ q → none_wait l.core.link.waiting ≡ w → IsHinderedTurn turn l ⊎ LinkRests turn l
-    by true true q w = inr (record { quiet = q; empty = no_wait l.core.link.waiting w })
+    by true true q w = inr (record { quiet = q; empty = nothing_waits l.core.link.waiting w })
     by true false q w = inl (inr w)
     by false w q e = inl (inl q)
 

@@ -1,16 +1,7 @@
 -- A board of a run, in any scene: the reasons of its triggers fit, and it runs while it tells of no shutdown.
 use Rattle.std.proofs.Common.{◌≡◌, ℕ, List, [], ◌∷◌, refl, arith}
-use Rattle.plan_types.specs.declared.levels.Level.{Level}
-use Rattle.plan_types.specs.declared.machine.Machine.{Machine}
-use Rattle.plan_types.specs.declared.plan.BoardState.TheVariants.{Running}
-use Rattle.plan_types.specs.Clock.{clock_of}
-use Rattle.plan_types.specs.Machines.{board_at}
-use Rattle.wire_scene.specs.declared.scene.Entry.{Entry}
-use Rattle.wire_scene.specs.declared.scene.Switch.{Switch}
+use Rattle.laws_board.proofs.Names.{Level, Machine, Running, clock_of, board_at, Entry, Switch, Rig, first_state, Came}
 use Rattle.board_sim.specs.Board.{new_controller}
-use Rattle.board_sim.specs.Rig.{Rig}
-use Rattle.link_work.specs.Stands.{first_state}
-use Rattle.host_reactor.specs.Runs.{Came}
 use Rattle.laws_board.specs.turns.Turns.{AreBoardTurns, BoardTurn, stands_after}
 use Rattle.laws_board.specs.clocks.Runs.{IsInRun}
 use Rattle.laws_board.proofs.sections.Boarding.{runs_on}

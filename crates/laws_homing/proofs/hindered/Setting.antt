@@ -1,39 +1,24 @@
 -- A member's board, in any scene, from the turn on in which it takes the command that starts its trigger, and the one that sets its timeout.
 use Rattle.std.proofs.Common.{◌≡◌, ◌⊎◌, inl, inr, ℕ, ◌+◌, ◌-◌, ◌*◌, ◌^◌, ◌<◌, ◌≤◌, true, List, Some, [], ◌∷◌, ◌++◌, length, refl, ap, sym, ◌∙◌, subst, arith}
-use Rattle.plan_types.specs.declared.levels.Level.{Level}
-use Rattle.plan_types.specs.declared.machine.Machine.{Machine}
-use Rattle.plan_types.specs.declared.plan.BoardState.TheVariants.{Running}
-use Rattle.plan_types.specs.Board.{nearest}
-use Rattle.plan_types.specs.Clock.{board_tick, clock_of, turn_ns}
-use Rattle.plan_types.specs.Lines.{Clocks, lines_tick}
-use Rattle.plan_types.specs.Machines.{board_at}
-use Rattle.clock_line.specs.Early.{turn_tick}
-use Rattle.board_trig.specs.declared.sampling.Sampling.{Sampling}
-use Rattle.wire_scene.specs.declared.scene.Entry.{Entry}
-use Rattle.msg_code.specs.declared.cmd.Cmd.{Cmd}
+use Rattle.laws_board.proofs.Names.{Level, Machine, Running, nearest, board_tick, clock_of, turn_ns, Clocks, lines_tick, board_at, turn_tick, Sampling, Entry, Cmd, low, trigger_of, Meant, commands_of, Rig, Slot, passes, slot_at, takes, takes_all, first_state, LinkState}
 use Rattle.msg_code.specs.declared.cmd.Cmd.TheVariants as cmd
-use Rattle.axis_homing.specs.Homing.{low}
-use Rattle.board_asking.specs.Machine.{trigger_of}
-use Rattle.board_sim.specs.Fair.{Meant, commands_of}
-use Rattle.board_sim.specs.Rig.{Rig, Slot, passes, slot_at, takes, takes_all}
 use Rattle.board_sim.proofs.RigStates.{all_tick, passes_state}
 use Rattle.board_sim.proofs.RigTicks.{takes_rig_tick}
-use Rattle.link_work.specs.Stands.{first_state}
-use Rattle.link_work.specs.Turn.{LinkState}
 use Rattle.laws_board.specs.turns.Turns.{AreBoardTurns, BoardTurn, stands_after}
 use Rattle.laws_board.proofs.sections.Boarding.{runs_on}
 use Rattle.laws_homing.specs.home_runs.Stages.{no_stage, stage_from}
 use Rattle.laws_homing.specs.clear_groups.Resting.{EachTame}
 use Rattle.laws_homing.specs.clear_groups.Sections.{IsFollowed, ShutNone, report_ticks}
-use Rattle.laws_homing.proofs.home_runs.Staging.{HasSlot, commands_both, ran_before, staged_after, took_staged}
+use Rattle.laws_homing.proofs.home_runs.Staging.{HasSlot, commands_both, staged_after, took_staged}
 use Rattle.laws_homing.proofs.home_runs.Whole.{Has, Only, grown}
 use Rattle.laws_homing.proofs.clear_boards.Clocking.{timeout_ahead}
 use Rattle.laws_homing.proofs.clear_boards.Member.{all_sound}
 use Rattle.laws_homing.proofs.clear_boards.Standing.{sound_at, tick_is}
-use Rattle.laws_homing.proofs.clear_boards.Taking.{takes_both}
 use Rattle.laws_homing.proofs.fired_runs.Once.{SetsFirst}
 use Rattle.laws_homing.proofs.hindered.Holding.{AllFit, Due, Holds, Limits, Reports, passes_limits, passes_reports, set_holds_limits, start_holds, takes_due, takes_limits}
 use Rattle.laws_homing.proofs.hindered.Since.{Fits, Since, passes_since, start_since, takes_since}
+use Rattle.laws_homing.proofs.clear_boards.Turned.{ran as ran_before}
+use Rattle.board_sim.proofs.Heeding.{all_append}
 
 module _ (m : Machine) (pins : List (List Level)) (entries : List Entry) (b : ℕ) (lines : Clocks) (ready start last till : ℕ) (f : IsFollowed m b lines ready start last till) (few : trigger_of m b < 256) where
   abbrev First : LinkState
@@ -77,7 +62,7 @@ module _ (m : Machine) (pins : List (List Level)) (entries : List Entry) (b : �
       sym (passes_state (takes_all (Board z) (commands_of took)).rig (Own (length z + 1))) ∙ ap (λ (r : Rig). r.controller.state) (sym board) ∙ runs_on t.after.core.board.controller.state t.state.shut are.0.1.shut shut.0
 
   cut_rig : (z : List BoardTurn) (fr : List Meant) (begin : Meant) (mo : List Meant) → (takes_all (Board z) (commands_of (fr ++ begin ∷ mo))).rig ≡ (takes_all (takes (Front z fr) begin.command).rig (commands_of mo)).rig
-  cut_rig z fr begin mo = ap (λ (cs : List Cmd). (takes_all (Board z) cs).rig) (commands_both fr (begin ∷ mo)) ∙ takes_both (Board z) (commands_of fr) (begin.command ∷ commands_of mo)
+  cut_rig z fr begin mo = ap (λ (cs : List Cmd). (takes_all (Board z) cs).rig) (commands_both fr (begin ∷ mo)) ∙ all_append (Board z) (commands_of fr) (begin.command ∷ commands_of mo)
 
   order_on : (k : ℕ) → Own k ≤ Own (k + 1)
   order_on k = (let up = f.rises k in omega (arith, up))

@@ -1,20 +1,12 @@
 -- A trigger that triggers at no tick before one: neither by its timeout, nor by its readings, nor as it is told to.
 use Rattle.std.proofs.Common.{◌≡◌, ◌⊎◌, inl, inr, ℕ, zero, suc, ◌-◌, ◌<◌, ◌≤◌, Bool, true, false, List, [], ◌∷◌, Option, Some, None, refl, sym, subst, arith}
 use Rattle.std.specs.Prelude.{◌==◌, if◌then◌else◌}
-use Rattle.plan_types.specs.declared.levels.Level.{Level}
-use Rattle.plan_types.specs.declared.plan.BoardState.{BoardState}
-use Rattle.plan_types.specs.declared.plan.BoardState.TheVariants.{Running}
-use Rattle.plan_types.specs.Board.{nearest}
+use Rattle.laws_board.proofs.Names.{Level, BoardState, Running, nearest, Sampling, Trigger, Happening, Nothing, Expires, Switches, Reports, Cmd, Rig, Slot, acts_running, becomes, passes, slot_at, takes, takes_all}
 use Rattle.board_trig.specs.declared.sampling.Homing.{Homing as Reading}
-use Rattle.board_trig.specs.declared.sampling.Sampling.{Sampling}
-use Rattle.board_trig.specs.declared.trigger.Trigger.{Trigger}
-use Rattle.board_trig.specs.declared.trigger.Happening.{Happening}
-use Rattle.board_trig.specs.declared.trigger.Happening.TheVariants.{Nothing, Expires, Switches, Reports}
 use Rattle.board_trig.specs.Sampling.{IsTriggerTick, completes, group, group_behind, has_failed, pressed, reading_tick, sampled, sampled_to}
 use Rattle.board_trig.specs.Trigger as trig
-use Rattle.msg_code.specs.declared.cmd.Cmd.{Cmd}
 use Rattle.msg_code.specs.declared.cmd.Cmd.TheVariants as cmd
-use Rattle.board_sim.specs.Rig.{Rig, Slot, acts_running, becomes, passes, slot_at, start_trigger, takes, takes_all}
+use Rattle.board_sim.specs.Rig.{start_trigger}
 use Rattle.laws_homing.specs.clear_groups.Resting.{EachTame}
 use Rattle.laws_homing.proofs.clear_boards.Slots.{Follows, Next, levels_at}
 use Rattle.laws_homing.proofs.home_runs.Moments.{report_from}

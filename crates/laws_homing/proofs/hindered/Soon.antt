@@ -1,21 +1,7 @@
 -- Where what a board told comes soon, a homing group hears of it as able to trigger in no turn to come.
 use Rattle.std.proofs.Common.{◌≡◌, ℕ, ◌+◌, ◌*◌, ◌%◌, ◌^◌, ◌<◌, ◌≤◌, List, [], ◌∷◌, ◌++◌, length, Some, refl, ap, sym, ◌∙◌, subst, arith}
-use Rattle.plan_types.specs.declared.levels.Level.{Level}
-use Rattle.plan_types.specs.declared.machine.Machine.{Machine}
-use Rattle.plan_types.specs.Board.{nearest}
-use Rattle.plan_types.specs.Clock.{board_tick, clock_of, turn_ns}
-use Rattle.plan_types.specs.Lines.{Clocks, lines_tick}
-use Rattle.plan_types.specs.Machines.{board_at}
-use Rattle.plan_types.specs.Sections.{clocks_at}
-use Rattle.clock_line.specs.Early.{turn_tick}
+use Rattle.laws_board.proofs.Names.{Level, Machine, nearest, board_tick, clock_of, turn_ns, Clocks, lines_tick, board_at, clocks_at, turn_tick, State, Entry, Switch, Member, Homing, hears_all, Came, known_by, state_at}
 use Rattle.msg_code.specs.declared.cmd.Cmd.TheVariants as cmd
-use Rattle.msg_code.specs.declared.talk.State.{State}
-use Rattle.wire_scene.specs.declared.scene.Entry.{Entry}
-use Rattle.wire_scene.specs.declared.scene.Switch.{Switch}
-use Rattle.trigger_group.specs.declared.order.Member.{Member}
-use Rattle.axis_homing.specs.declared.homing.Homing.{Homing}
-use Rattle.axis_homing.specs.Homing.{hears_all}
-use Rattle.host_reactor.specs.Runs.{Came, known_by, state_at}
 use Rattle.laws_board.specs.turns.Turns.{BoardTurn, latest_state}
 use Rattle.laws_board.specs.clocks.Runs.{IsInRun}
 use Rattle.laws_board.proofs.clocks.Controls.{states_start}
@@ -30,8 +16,8 @@ use Rattle.laws_homing.specs.home_runs.Timeouts.{CouldUpTo, known_in}
 use Rattle.laws_homing.specs.home_runs.Windows.{HasAnswer}
 use Rattle.laws_homing.proofs.clear_boards.Standing.{tick_is}
 use Rattle.laws_homing.proofs.clear_groups.Known.{of_known, some_known}
-use Rattle.laws_homing.proofs.fired_runs.Reported.{before_start}
-use Rattle.laws_homing.proofs.home_runs.Fired.{Able, able_answer, run_moments, same_state}
+use Rattle.laws_homing.proofs.fired_runs.Reported.{before_start, sole_state}
+use Rattle.laws_homing.proofs.home_runs.Fired.{Able, able_answer, run_moments}
 use Rattle.laws_homing.proofs.home_runs.Hearing.{HeardSo, heard_so, known_so, noted_so}
 use Rattle.laws_homing.proofs.home_runs.Timeouts.{nearest_low}
 
@@ -52,7 +38,7 @@ module _ (m : Machine) (switches : List Switch) (pins : List (List Level)) (entr
   one_now known turns c before s when r latest x is front a =
       let old = x.middle ++ x.past in
       let run = subst (IsInRun m switches pins entries b before) x.are r in
-      let state : x.latest.state ≡ s = same_state x.latest.state s (sym (ap latest_state x.are) ∙ latest) in
+      let state : x.latest.state ≡ s = sole_state x.latest.state s (sym (ap latest_state x.are) ∙ latest) in
       let turn : s.turn ≡ length old = ap (λ (z : State). z.turn) (sym state) ∙ run.turns_are.0.1.turn in
       let has = subst (λ (z : State). HasAnswer (cmd.TrsyncState a.oid a.can a.reason a.clock) z.news) (sym state) a.has in
       let y = run_moments m switches pins entries b before [] x.latest x.middle x.past a.oid a.can a.reason a.clock run x.none has a.able in
@@ -87,7 +73,7 @@ module _ (m : Machine) (switches : List Switch) (pins : List (List Level)) (entr
       counted : (turns : List BoardTurn) → IsInRun m switches pins entries b before turns → latest_state turns ≡ s ∷ [] → start ≤ length turns
       counted [] q e = absurd (let l = ap length e in omega (arith, l))
       counted (t ∷ earlier) q e =
-          let state = same_state t.state s e in
+          let state = sole_state t.state s e in
           let turn : s.turn ≡ length earlier = ap (λ (z : State). z.turn) (sym state) ∙ q.turns_are.0.1.turn in
           omega (arith, turn, counts)
 

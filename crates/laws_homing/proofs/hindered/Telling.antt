@@ -1,37 +1,11 @@
 -- A board of a homing section that took the section's set-up in time, in any scene: its trigger tells on from five turns behind the start on.
 use Rattle.std.proofs.Common.{◌≡◌, inl, inr, ℕ, ◌+◌, ◌-◌, ◌*◌, ◌^◌, ◌<◌, ◌≤◌, Bool, true, false, List, [], ◌∷◌, ◌++◌, length, Option, Some, None, refl, ap, sym, ◌∙◌, subst, arith, append_assoc, length-append}
-use Rattle.std.proofs.lemmas.List.{append_cancel_left}
-use Rattle.plan_types.specs.declared.levels.Level.{Level}
-use Rattle.plan_types.specs.declared.machine.Machine.{Machine}
-use Rattle.plan_types.specs.Clock.{board_tick, clock_of, turn_ns}
-use Rattle.plan_types.specs.Lines.{Clocks, lines_tick}
-use Rattle.plan_types.specs.Machines.{IsValidMachine, board_at}
-use Rattle.plan_types.specs.Sections.{clocks_at}
-use Rattle.board_trig.specs.declared.sampling.Sampling.{Sampling}
-use Rattle.clock_line.specs.Early.{turn_tick}
-use Rattle.msg_code.specs.declared.cmd.Cmd.{Cmd}
+use Rattle.laws_board.proofs.Names.{append_cancel_left, Level, Machine, board_tick, clock_of, turn_ns, Clocks, lines_tick, IsValidMachine, board_at, clocks_at, Sampling, turn_tick, Cmd, Entry, Switch, Homing, low, members_of, trigger_of, Meant, commands_of, Rig, Slot, passes, slot_at, takes_all, one_slot, queued_in, first_state, orders, LinkState, Member, Connecting, noted, Came, known_by, no_both}
 use Rattle.msg_code.specs.declared.cmd.Cmd.TheVariants as cmd
-use Rattle.wire_scene.specs.declared.scene.Entry.{Entry}
-use Rattle.wire_scene.specs.declared.scene.Switch.{Switch}
-use Rattle.axis_homing.specs.declared.homing.Homing.{Homing}
-use Rattle.axis_homing.specs.Homing.{low}
-use Rattle.axis_homing.specs.Rising.{members_of}
-use Rattle.board_asking.specs.Machine.{trigger_of}
-use Rattle.board_sim.specs.Fair.{Meant, commands_of}
-use Rattle.board_sim.specs.Rig.{Rig, Slot, passes, slot_at, takes_all}
-use Rattle.board_sim.proofs.Bound.{one_slot}
-use Rattle.link_work.specs.Runs.{queued_in}
-use Rattle.link_work.specs.Stands.{first_state, orders}
-use Rattle.link_work.specs.Turn.{LinkState}
-use Rattle.trigger_group.specs.declared.order.Member.{Member}
-use Rattle.host_reactor.specs.declared.ordered.Phase.TheVariants.{Connecting}
-use Rattle.host_reactor.specs.Notes.{noted}
-use Rattle.host_reactor.specs.Runs.{Came, known_by}
 use Rattle.laws_board.specs.turns.Turns.{AreBoardTurns, BoardTurn, stands_after}
 use Rattle.laws_board.specs.clocks.Runs.{IsInRun}
 use Rattle.laws_board.proofs.clocks.Configured.{all_configured}
 use Rattle.laws_board.proofs.clocks.Lines.{as_long, noted_phase, run_before}
-use Rattle.laws_board.proofs.orders.Controlled.{few_on}
 use Rattle.laws_board.proofs.sections.Clocks.{ticks_rise}
 use Rattle.laws_board.specs.clocks.Ordered.{commands_in}
 use Rattle.laws_homing.specs.home_runs.Sections.{HomesFrom, TakesSetUp, queued_in_turns}
@@ -52,7 +26,6 @@ use Rattle.laws_homing.proofs.clear_groups.Alike.{turn_alike}
 use Rattle.laws_homing.proofs.clear_groups.Resting.{some_same, taken_tame}
 use Rattle.laws_homing.proofs.clear_groups.Starting.{starts_either}
 use Rattle.laws_homing.proofs.fired_runs.Blind.{blind_parts}
-use Rattle.laws_homing.proofs.fired_runs.Old.{clash}
 use Rattle.laws_homing.proofs.fired_runs.Once.{SetsFirst, StartOf, Started, turn_started}
 use Rattle.laws_homing.proofs.fired_runs.Rested.{earlier_reads, grows, left_of, queue_later, rest_before, rest_of}
 use Rattle.laws_homing.proofs.fired_runs.Seeing.{unread_before}
@@ -67,6 +40,7 @@ use Rattle.laws_homing.proofs.hindered.Aiming.{Aimed, aims, all_fit}
 use Rattle.laws_homing.proofs.hindered.Since.{Fits, Since, all_late}
 use Rattle.laws_homing.proofs.hindered.Setting as setting
 use Rattle.laws_homing.proofs.hindered.Holding.{AllFit, Limits}
+use Rattle.axis_homing.proofs.Room.{on-few}
 
 -- what starts no trigger and begins no readings is mild
 mild_of : (Z : Type 0) (c : Cmd) → IsTame c → IsBlind c → IsMild Z c
@@ -281,7 +255,7 @@ module _ (m : Machine) (v : IsValidMachine m) (switches : List Switch) (pins : L
     all_tame = subst (λ (l : List Meant). EachTame (commands_of l)) then.are started.split.behind
 
     few : Oid < 256
-    few = let most = v.steppers_few in let here = few_on b m.steppers in omega (arith, most, here)
+    few = let most = v.steppers_few in let here = on-few b m.steppers in omega (arith, most, here)
 
     only_all : Only Oid (commands_of (queued_in_turns Order))
     only_all = queue_only Oid Order (run_only m switches pins entries b (x.c ∷ x.before) Order v x.run)
@@ -394,7 +368,7 @@ module _ (m : Machine) (v : IsValidMachine m) (switches : List Switch) (pins : L
           let sound = sound_at (board_at m b) pins b entries early run_early.turns_are oid s at in
           record {
             fired = λ off. inr (inr (inr (omega arith)));
-            expire = λ can. absurd (clash s.trigger.can can (rested.off s here));
+            expire = λ can. absurd (no_both s.trigger.can can (rested.off s here));
             reads = λ y reads_y. absurd (none_read s.trigger.sampling y (unread.0 s here) reads_y);
             idle = λ off. sound.idle off;
           }

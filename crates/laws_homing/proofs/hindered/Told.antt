@@ -1,24 +1,9 @@
 -- What a board told of its trigger in a homing section, and as what it is read.
 use Rattle.std.proofs.Common.{◌≡◌, ℕ, ◌+◌, ◌-◌, ◌*◌, ◌<◌, ◌≤◌, inl, inr, List, [], ◌∷◌, ◌++◌, length, Some, ap, sym, ◌∙◌, subst, arith, length-append}
-use Rattle.std.proofs.lemmas.Bool.Decides.{leb_tells}
-use Rattle.plan_types.specs.declared.levels.Level.{Level}
-use Rattle.plan_types.specs.declared.machine.Machine.{Machine}
-use Rattle.plan_types.specs.Clock.{board_tick, clock_of, turn_ns}
-use Rattle.plan_types.specs.Lines.{Clocks, lines_tick, lines_turn}
-use Rattle.plan_types.specs.Machines.{IsValidMachine, board_at}
-use Rattle.plan_types.specs.Sections.{clocks_at}
-use Rattle.clock_line.specs.Early.{is_in_run, turn_in_run}
+use Rattle.laws_board.proofs.Names.{leb_tells, Level, Machine, board_tick, clock_of, turn_ns, Clocks, lines_tick, IsValidMachine, board_at, clocks_at, turn_in_run, State, Entry, Switch, trigger_of, first_state, Member, Fired, members_of, noted, Came, known_by, state_at}
+use Rattle.plan_types.specs.Lines.{lines_turn}
+use Rattle.clock_line.specs.Early.{is_in_run}
 use Rattle.clock_line.proofs.Turns.{turn-after, turn-below}
-use Rattle.msg_code.specs.declared.talk.State.{State}
-use Rattle.wire_scene.specs.declared.scene.Entry.{Entry}
-use Rattle.wire_scene.specs.declared.scene.Switch.{Switch}
-use Rattle.board_asking.specs.Machine.{trigger_of}
-use Rattle.link_work.specs.Stands.{first_state}
-use Rattle.trigger_group.specs.declared.order.Member.{Member}
-use Rattle.trigger_group.specs.declared.seen.Fired.{Fired}
-use Rattle.axis_homing.specs.Rising.{members_of}
-use Rattle.host_reactor.specs.Notes.{noted}
-use Rattle.host_reactor.specs.Runs.{Came, known_by, state_at}
 use Rattle.laws_board.specs.turns.Turns.{BoardTurn, latest_state}
 use Rattle.laws_board.specs.clocks.Runs.{IsInRun}
 use Rattle.laws_board.proofs.clocks.Lines.{as_long, run_before}
@@ -28,9 +13,9 @@ use Rattle.laws_homing.specs.switch_runs.Reports.{IsReport, WasReported}
 use Rattle.laws_homing.specs.clear_groups.Sections.{IsAlike, IsFollowed, IsHomingSection, KnowsLines, turns_of}
 use Rattle.laws_homing.specs.fired_runs.Since.{AreNotAhead, AreSoInTurns, IsFiredAt, ReadsAsTold, ReadsSwitchTrue, ReadsTrue, WasFiredAt}
 use Rattle.laws_homing.proofs.clear_boards.Clocking.{line_ahead}
-use Rattle.laws_homing.proofs.clear_boards.Ending.{when_is}
+use Rattle.laws_homing.proofs.clear_boards.Ending.{when_is, when_if}
 use Rattle.laws_homing.proofs.clear_groups.Known.{of_known, some_known}
-use Rattle.laws_homing.proofs.fired_runs.Reported.{sole_state, turn_if}
+use Rattle.laws_homing.proofs.fired_runs.Reported.{sole_state}
 use Rattle.laws_homing.proofs.fired_runs.Rested.{grows, read_now, run_at, was_at}
 use Rattle.laws_homing.proofs.fired_runs.Sight.{is_member}
 use Rattle.laws_homing.proofs.fired_runs.Under.{under_after}
@@ -81,7 +66,7 @@ report_early m v switches pins entries Goes lines ready from start last till mem
     let alike = (s.knows.0 homes.0 known.0 known.1 of.0 b run.board).1.ticks (length turns + 1 + 1) (omega (arith, long)) in
     let lines_now = clocks_at (noted m c.note (known_by m switches before)).clocks b in
     let below = turn-below lines_now f.tick (length turns + 1) (omega (arith, come, rises, next, alike)) in
-    let is = turn_if (is_in_run lines_now f.tick) (lines_turn lines_now f.tick) f.turn x.turn_is in
+    let is = when_if (is_in_run lines_now f.tick) (lines_turn lines_now f.tick) f.turn x.turn_is in
     omega (arith, below, is, long)
 
 module _ (m : Machine) (v : IsValidMachine m) (switches : List Switch) (pins : List (List Level)) (entries : List Entry) (b from start last till : ℕ) (lines : ℕ → Clocks) (ready : ℕ) (ms : List Member) (on : IsMember b ms) (low : from < start) (followed : IsFollowed m b (lines b) ready start last till)

@@ -1,23 +1,8 @@
 -- In any scene a homing group knows of no member whose trigger can trigger that it has triggered.
 use Rattle.std.proofs.Common.{◌≡◌, ℕ, true, ◌≤◌, ◌⊎◌, inl, inr, List, [], ◌∷◌, Option, Some, None, refl, subst, arith}
 use Rattle.std.specs.Prelude.{nat_le}
-use Rattle.std.proofs.lemmas.Bool.Decides.{leb_tells}
-use Rattle.plan_types.specs.declared.levels.Level.{Level}
-use Rattle.plan_types.specs.declared.machine.Machine.{Machine}
-use Rattle.plan_types.specs.Machines.{IsValidMachine, axis_at, board_at}
-use Rattle.wire_scene.specs.declared.scene.Entry.{Entry}
-use Rattle.wire_scene.specs.declared.scene.Switch.{Switch}
-use Rattle.board_asking.specs.Machine.{trigger_of}
-use Rattle.board_sim.specs.Rig.{Slot, slot_at}
-use Rattle.link_work.specs.Stands.{first_state}
-use Rattle.trigger_group.specs.declared.seen.Fired.{Fired}
-use Rattle.trigger_group.specs.declared.seen.Seen.{Seen}
+use Rattle.laws_board.proofs.Names.{leb_tells, Level, Machine, IsValidMachine, axis_at, board_at, Entry, Switch, trigger_of, Slot, slot_at, first_state, Fired, Seen, Homing, hears_all, members_of, noted, Came, known_by, state_at, no_both}
 use Rattle.trigger_group.specs.Group.{fired_by}
-use Rattle.axis_homing.specs.declared.homing.Homing.{Homing}
-use Rattle.axis_homing.specs.Homing.{hears_all}
-use Rattle.axis_homing.specs.Rising.{members_of}
-use Rattle.host_reactor.specs.Notes.{noted}
-use Rattle.host_reactor.specs.Runs.{Came, known_by, state_at}
 use Rattle.laws_board.specs.turns.Turns.{BoardTurn, latest_state, stands_after}
 use Rattle.laws_board.specs.clocks.Runs.{IsInRun}
 use Rattle.laws_homing.specs.home_runs.Told.{IsMember}
@@ -26,7 +11,7 @@ use Rattle.laws_homing.specs.fired_runs.Since.{AreNotAhead, AreReadTrue, BeginsA
 use Rattle.laws_homing.specs.switch_runs.Reports.{WasReported}
 use Rattle.laws_homing.proofs.fired_runs.Reported.{Each, all_told}
 use Rattle.laws_homing.proofs.fired_runs.Rested.{reported_fired}
-use Rattle.laws_homing.proofs.hindered.Falling.{no_both}
+use Rattle.plan_types.proofs.Facts.{is_le}
 
 none_of : (W : ℕ → Fired → Type 0) (own b : ℕ) (xs : List Seen) → Each W own xs → ((f : Fired) → W b f → ⊥) → NoneOn b xs
 none_of W own b [] given never = tt
@@ -36,16 +21,13 @@ none_of W own b (x ∷ xs) given never = ((λ on. by on x.fired refl), none_of W
     by on None e = refl
     by on (Some f) e = absurd (never f (subst (λ (n : ℕ). W n f) on (given.0.0 f e)))
 
-le_is : (a b : ℕ) → a ≤ b → nat_le a b ≡ true
-le_is a b l = elim (leb_tells a b) [ inl p ↦ p.0 | inr p ↦ absurd (omega (arith, p.1, l)) ]
-
 pub known_of : (W : ℕ → Fired → Type 0) (own b last : ℕ) (xs : List Seen) → Each W own xs → ((f : Fired) → W b f → f.turn ≤ last) → KnownOn b last xs
 known_of W own b last [] given early = tt
 known_of W own b last (x ∷ xs) given early = ((λ on. by on x.fired refl), known_of W own b last xs given.1 early)
   where
     by : x.member.board ≡ b → (o : Option Fired) → x.fired ≡ o → (fired_by last o ≡ true) ⊎ (o ≡ None)
     by on None e = inr refl
-    by on (Some f) e = inl (le_is f.turn last (early f (subst (λ (n : ℕ). W n f) on (given.0.0 f e))))
+    by on (Some f) e = inl (is_le f.turn last (early f (subst (λ (n : ℕ). W n f) on (given.0.0 f e))))
 
 module _ (m : Machine) (v : IsValidMachine m) (switches : List Switch) (pins : List (List Level)) (entries : List Entry) (b : ℕ) where
   pub unheard_at : (c : Came) (before : List Came) (turns : List BoardTurn) (h : Homing) → IsInRun m switches pins entries b before turns → state_at b c.states ≡ latest_state turns → BeginsApart m switches (c ∷ before) → AreReadTrue m switches b (c ∷ before) turns

@@ -1,37 +1,14 @@
 -- A homing section over turns over which the links of its members' boards rest, in any scene: what its boards report is heard, and so timeouts are renewed.
 use Rattle.std.proofs.Common.{◌≡◌, ◌⊎◌, ℕ, ◌+◌, ◌-◌, ◌*◌, ◌<◌, ◌≤◌, inl, inr, zero, suc, true, false, List, [], ◌∷◌, length, Some, refl, ap, sym, ◌∙◌, subst, arith}
 use Rattle.std.specs.List.{Contains}
-use Rattle.std.proofs.lemmas.Bool.Decides.{leb_tells}
-use Rattle.plan_types.specs.declared.levels.Level.{Level}
-use Rattle.plan_types.specs.declared.machine.Machine.{Machine}
-use Rattle.plan_types.specs.declared.plan.BoardState.TheVariants.{Running}
-use Rattle.plan_types.specs.Board.{nearest}
-use Rattle.plan_types.specs.Clock.{board_tick, clock_of, turn_ns}
-use Rattle.plan_types.specs.Lines.{Clocks, lines_tick}
-use Rattle.plan_types.specs.Machines.{IsValidMachine, board_at}
-use Rattle.plan_types.specs.Sections.{clocks_at}
-use Rattle.wire_scene.specs.declared.scene.Entry.{Entry}
-use Rattle.wire_scene.specs.declared.scene.Switch.{Switch}
-use Rattle.msg_code.specs.declared.cmd.Cmd.{Cmd}
-use Rattle.board_asking.specs.Machine.{trigger_of}
-use Rattle.board_sim.specs.Fair.{commands_of}
-use Rattle.board_sim.specs.Rig.{Rig, Slot, passes, slot_at, takes_all}
-use Rattle.board_sim.proofs.Bound.{one_slot}
-use Rattle.link_work.specs.Runs.{queued_in}
-use Rattle.link_work.specs.Stands.{first_state, orders}
+use Rattle.laws_board.proofs.Names.{leb_tells, Level, Machine, Running, nearest, board_tick, clock_of, turn_ns, Clocks, lines_tick, IsValidMachine, board_at, clocks_at, Entry, Switch, Cmd, trigger_of, commands_of, Rig, Slot, passes, slot_at, takes_all, one_slot, queued_in, first_state, orders, Member, Seen, GroupState, turned_group, all_fired, Homing, hears_all, low, noted, Came, known_by, no_both}
 use Rattle.laws_board.specs.turns.Turns.{AreBoardTurns, BoardTurn}
 use Rattle.laws_board.specs.clocks.Runs.{IsInRun}
 use Rattle.laws_board.proofs.clocks.Lines.{run_before}
 use Rattle.laws_board.proofs.sections.Clocks.{ticks_rise}
-use Rattle.trigger_group.specs.declared.order.Member.{Member}
-use Rattle.trigger_group.specs.declared.seen.Seen.{Seen}
-use Rattle.trigger_group.specs.Group.{GroupState, turned_group, all_fired, any_fired_by}
+use Rattle.trigger_group.specs.Group.{any_fired_by}
 use Rattle.trigger_group.proofs.Answering.{first_there, there_more}
 use Rattle.trigger_group.proofs.Knows.{after_last}
-use Rattle.axis_homing.specs.declared.homing.Homing.{Homing}
-use Rattle.axis_homing.specs.Homing.{hears_all, low}
-use Rattle.host_reactor.specs.Notes.{noted}
-use Rattle.host_reactor.specs.Runs.{Came, known_by}
 use Rattle.laws_homing.specs.home_runs.Guards.{HasFired, IsSole}
 use Rattle.laws_homing.specs.home_runs.Told.{IsMember}
 use Rattle.laws_homing.specs.clear_boards.Hearing.{FiredOn, KnownOn, NoneOn}
@@ -56,7 +33,7 @@ use Rattle.laws_homing.proofs.clear_groups.Owning.{one_rested}
 use Rattle.laws_homing.proofs.hindered.Keeping.{AllTimed, limited_now, turn_timed}
 use Rattle.laws_homing.proofs.hindered.Calling.{IsDue, due_now, due_on, due_soon}
 use Rattle.laws_homing.proofs.hindered.Falling as falling
-use Rattle.laws_homing.proofs.hindered.Falling.{IsPlainly, IsTelling, no_both}
+use Rattle.laws_homing.proofs.hindered.Falling.{IsPlainly, IsTelling}
 use Rattle.laws_homing.proofs.hindered.Reporting.{IsUp, up_step}
 use Rattle.laws_homing.proofs.hindered.Running.{runs_shut, small_at}
 

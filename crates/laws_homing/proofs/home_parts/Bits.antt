@@ -1,22 +1,18 @@
 -- The steppers that move, by their bits.
 use Rattle.std.proofs.Common.{◌≡◌, ℕ, zero, suc, ◌+◌, ◌*◌, ◌/◌, ◌%◌, ◌<◌, ◌≤◌, Bool, true, false, cond, List, [], ◌∷◌, ◌++◌, get_or, length, map, refl, ap, sym, ◌∙◌, subst, arith, inl, inr}
 use Rattle.std.specs.Prelude.{◌==◌, ◌&&◌, ◌||◌, nat_lt}
-use Rattle.std.proofs.lemmas.Bool.{eq-eqb}
-use Rattle.std.proofs.lemmas.Bool.Decides.{eqb_tells, leb_tells, nat_tests}
-use Rattle.plan_types.specs.declared.machine.AxisDef.{AxisDef}
-use Rattle.plan_types.specs.declared.machine.BoardDef.{BoardDef}
-use Rattle.plan_types.specs.declared.machine.Machine.{Machine}
+use Rattle.laws_board.proofs.Names.{eq-eqb, eqb_tells, leb_tells, nat_tests, AxisDef, BoardDef, Machine, Move, Member, steppers, unseen, members_from}
 use Rattle.plan_types.specs.declared.machine.StepperDef.{StepperDef}
-use Rattle.plan_types.specs.declared.plan.Move.{Move}
 use Rattle.plan_types.specs.Machines.{no_stepper}
-use Rattle.trigger_group.specs.declared.order.Member.{Member}
-use Rattle.trigger_group.specs.Group.{bits, steppers, unseen}
+use Rattle.trigger_group.specs.Group.{bits}
 use Rattle.trigger_group.specs.Kept.{movers}
-use Rattle.axis_homing.specs.Homing.{members_from, moving_on}
+use Rattle.axis_homing.specs.Homing.{moving_on}
 use Rattle.laws_board.specs.clocks.Samples.{IsAmong}
 use Rattle.motion_work.specs.Homes.{moving_among, one_moving}
 use Rattle.laws_board.proofs.plans.Placing.{count_on}
 use Rattle.laws_homing.specs.home_runs.Sections.{Moves}
+use Rattle.plan_types.proofs.Facts.{first_of_both}
+use Rattle.axis_homing.proofs.Room.{either-few}
 
 -- a bit of a word
 abbrev pub HasBit : ℕ → ℕ → Type 0
@@ -27,13 +23,9 @@ HasBit (suc k) word = HasBit k (word / 2)
 low_of : (bit rest : ℕ) → bit ≤ 1 → ((bit + 2 * rest) % 2 ≡ bit) × ((bit + 2 * rest) / 2 ≡ rest)
 low_of bit rest h = (omega (arith, h), omega (arith, h))
 
-bit_of : (b : Bool) → cond b 1 0 ≤ 1
-bit_of true = omega arith
-bit_of false = omega arith
-
 -- the steppers that a move moves
 pub moving_bit : (corexy : Bool) (one : Move) (drive : ℕ) → one_moving corexy one drive ≤ 1
-moving_bit corexy one drive = bit_of _
+moving_bit corexy one drive = either-few _
 
 pub among_bit : (corexy : Bool) (one : Move) (k : ℕ) (ss : List StepperDef) → k < length ss → one_moving corexy one (get_or ss k no_stepper).drive ≡ 1 → HasBit k (moving_among corexy one ss)
 among_bit corexy one k [] h e = absurd (omega (arith, h))
@@ -59,20 +51,20 @@ on_bit b i (suc n) zero word (x ∷ ss) low h on bit =
     let rest = moving_on b (word / 2) ss in
     let w = moving_on b word (x ∷ ss) in
     let yes : c ≡ true = rw (eq-eqb x.board b on, eq-eqb (word % 2) 1 bit) refl in
-    let one : w % 2 ≡ 1 = (low_of (cond c 1 0) rest (bit_of c)).0 ∙ ap (λ (z : Bool). cond z 1 0) yes in
+    let one : w % 2 ≡ 1 = (low_of (cond c 1 0) rest (either-few c)).0 ∙ ap (λ (z : Bool). cond z 1 0) yes in
     let same : i ≡ i + 0 = omega arith in
     subst (λ z. IsAmong z (bits i (suc n) w)) same (here_if (w % 2 == 1) i (bits (i + 1) n (w / 2)) (eq-eqb (w % 2) 1 one))
 on_bit b i (suc n) (suc k) word (x ∷ ss) low h on bit =
     let c = (x.board == b) && (word % 2 == 1) in
     let rest = moving_on b (word / 2) ss in
     let w = moving_on b word (x ∷ ss) in
-    let half : w / 2 ≡ rest = (low_of (cond c 1 0) rest (bit_of c)).1 in
+    let half : w / 2 ≡ rest = (low_of (cond c 1 0) rest (either-few c)).1 in
     let same : i + 1 + k ≡ i + suc k = omega arith in
     let later = on_bit b (i + 1) n k (word / 2) ss (omega (arith, low)) (omega (arith, h)) on bit in
     let At : ℕ → Type 0 = λ z. IsAmong (i + 1 + k) (bits (i + 1) n z) in
     subst (λ z. IsAmong z (bits i (suc n) w)) same (behind_if (w % 2 == 1) i (i + 1 + k) (bits (i + 1) n (w / 2)) (subst At (sym half) later))
 
-no_bits : (i n s : ℕ) → IsAmong s (bits i n 0) → ⊥
+pub no_bits : (i n s : ℕ) → IsAmong s (bits i n 0) → ⊥
 no_bits i zero s a = a
 no_bits i (suc n) s a = no_bits (i + 1) n s a
 
@@ -118,10 +110,6 @@ one_count true false i n v w count rest f e g h = absurd (let x : false ≡ true
 one_count false true i n v w count rest f e g h = rw (e, g) (omega (arith, h))
 one_count false false i n v w count rest f e g h = rw (e, g) h
 
-both_first : (a b : Bool) → (a && b) ≡ true → a ≡ true
-both_first true b e = refl
-both_first false b e = e
-
 none_long : (i n : ℕ) → length (bits i n 0) ≤ 0
 none_long i zero = omega arith
 none_long i (suc n) = none_long (i + 1) n
@@ -133,8 +121,8 @@ count_bits i (suc n) b word (x ∷ ss) =
     let c = (x.board == b) && (word % 2 == 1) in
     let rest = moving_on b (word / 2) ss in
     let w = moving_on b word (x ∷ ss) in
-    let low = low_of (cond c 1 0) rest (bit_of c) in
-    one_count c (x.board == b) i n (w % 2) (w / 2) (count_on b ss) rest (both_first (x.board == b) (word % 2 == 1)) low.0 low.1 (count_bits (i + 1) n b (word / 2) ss)
+    let low = low_of (cond c 1 0) rest (either-few c) in
+    one_count c (x.board == b) i n (w % 2) (w / 2) (count_on b ss) rest (first_of_both (x.board == b) (word % 2 == 1)) low.0 low.1 (count_bits (i + 1) n b (word / 2) ss)
 
 -- of all boards
 abbrev Sum : ℕ → List BoardDef → List StepperDef → ℕ

@@ -1,26 +1,11 @@
 -- What the controls of a board hold while the planner's sections go on.
 use Rattle.std.proofs.Common.{◌≡◌, ℕ, ◌+◌, ◌-◌, ◌*◌, ◌^◌, ◌<◌, ◌≤◌, List, [], ◌∷◌, ◌++◌, All, length, min, Some, refl, ap, sym, ◌∙◌, subst, arith}
-use Rattle.plan_types.specs.declared.levels.Level.{Level}
-use Rattle.plan_types.specs.declared.machine.Machine.{Machine}
-use Rattle.plan_types.specs.Clock.{turn_ns}
-use Rattle.plan_types.specs.Lines.{Clocks, lines_tick}
-use Rattle.plan_types.specs.Machines.{IsValidMachine}
-use Rattle.plan_types.specs.Sections.{clocks_at, is_home}
-use Rattle.clock_line.specs.Early.{turn_tick}
-use Rattle.clock_line.specs.Kept.{AreKept}
-use Rattle.wire_scene.specs.declared.scene.Entry.{Entry}
-use Rattle.wire_scene.specs.declared.scene.Switch.{Switch}
-use Rattle.link_work.specs.Stands.{orders}
-use Rattle.link_work.specs.Turn.{Orders}
-use Rattle.host_reactor.specs.Notes.{noted}
-use Rattle.host_reactor.specs.Runs.{Came, GoesOn, known_by}
+use Rattle.laws_board.proofs.Names.{Level, Machine, turn_ns, Clocks, lines_tick, IsValidMachine, clocks_at, turn_tick, AreKept, Entry, Switch, orders, Orders, noted, Came, GoesOn, known_by, Started, Told, MotionTurn}
+use Rattle.plan_types.specs.Sections.{is_home}
 use Rattle.laws_board.specs.turns.Turns.{BoardTurn}
 use Rattle.laws_board.specs.clocks.Runs.{IsInRun, orders_in}
 use Rattle.laws_board.proofs.clocks.Orders.{order_length}
 use Rattle.laws_board.specs.sections.Homes.{IsControlIn, RunSection}
-use Rattle.motion_work.specs.Seen.{Started}
-use Rattle.motion_work.specs.Told.{Told}
-use Rattle.session_work.specs.declared.table.MotionTurn.{MotionTurn}
 use Rattle.laws_board.specs.plans.Homed.{TookControlsIn}
 use Rattle.laws_board.specs.plans.Planned.{Plans}
 use Rattle.laws_homing.specs.home_plans.Notes.{CameNotes, HoldControlsIn, KnowBases, ShowsSections, WasBegun}
@@ -50,7 +35,7 @@ took_all clocks ss (t ∷ before) h =
     let At : ℕ → Type 0 = λ n. All (IsControlIn clocks ss n) t.control.commands in
     took_both clocks ss 0 (orders_in before) (orders t.control t.batch) (took_all clocks ss before h.1) (subst At e h.0)
 
-range_at : (clocks : Clocks) (xs : List Started) (s : Started) (later : List Started) → StartInRange clocks (xs ++ s ∷ later) → lines_tick clocks (s.start * turn_ns) < 2 ^ 64
+pub range_at : (clocks : Clocks) (xs : List Started) (s : Started) (later : List Started) → StartInRange clocks (xs ++ s ∷ later) → lines_tick clocks (s.start * turn_ns) < 2 ^ 64
 range_at clocks [] s later h = h.0
 range_at clocks (x ∷ xs) s later h = range_at clocks xs s later h.1
 

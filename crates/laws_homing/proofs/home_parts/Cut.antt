@@ -1,30 +1,19 @@
 -- A board's part of a run in which axes home, as far as its units are released.
 use Rattle.std.proofs.Common.{◌≡◌, ◌⊎◌, ℕ, zero, suc, true, false, ◌+◌, ◌*◌, ◌<◌, ◌≤◌, List, [], ◌∷◌, ◌++◌, All, length, map, take, Option, Some, refl, ap, sym, ◌∙◌, subst, arith, append_assoc, inl, inr}
 use Rattle.std.specs.Prelude.{◌-◌, ◌/◌, min, slice_index_or}
-use Rattle.std.specs.List.{flat_map, range_with_len}
-use Rattle.std.proofs.lemmas.Bool.Decides.{eqb_tells, leb_tells}
-use Rattle.std.proofs.lemmas.List.{length-map}
+use Rattle.laws_board.proofs.Names.{flat_map, eqb_tells, leb_tells, length-map, All-cons, All-head, All-nil, All-tail, Machine, Planned, Pulse, SectionKind, Moves, Home, turn_ns, Clocks, lines_tick, board_at, Fits, clocks_at, Release, batch_at, units_of, AreBefore, BoardSection, base_of, of_stepper, section_steps, Orders, parts_on, AreStarted, Started, Told, MotionTurn, gather, item}
+use Rattle.std.specs.List.{range_with_len}
 use Rattle.std.proofs.lemmas.Bool.{cases_lt}
-use Rattle.std.proofs.lemmas.List.Elements.{All-cons, All-head, All-nil, All-tail, All-take}
-use Rattle.plan_types.specs.declared.machine.Machine.{Machine}
-use Rattle.plan_types.specs.declared.plan.Planned.{Planned}
-use Rattle.plan_types.specs.declared.plan.Pulse.{Pulse}
-use Rattle.plan_types.specs.declared.plan.SectionKind.{SectionKind}
-use Rattle.plan_types.specs.declared.plan.SectionKind.TheVariants.{Moves, Home}
-use Rattle.plan_types.specs.Clock.{turn_ns}
-use Rattle.plan_types.specs.Lines.{Clocks, lines_tick}
-use Rattle.plan_types.specs.Machines.{board_at}
-use Rattle.plan_types.specs.Plan.{AreSpaced, Fits, max_error}
-use Rattle.plan_types.specs.Sections.{clocks_at, section_end, is_home}
+use Rattle.std.proofs.lemmas.List.Elements.{All-take}
+use Rattle.plan_types.specs.Plan.{AreSpaced, max_error}
+use Rattle.plan_types.specs.Sections.{section_end, is_home}
 use Rattle.clock_line.proofs.Turns.{turn-below}
 use Rattle.msg_code.specs.declared.unit.Batch.{Batch}
-use Rattle.step_feed.specs.Pacing.{Release, batch_at, units_of}
 use Rattle.section_units.specs.Fronts.{IsSectionFront}
 use Rattle.section_units.specs.Merged.{plan_at, section_of}
 use Rattle.section_units.specs.Plans.{IsFrontOnBy, plans_on}
-use Rattle.section_units.specs.Sections.{AreBefore, BoardSection, IsSection, base_of, of_stepper, section_steps, steps_said}
+use Rattle.section_units.specs.Sections.{IsSection, steps_said}
 use Rattle.section_units.proofs.Fronting.{section_front, section_whole}
-use Rattle.link_work.specs.Turn.{Orders}
 use Rattle.laws_board.specs.sections.Events.{AreTicks}
 use Rattle.laws_board.specs.sections.Homes.{AreInTurn, AreOrdersIn, AreOut, AreOutBy, AreSet, HasUnits, IsHomeRun, IsHomingIn, IsMovesIn, IsSectionBy, RunSection, SetsAny, AreReleasedIn}
 use Rattle.laws_board.specs.sections.Parts.{AreTracked, MakesIn}
@@ -32,17 +21,13 @@ use Rattle.laws_board.specs.sections.Runs.{AreSpilled, IsSpilled}
 use Rattle.laws_board.proofs.sections.Entering.{all_inside, begun_inside, early_fits}
 use Rattle.laws_board.proofs.sections.HomeRuns.{before_least}
 use Rattle.laws_board.proofs.sections.Waiting.{AreInside, Frame}
-use Rattle.motion_work.specs.Boards.{parts_on}
 use Rattle.motion_work.specs.Feeds.{batches_at, units_at}
 use Rattle.motion_work.specs.Homes.{before_turn, no_end}
 use Rattle.motion_work.specs.Puts.{ArePut}
-use Rattle.motion_work.specs.Seen.{AreStarted, IsHomed, IsPlanned, Started, part_on}
-use Rattle.motion_work.specs.Told.{Told}
+use Rattle.motion_work.specs.Seen.{IsHomed, IsPlanned, part_on}
 use Rattle.motion_work.proofs.Boardwise.{moved_is}
 use Rattle.motion_work.proofs.Turning.{end_after, planned_late}
-use Rattle.session_work.specs.declared.table.MotionTurn.{MotionTurn}
 use Rattle.session_work.specs.Bares.{bare_batch}
-use Rattle.session_work.specs.Rows.{gather, item}
 use Rattle.session_work.proofs.Each.{item_copies}
 use Rattle.laws_board.specs.plans.Given.{TookBatches}
 use Rattle.laws_board.specs.plans.Homed.{TookControlsIn, runs_on, stops_of}
@@ -50,7 +35,7 @@ use Rattle.laws_board.specs.plans.Planned.{AreBare, Plans, put_of, puts_of}
 use Rattle.motion_work.proofs.Sending.{cut_before, cut_front}
 use Rattle.motion_work.proofs.Following.{homed_before, homed_front}
 use Rattle.laws_board.proofs.plans.Cutting.{cut_first, homing_cut}
-use Rattle.laws_board.proofs.plans.Giving.{units_given}
+use Rattle.laws_board.proofs.plans.Giving.{units_given, first_same}
 use Rattle.laws_board.proofs.plans.Homed.{AreLong, StopsBy, in_turn, long_more, run_units, stops_ahead, stops_by}
 use Rattle.laws_board.proofs.plans.Lasting.{AreLasting, lines_last}
 use Rattle.laws_board.proofs.plans.Running.{started_in}
@@ -79,7 +64,7 @@ before_both : (end turn : ℕ) (rs : List Release) → AreBefore end rs → AreB
 before_both end turn [] b = tt
 before_both end turn (r ∷ rs) b = elim (leb_tells (suc r.turn) turn) [ inl p ↦ rw p.0 (b.0, before_both end turn rs b.1) | inr p ↦ rw p.0 (before_both end turn rs b.1) ]
 
-batch_before : (k n : ℕ) (rs : List Release) → k < n → batch_at k (before_turn n rs) ≡ batch_at k rs
+pub batch_before : (k n : ℕ) (rs : List Release) → k < n → batch_at k (before_turn n rs) ≡ batch_at k rs
 batch_before k n [] h = refl
 batch_before k n (r ∷ rs) h = elim (leb_tells (suc r.turn) n) [
   | inl p ↦ elim (eqb_tells r.turn k) [ inl q ↦ rw (p.0, q.0) (ap (λ us. r.unit ∷ us) (batch_before k n rs h)) | inr q ↦ rw (p.0, q.0) (batch_before k n rs h) ]
@@ -333,9 +318,6 @@ some_item f i (suc n) (suc b) h = some_item f (i + 1) n b (omega (arith, h))
 
 own_batch : (m : Machine) (k b : ℕ) (sections : List (List (List Release))) → b < length m.boards → (x : Batch) × (item b (batches_at (length m.boards) k sections) ≡ x ∷ [])
 own_batch m k b sections h = some_item (λ i. record { turn = k; units = units_at i k sections; end = false }) 0 (length m.boards) b h
-
-first_same : (x y : Batch) (xs ys : List Batch) → x ∷ xs ≡ y ∷ ys → (x ≡ y) × (xs ≡ ys)
-first_same x y xs ys e = (cc, cc)
 
 -- the orders of turns behind those of the planner
 bare_orders : (m : Machine) (clocks : List Clocks) (begun : List Started) (turn b k : ℕ) (bare : List MotionTurn) (os : List Orders) (rest : List Batch) → b < length m.boards → AreBare (length m.boards) k bare → turn ≤ k

@@ -1,17 +1,7 @@
 -- A homing section ends in the turn whose word tells of its answer.
 use Rattle.std.proofs.Common.{◌≡◌, ℕ, suc, ◌+◌, ◌-◌, ◌^◌, ◌<◌, ◌≤◌, List, [], ◌∷◌, ◌++◌, length, take, append_assoc, Option, Some, None, refl, ap, sym, ◌∙◌, subst, arith, inl, inr}
-use Rattle.std.proofs.lemmas.Bool.Decides.{leb_tells}
-use Rattle.std.proofs.lemmas.List.{length-map}
-use Rattle.plan_types.specs.declared.machine.Machine.{Machine}
-use Rattle.plan_types.specs.declared.plan.SectionKind.TheVariants.{Home}
-use Rattle.msg_code.specs.declared.talk.WordMsg.{WordMsg}
-use Rattle.wire_scene.specs.declared.scene.Switch.{Switch}
-use Rattle.host_reactor.specs.Runs.{Came}
+use Rattle.laws_board.proofs.Names.{leb_tells, length-map, Machine, Home, WordMsg, Switch, Came, Started, Told, MotionTurn, item}
 use Rattle.motion_work.specs.Homes.{no_end}
-use Rattle.motion_work.specs.Seen.{Started}
-use Rattle.motion_work.specs.Told.{Told}
-use Rattle.session_work.specs.declared.table.MotionTurn.{MotionTurn}
-use Rattle.session_work.specs.Rows.{item}
 use Rattle.laws_board.specs.plans.Answers.{EndByWords, EndsByWord, TookNoneAhead}
 use Rattle.laws_board.proofs.plans.Heard.{heard_all, heard_few}
 use Rattle.laws_board.specs.plans.Planned.{AreToldBy, Plans, put_of, words_in}

@@ -1,13 +1,8 @@
 -- The clock lines of a board that hold by the beginning of a turn.
 use Rattle.std.proofs.Common.{◌≡◌, inl, inr, ℕ, zero, suc, ◌*◌, ◌<◌, ◌≤◌, List, [], ◌∷◌, map, max, cond, refl, ap, sym, ◌∙◌, subst, arith}
 use Rattle.std.specs.Prelude.{nat_le}
-use Rattle.std.proofs.lemmas.Bool.Decides.{leb_tells, nat_tests}
-use Rattle.plan_types.specs.declared.plan.Held.{Held}
-use Rattle.plan_types.specs.declared.plan.Line.{Line}
-use Rattle.plan_types.specs.Clock.{tick, turn_ns}
-use Rattle.plan_types.specs.Lines.{AreHeld, Clocks, lines_tick, tick_over}
-use Rattle.plan_types.specs.Sections.{clocks_at}
-use Rattle.clock_line.specs.Kept.{AreKept}
+use Rattle.laws_board.proofs.Names.{leb_tells, nat_tests, Held, Line, tick, turn_ns, Clocks, lines_tick, clocks_at, AreKept}
+use Rattle.plan_types.specs.Lines.{AreHeld, tick_over}
 use Rattle.clock_line.proofs.Holding.{passed}
 use Rattle.motion_work.specs.Known.{held_by, lines_by}
 

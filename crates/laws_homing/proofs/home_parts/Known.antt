@@ -1,39 +1,21 @@
 -- While the reactor knows a homing section no word tells of an answer; and one that tells of it is that of a section that was begun.
 use Rattle.std.proofs.Common.{◌≡◌, ℕ, zero, suc, ◌+◌, ◌<◌, ◌≤◌, ◌⊎◌, true, false, List, [], ◌∷◌, ◌++◌, length, Option, Some, None, refl, ap, sym, ◌∙◌, subst, arith, inl, inr}
-use Rattle.std.proofs.lemmas.Bool.Decides.{leb_tells}
-use Rattle.plan_types.specs.declared.machine.Machine.{Machine}
-use Rattle.plan_types.specs.declared.plan.SectionKind.{SectionKind}
-use Rattle.plan_types.specs.declared.plan.SectionKind.TheVariants.{Home, Moves}
-use Rattle.plan_types.specs.Lines.{Clocks}
-use Rattle.plan_types.specs.Machines.{axis_at}
-use Rattle.msg_code.specs.declared.talk.Note.{Note}
-use Rattle.msg_code.specs.declared.talk.NoteNews.{NoteNews}
+use Rattle.laws_board.proofs.Names.{leb_tells, Machine, SectionKind, Home, Moves, Clocks, axis_at, Note, NoteNews, State, WordMsg, Switch, End, GroupState, turned_group, Homing, answer_in, by_answer, goes_on_homing, hears_all, homing_after, homing_turn, members_from, Started, Known, news_of, noted, known_behind, told_all, Reacted, Came, GoesOn, known_by, last_reacted, item}
 use Rattle.msg_code.specs.declared.talk.NoteNews.TheVariants as news
-use Rattle.msg_code.specs.declared.talk.State.{State}
-use Rattle.msg_code.specs.declared.talk.WordMsg.{WordMsg}
 use Rattle.msg_code.specs.declared.talk.WordNews.{WordNews}
 use Rattle.msg_code.specs.declared.talk.WordNews.TheVariants as word
-use Rattle.wire_scene.specs.declared.scene.Switch.{Switch}
-use Rattle.trigger_group.specs.declared.order.End.{End}
 use Rattle.trigger_group.specs.declared.order.End.TheVariants.{Endstop}
-use Rattle.trigger_group.specs.Group.{GroupState, turned_group}
 use Rattle.trigger_group.specs.Kept.{group_where}
-use Rattle.axis_homing.specs.declared.homing.Homing.{Homing}
-use Rattle.axis_homing.specs.Homing.{answer_in, by_answer, goes_on_homing, hears_all, homing_after, homing_of, homing_turn, homing_with, members_from}
-use Rattle.motion_work.specs.Seen.{Started}
+use Rattle.axis_homing.specs.Homing.{homing_of, homing_with}
 use Rattle.motion_work.specs.Told.{tells_homed}
-use Rattle.host_reactor.specs.declared.ordered.Known.{Known}
-use Rattle.host_reactor.specs.Notes.{news_of, noted, known_behind, told_all}
-use Rattle.host_reactor.specs.Reactor.{Reacted}
-use Rattle.host_reactor.specs.Runs.{Came, GoesOn, known_by, last_reacted}
 use Rattle.laws_board.proofs.clocks.Turning.{goes}
-use Rattle.session_work.specs.Rows.{item}
 use Rattle.laws_homing.specs.home_runs.Words.{TellsHomed}
 use Rattle.laws_homing.proofs.home_runs.Knowing.{cut_of, switch_answer}
 use Rattle.laws_homing.specs.home_plans.Notes.{CameNotes, IsNoteOf, WasBegun}
 use Rattle.laws_homing.proofs.home_plans.Knowing.{now_was}
 use Rattle.laws_homing.proofs.home_plans.Starting.{StartAt, note_starts}
 use Rattle.laws_homing.specs.home_parts.Answers.{AreOfTurns, TellNone, TellsIn}
+use Rattle.plan_types.proofs.Facts.{none_some}
 
 -- words that tell of an answer
 pub tells_so : (ns : List WordNews) → tells_homed ns ≡ true → TellsHomed ns
@@ -85,9 +67,6 @@ after_start clocks k states (Some g) h e =
     let a = after_by k heard h (answer_in k heard.start heard.group) e in
     (g, refl, a.0, a.1)
 
-none_some : {X : Type 0} (x : X) → None ≡ Some x → ⊥
-none_some x e = cc
-
 -- before the note that begins it
 none_early : (m : Machine) (switches : List Switch) (from to : ℕ) (came : List Came) → length came ≤ from → TellNone m switches from to came
 none_early m switches from to [] low = tt
@@ -135,7 +114,7 @@ known_silent m switches begun c (d ∷ before) h from to g notes e late = elim (
 ]
 
 -- a word that tells of an answer
-answer_late : (k start : ℕ) (g : GroupState) (end : End) → answer_in k start g ≡ Some end → start ≤ k
+pub answer_late : (k start : ℕ) (g : GroupState) (end : End) → answer_in k start g ≡ Some end → start ≤ k
 answer_late k start g end e = elim (leb_tells start k) [ inl p ↦ p.1 | inr p ↦ absurd (none_some end (rw p.0 at e)) ]
 
 pub tells_known : (m : Machine) (switches : List Switch) (c : Came) (before : List Came) → (last_reacted m switches c before).ordered.end ≡ None → TellsHomed (last_reacted m switches c before).ordered.word.news

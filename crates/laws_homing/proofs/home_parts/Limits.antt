@@ -1,8 +1,6 @@
 -- The units of a turn keep their limit in a run in which axes home.
 use Rattle.std.proofs.Common.{ℕ, ◌+◌, ◌≤◌, List, [], ◌∷◌, ◌++◌, length, Option, subst, arith}
-use Rattle.plan_types.specs.Lines.{Clocks}
-use Rattle.link_work.specs.Stands.{orders}
-use Rattle.link_work.specs.Turn.{Orders}
+use Rattle.laws_board.proofs.Names.{Clocks, orders, Orders}
 use Rattle.link_work.proofs.Limits.{units_bytes}
 use Rattle.laws_board.specs.turns.Turns.{BoardTurn}
 use Rattle.laws_board.specs.clocks.Runs.{UnitsFit, orders_in}

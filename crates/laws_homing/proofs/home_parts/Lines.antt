@@ -1,23 +1,13 @@
 -- The pulses that a report tells of a section fit the stepper's plan of it, in a run in which axes home.
 use Rattle.std.proofs.Common.{◌≡◌, ℕ, ◌≤◌, false, List, [], ◌∷◌, ◌++◌, length, map, ap, sym, ◌∙◌, subst}
-use Rattle.std.proofs.lemmas.List.{map-append}
-use Rattle.plan_types.specs.declared.machine.Machine.{Machine}
-use Rattle.plan_types.specs.declared.plan.Planned.{Planned}
-use Rattle.plan_types.specs.declared.plan.Pulse.{Pulse}
-use Rattle.plan_types.specs.Lines.{Clocks}
-use Rattle.plan_types.specs.Machines.{IsValidMachine, board_at, stepper_at}
-use Rattle.plan_types.specs.Plan.{Fits}
-use Rattle.plan_types.specs.Sections.{base_tick, stepper_plan}
-use Rattle.section_units.specs.Sections.{base_of, of_stepper, steps_said}
-use Rattle.step_feed.specs.Pacing.{units_of}
-use Rattle.wire_scene.specs.declared.scene.Entry.{Entry}
-use Rattle.board_sim.specs.Fair.{only}
+use Rattle.laws_board.proofs.Names.{map-append, Machine, Planned, Pulse, Clocks, IsValidMachine, board_at, stepper_at, Fits, stepper_plan, base_of, of_stepper, units_of, Entry, only, Started, ReactorTurn}
+use Rattle.plan_types.specs.Sections.{base_tick}
+use Rattle.section_units.specs.Sections.{steps_said}
 use Rattle.laws_board.specs.sections.Boards.{AreEnded, IsWindow, NextStart, OnBoard, told_in}
 use Rattle.laws_board.specs.sections.Homes.{AreOverBy, IsHomeBoard, NextBehind, RunSection}
 use Rattle.laws_board.proofs.sections.HomeBoards.{told_between, told_section}
 use Rattle.motion_work.specs.Homes.{before_turn}
-use Rattle.motion_work.specs.Seen.{Started, part_on}
-use Rattle.session_work.specs.declared.table.ReactorTurn.{ReactorTurn}
+use Rattle.motion_work.specs.Seen.{part_on}
 use Rattle.laws_board.specs.plans.Boards.{as_told, lines_between, times_of}
 use Rattle.laws_board.specs.plans.Lines.{TellTurns, pulses_of}
 use Rattle.laws_board.proofs.plans.Fitting.{between, fits_told, plan_is}

@@ -1,29 +1,17 @@
 -- The steppers that have units in a homing section move in it.
 use Rattle.std.proofs.Common.{◌≡◌, ◌≢◌, ℕ, zero, suc, ◌+◌, ◌*◌, ◌<◌, ◌≤◌, Bool, true, false, List, [], ◌∷◌, ◌++◌, length, take, append_assoc, Some, refl, ap, sym, ◌∙◌, subst, arith, inl, inr}
 use Rattle.std.specs.Prelude.{slice_index_or}
-use Rattle.std.proofs.lemmas.Bool.Decides.{leb_tells}
-use Rattle.plan_types.specs.declared.machine.Machine.{Machine}
-use Rattle.plan_types.specs.declared.plan.Move.{Move}
-use Rattle.plan_types.specs.declared.plan.Planned.{Planned}
-use Rattle.plan_types.specs.declared.plan.Pulse.{Pulse}
-use Rattle.plan_types.specs.Clock.{turn_ns}
-use Rattle.plan_types.specs.Lines.{Clocks, lines_tick}
-use Rattle.plan_types.specs.Machines.{IsValidMachine, axis_at, board_at, stepper_at}
-use Rattle.plan_types.specs.Plan.{Fits}
-use Rattle.plan_types.specs.Sections.{clocks_at, section_plans, stepper_plan}
+use Rattle.laws_board.proofs.Names.{leb_tells, Machine, Move, Planned, Pulse, turn_ns, Clocks, lines_tick, IsValidMachine, axis_at, board_at, stepper_at, Fits, clocks_at, stepper_plan, of_stepper, units_of, StepUnit, AreStarted, Started, Told, MotionTurn}
+use Rattle.plan_types.specs.Sections.{section_plans}
 use Rattle.section_units.specs.Merged.{plan_at}
 use Rattle.section_units.specs.Plans.{plans_on}
-use Rattle.section_units.specs.Sections.{AreBegunBy, of_stepper, steps_said}
+use Rattle.section_units.specs.Sections.{AreBegunBy, steps_said}
 use Rattle.section_units.specs.Units.{as_sent}
-use Rattle.step_feed.specs.Pacing.{units_of}
-use Rattle.step_feed.specs.Units.{StepUnit}
 use Rattle.trigger_group.specs.Group.{bits}
 use Rattle.axis_homing.specs.Homing.{moving_on}
 use Rattle.laws_board.specs.clocks.Samples.{IsAmong}
 use Rattle.motion_work.specs.Homes.{before_turn, moving_among, moving_in, one_moving}
-use Rattle.motion_work.specs.Seen.{AreStarted, IsHomed, Started}
-use Rattle.motion_work.specs.Told.{Told}
-use Rattle.session_work.specs.declared.table.MotionTurn.{MotionTurn}
+use Rattle.motion_work.specs.Seen.{IsHomed}
 use Rattle.laws_board.specs.plans.Planned.{Plans}
 use Rattle.motion_work.proofs.Following.{homed_front}
 use Rattle.laws_board.proofs.plans.Cutting.{cut_first, homed_of}
@@ -36,6 +24,7 @@ use Rattle.laws_homing.specs.home_parts.Movers.{HaveMovers, IsMover}
 use Rattle.laws_homing.proofs.home_parts.Bits.{HasBit, among_bit, moves_from, moving_bit, on_bit}
 use Rattle.laws_homing.proofs.home_parts.Ones.{one_move}
 use Rattle.laws_homing.proofs.home_parts.Still.{no_plan}
+use Rattle.section_units.proofs.Completing.{none-said}
 
 -- the first units of none are none
 pub none_left : (us vs : List StepUnit) → us ++ vs ≡ [] → us ≡ []
@@ -50,10 +39,6 @@ no_units homing oid clocks base (u ∷ us) a e = absurd (let some = have_steps h
     none : (u : StepUnit) (us : List StepUnit) → u ∷ us ≡ [] → ⊥
     none u us f = cc
 
-none_fit : (freq base : ℕ) (ps : List Pulse) → Fits freq base ps [] → length ps ≡ 0
-none_fit freq base [] fits = refl
-none_fit freq base (p ∷ ps) fits = absurd fits
-
 has_plan : (m : Machine) (clocks : List Clocks) (b until oid : ℕ) (s : Started) (h : IsHomed m clocks s) → b < length m.boards → AreLasting clocks b → of_stepper oid (units_of (before_turn until (slice_index_or s.boards b []))) ≢ []
     → plan_at (plans_on m clocks s.section.moves s.start b) oid ≢ []
 has_plan m clocks b until oid s h small lines some none =
@@ -63,7 +48,7 @@ has_plan m clocks b until oid s h small lines some none =
     let us = of_stepper oid (units_of (before_turn until own)) in
     let f = cut_first m clocks s.section.moves b until s.start own (homed_front m clocks s b lines.kept lines.soon lines.inside small h) in
     let base = lines_tick line (s.start * turn_ns) in
-    some (no_units true oid line base us (f.begun oid) (none_fit freq base (steps_said oid false us) (subst (Fits freq base (steps_said oid false us)) none (f.fits oid))))
+    some (no_units true oid line base us (f.begun oid) (none-said freq base (steps_said oid false us) (subst (Fits freq base (steps_said oid false us)) none (f.fits oid))))
 
 moving_is : (corexy : Bool) (one : Move) (drive : ℕ) → (one_moving corexy one drive ≡ 0 → ⊥) → one_moving corexy one drive ≡ 1
 moving_is corexy one drive n = by (one_moving corexy one drive) (moving_bit corexy one drive) n

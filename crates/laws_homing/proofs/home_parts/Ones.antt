@@ -1,9 +1,6 @@
 -- A section that homes has one move.
 use Rattle.std.proofs.Common.{◌≡◌, ℕ, ℤ, ◌+◌, Bool, true, false, List, [], ◌∷◌, ◌++◌, map, refl, subst}
-use Rattle.plan_types.specs.declared.machine.Machine.{Machine}
-use Rattle.plan_types.specs.declared.plan.Move.{Move}
-use Rattle.plan_types.specs.declared.plan.Section.{Section}
-use Rattle.plan_types.specs.declared.plan.SectionKind.TheVariants.{Home, Moves}
+use Rattle.laws_board.proofs.Names.{Machine, Move, Section, Home, Moves, Started}
 use Rattle.gcode_state.specs.declared.state.Action.{Action}
 use Rattle.gcode_state.specs.declared.state.Action.TheVariants as actions
 use Rattle.gcode_state.specs.declared.state.State.{State}
@@ -12,7 +9,6 @@ use Rattle.gcode_program.specs.Cuts.{closed, home_of, homes, is_named, dwell_lef
 use Rattle.gcode_program.specs.Homes.{homing_move, stood}
 use Rattle.gcode_program.specs.Programs.{outcome_of, program_sections}
 use Rattle.gcode_program.specs.Readings.{Deed}
-use Rattle.motion_work.specs.Seen.{Started}
 
 moves_home : (axis : ℕ) → Moves ≡ Home axis → ⊥
 moves_home axis e = cc

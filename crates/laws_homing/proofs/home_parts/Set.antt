@@ -1,21 +1,11 @@
 -- The clocks of the steppers that move in a homing section are set in time.
 use Rattle.std.proofs.Common.{◌≡◌, ℕ, ◌+◌, ◌-◌, ◌≤◌, List, [], ◌∷◌, ◌++◌, length, append_assoc, Some, refl, sym, ◌∙◌, subst, arith}
-use Rattle.plan_types.specs.declared.levels.Level.{Level}
-use Rattle.plan_types.specs.declared.machine.Machine.{Machine}
-use Rattle.plan_types.specs.declared.plan.SectionKind.TheVariants.{Home}
-use Rattle.plan_types.specs.Machines.{axis_at, stepper_at}
-use Rattle.wire_scene.specs.declared.scene.Entry.{Entry}
-use Rattle.wire_scene.specs.declared.scene.Switch.{Switch}
-use Rattle.axis_homing.specs.Homing.{members_from}
-use Rattle.host_reactor.specs.Runs.{Came}
+use Rattle.laws_board.proofs.Names.{Level, Machine, Home, axis_at, stepper_at, Entry, Switch, members_from, Came, Started, Told, MotionTurn}
 use Rattle.laws_board.specs.turns.Turns.{BoardTurn}
 use Rattle.laws_board.specs.clocks.Runs.{IsInRun, orders_in}
 use Rattle.laws_board.proofs.clocks.Lines.{as_long, run_before}
 use Rattle.laws_board.proofs.clocks.Orders.{order_length}
 use Rattle.laws_board.specs.sections.Homes.{AreSet, SetsIn}
-use Rattle.motion_work.specs.Seen.{Started}
-use Rattle.motion_work.specs.Told.{Told}
-use Rattle.session_work.specs.declared.table.MotionTurn.{MotionTurn}
 use Rattle.laws_board.specs.plans.Planned.{Plans}
 use Rattle.laws_homing.proofs.home_runs.Clocking.{clocks_set}
 use Rattle.laws_homing.proofs.home_runs.Joining.{homes_later}
@@ -24,8 +14,9 @@ use Rattle.laws_board.specs.plans.Rows.{AreInARow}
 use Rattle.laws_homing.specs.home_parts.Answers.{ArePastConnecting, IsPlannedBy, MayHome}
 use Rattle.laws_homing.specs.home_parts.Cuts.{cut_on, cuts_on}
 use Rattle.laws_homing.specs.home_parts.Movers.{HaveMovers, IsMover}
-use Rattle.laws_homing.proofs.home_parts.Told.{begun_by, home_kind, in_row, split_at}
+use Rattle.laws_homing.proofs.home_parts.Told.{begun_by, in_row, split_at}
 use Rattle.laws_board.proofs.plans.Rows.{row_from}
+use Rattle.laws_board.proofs.plans.Answering.{home_axis}
 
 module _ (m : Machine) (switches : List Switch) (pins : List (List Level)) (entries : List Entry) (b : ℕ) (ts : List MotionTurn) (p : Plans m (length m.boards) ts) (t : Told) (ready : ℕ) (came : List Came) (by : IsPlannedBy m switches (length m.boards) ts p came)
     (told : p.seen.told ≡ Some t) (early : ready + 260 ≤ t.first) (past : ArePastConnecting m switches ready came) (may : MayHome m p.seen.begun) (turns : List BoardTurn) (run : IsInRun m switches pins entries b came turns) where
@@ -58,7 +49,7 @@ module _ (m : Machine) (switches : List Switch) (pins : List (List Level)) (entr
   sets : (until oid : ℕ) (xs rest : List Started) → p.seen.begun ≡ xs ++ rest → HaveMovers m t.clocks until b rest → AreSet oid (cuts_on m t.clocks until rest b) 0 (orders_in turns)
   sets until oid xs [] cut have = tt
   sets until oid xs (s ∷ rest) cut have = (
-    λ homes some soon. let kind = home_kind s.section.kind homes in one_set until xs s rest kind.0 oid cut kind.1 (have.0 kind.0 oid kind.1 some) soon,
+    λ homes some soon. let kind = home_axis s.section.kind homes in one_set until xs s rest kind.0 oid cut kind.1 (have.0 kind.0 oid kind.1 some) soon,
     sets until oid (xs ++ s ∷ []) rest (cut ∙ sym (append_assoc xs (s ∷ []) rest)) have.1,
   )
 

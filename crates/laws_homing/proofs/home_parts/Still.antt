@@ -3,23 +3,19 @@ use Rattle.std.proofs.Common.{◌≡◌, ℕ, ◌+◌, ◌*◌, Bool, true, fals
 use Rattle.std.specs.Prelude.{◌==◌, ◌||◌}
 use Rattle.std.proofs.lemmas.Int.{ints}
 use Rattle.std.specs.List.{range_with_len}
-use Rattle.plan_types.specs.declared.machine.Machine.{Machine}
+use Rattle.laws_board.proofs.Names.{Machine, Line, Move, Planned, turn_ns, Clocks, stepper_at, clocks_at, stepper_plan}
 use Rattle.plan_types.specs.declared.plan.Gear.{Gear}
-use Rattle.plan_types.specs.declared.plan.Line.{Line}
-use Rattle.plan_types.specs.declared.plan.Move.{Move}
 use Rattle.plan_types.specs.declared.plan.Part.{Part}
-use Rattle.plan_types.specs.declared.plan.Planned.{Planned}
 use Rattle.plan_types.specs.declared.plan.Segment.{Segment}
-use Rattle.plan_types.specs.Clock.{turn_ns}
-use Rattle.plan_types.specs.Lines.{Clocks}
-use Rattle.plan_types.specs.Machines.{stepper_at}
 use Rattle.plan_types.specs.Moves.{coordinate}
 use Rattle.plan_types.specs.Parts.{parts}
 use Rattle.plan_types.specs.Plan.{cancel_reach, filtered, on_board, spaced}
-use Rattle.plan_types.specs.Sections.{TimedPart, base_tick, clocks_at, section_parts, segment_of, stepper_plan, timed, timed_moves}
+use Rattle.plan_types.specs.Sections.{TimedPart, base_tick, section_parts, segment_of, timed, timed_moves}
 use Rattle.plan_types.specs.Speeds.{greatest_speeds}
 use Rattle.plan_types.specs.Steps.{counts_passed, half_step_count, place, raw_step, raw_steps, segment_steps}
 use Rattle.motion_work.specs.Homes.{one_moving}
+use Rattle.std.proofs.lemmas.Bool.{or_parts}
+use Rattle.gcode_program.proofs.Homing.{still as self_none}
 
 -- numbers that are not less than one another
 int_same : (a b : ℤ) → int_lt a b ≡ false → int_lt b a ≡ false → a ≡ b
@@ -29,15 +25,11 @@ from_bool : (b : Bool) → (◌≡◌ {A = ℕ} (cond b 1 0) 0) → b ≡ false
 from_bool true e = absurd (let f : (◌≡◌ {A = ℕ} 1 0) = e in omega (arith, f))
 from_bool false e = refl
 
-either_false : (a b : Bool) → (a || b) ≡ false → (a ≡ false) × (b ≡ false)
-either_false true b e = absurd (let f : true ≡ false = e in cc)
-either_false false b e = (refl, e)
-
 pub unmoved : (corexy : Bool) (one : Move) (drive : ℕ) → one_moving corexy one drive ≡ 0 → coordinate corexy drive one.to ≡ coordinate corexy drive one.from
 unmoved corexy one drive e =
     let from = coordinate corexy drive one.from in
     let to = coordinate corexy drive one.to in
-    let both = either_false (int_lt from to) (int_lt to from) (from_bool (int_lt from to || int_lt to from) e) in
+    let both = or_parts (int_lt from to) (int_lt to from) (from_bool (int_lt from to || int_lt to from) e) in
     int_same to from both.1 both.0
 
 -- the parts of a move are of it
@@ -58,10 +50,6 @@ parts_of : (cruise : ℕ) (one : Move) (speeds : List ℕ) (begin : ℕ) → Are
 parts_of cruise one [] begin = tt
 parts_of cruise one (g ∷ []) begin = tt
 parts_of cruise one (g ∷ h ∷ speeds) begin = subst (AreOf one) (sym (append-nil (timed one 0 begin (parts one g h cruise)))) (timed_of one 0 begin (parts one g h cruise))
-
--- a segment on which a coordinate stays has no steps
-self_none : (a : ℤ) → unsigned_abs (a -ℤ a) ≡ 0
-self_none a = grind (arith, ints)
 
 place_stays : (s : Segment) (x y : ℕ) → s.dp ≡ pos 0 → place s x ≡ place s y
 place_stays s x y e =

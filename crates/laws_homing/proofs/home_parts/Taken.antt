@@ -1,10 +1,7 @@
 -- The words that a planner took, by their places.
 use Rattle.std.proofs.Common.{◌≡◌, ℕ, zero, suc, ◌+◌, ◌-◌, ◌<◌, ◌≤◌, true, List, [], ◌∷◌, ◌++◌, length, take, length-append, refl, ap, ◌∙◌, arith, inl, inr}
-use Rattle.std.proofs.lemmas.Bool.Decides.{leb_tells}
-use Rattle.msg_code.specs.declared.talk.WordMsg.{WordMsg}
+use Rattle.laws_board.proofs.Names.{leb_tells, WordMsg, MotionTurn, item}
 use Rattle.motion_work.specs.Told.{tells_homed}
-use Rattle.session_work.specs.declared.table.MotionTurn.{MotionTurn}
-use Rattle.session_work.specs.Rows.{item}
 use Rattle.laws_board.specs.plans.Answers.{AnyHomed, TakesAnswer, TookNoneAhead, WaitsIn}
 use Rattle.laws_board.specs.plans.Planned.{words_in}
 

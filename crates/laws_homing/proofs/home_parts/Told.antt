@@ -1,27 +1,12 @@
 -- Homing sections of a board that ended were told of.
 use Rattle.std.proofs.Common.{◌≡◌, ◌⊎◌, ℕ, suc, ◌+◌, ◌-◌, ◌<◌, ◌≤◌, Bool, true, false, List, [], ◌∷◌, ◌++◌, length, map, append_assoc, Some, None, refl, ap, sym, ◌∙◌, subst, arith, inl, inr, length-append}
 use Rattle.std.specs.Prelude.{◌&&◌, if◌then◌else◌}
-use Rattle.std.proofs.lemmas.Bool.Decides.{leb_tells}
-use Rattle.std.proofs.lemmas.List.{length-map, map-append}
+use Rattle.laws_board.proofs.Names.{leb_tells, length-map, map-append, Level, Machine, SectionKind, Home, Moves, axis_at, board_at, Entry, Switch, first_state, unseen, members_from, Came, last_reacted, Started, Told, MotionTurn}
 use Rattle.plan_types.specs.Sections.{is_home}
-use Rattle.plan_types.specs.declared.levels.Level.{Level}
-use Rattle.plan_types.specs.declared.machine.Machine.{Machine}
-use Rattle.plan_types.specs.declared.plan.SectionKind.{SectionKind}
-use Rattle.plan_types.specs.declared.plan.SectionKind.TheVariants.{Home, Moves}
-use Rattle.plan_types.specs.Machines.{axis_at, board_at}
-use Rattle.wire_scene.specs.declared.scene.Entry.{Entry}
-use Rattle.wire_scene.specs.declared.scene.Switch.{Switch}
-use Rattle.link_work.specs.Stands.{first_state}
-use Rattle.trigger_group.specs.Group.{unseen}
 use Rattle.trigger_group.specs.Kept.{may_be}
-use Rattle.axis_homing.specs.Homing.{members_from}
-use Rattle.host_reactor.specs.Runs.{Came, last_reacted}
 use Rattle.laws_board.specs.turns.Turns.{BoardTurn}
 use Rattle.laws_board.specs.clocks.Runs.{IsInRun}
 use Rattle.laws_board.proofs.clocks.Lines.{as_long, run_before}
-use Rattle.motion_work.specs.Seen.{Started}
-use Rattle.motion_work.specs.Told.{Told}
-use Rattle.session_work.specs.declared.table.MotionTurn.{MotionTurn}
 use Rattle.laws_board.specs.sections.Homes.{RunSection}
 use Rattle.laws_board.specs.plans.Homed.{is_set_in, stops_of}
 use Rattle.laws_board.specs.plans.Planned.{Plans, put_of}
@@ -40,6 +25,8 @@ use Rattle.laws_homing.specs.home_parts.Cuts.{cut_on, cuts_on}
 use Rattle.laws_board.proofs.plans.Heard.{heard_few}
 use Rattle.laws_homing.proofs.home_parts.Ends.{ends_low, ends_made, ends_told, waits_silent}
 use Rattle.laws_homing.proofs.home_parts.Known.{tells_low}
+use Rattle.plan_types.proofs.Facts.{none_some, some_same}
+use Rattle.laws_board.proofs.plans.Answering.{home_axis}
 
 -- a turn that stops parts is one in which a homing section sets its clocks
 record Stops (begun : List Started) (turn end : ℕ) : Type 0 where
@@ -53,16 +40,6 @@ record Stops (begun : List Started) (turn end : ℕ) : Type 0 where
   soon : s.start ≤ turn + 254
   late : turn + 252 ≤ s.start
 
-pub home_kind : (kind : SectionKind) → is_home kind ≡ true → (axis : ℕ) × (kind ≡ Home axis)
-home_kind Moves e = absurd (let f : false ≡ true = e in cc)
-home_kind (Home axis) e = (axis, refl)
-
-some_same : (x y : ℕ) → Some x ≡ Some y → x ≡ y
-some_same x y e = cc
-
-none_some : (x : ℕ) → None ≡ Some x → ⊥
-none_some x e = cc
-
 stops_more : (s : Started) (begun : List Started) (turn end : ℕ) → Stops begun turn end → Stops (s ∷ begun) turn end
 stops_more s begun turn end f = record { past = s ∷ f.past; s = f.s; later = f.later; axis = f.axis; are = ap (λ x. s ∷ x) f.are; home = f.home; end_is = f.end_is; soon = f.soon; late = f.late }
 
@@ -75,7 +52,7 @@ stops_found (s ∷ begun) turn end e = by (is_home s.section.kind) refl e (λ f.
     by true h f rest = elim (leb_tells s.start (turn + 254)) [
       | inl p ↦ elim (leb_tells (turn + 252) s.start) [
         | inl q ↦
-            let kind = home_kind s.section.kind h in
+            let kind = home_axis s.section.kind h in
             record {
               past = [];
               s = s;

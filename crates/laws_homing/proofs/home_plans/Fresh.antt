@@ -1,27 +1,17 @@
 -- What the notes of a planner begin, and make known.
 use Rattle.std.proofs.Common.{◌≡◌, ◌⊎◌, ℕ, zero, suc, ◌+◌, Bool, true, false, cond, List, [], ◌∷◌, ◌++◌, map, Option, Some, None, refl, ap, sym, ◌∙◌, subst, arith, inl, inr, append_assoc}
-use Rattle.std.proofs.lemmas.Bool.Decides.{eqb_tells}
-use Rattle.plan_types.specs.declared.machine.Machine.{Machine}
-use Rattle.plan_types.specs.declared.plan.SectionKind.{SectionKind}
-use Rattle.plan_types.specs.declared.plan.SectionKind.TheVariants.{Home, Moves}
-use Rattle.plan_types.specs.Machines.{axis_at}
-use Rattle.msg_code.specs.declared.talk.Note.{Note}
-use Rattle.msg_code.specs.declared.talk.NoteNews.{NoteNews}
+use Rattle.laws_board.proofs.Names.{eqb_tells, Machine, SectionKind, Home, Moves, axis_at, Note, NoteNews, Member, unseen, Homing, members_from, Started, Known, news_of, noted, known_behind, told_all}
 use Rattle.msg_code.specs.declared.talk.NoteNews.TheVariants as news
-use Rattle.trigger_group.specs.declared.order.Member.{Member}
-use Rattle.trigger_group.specs.Group.{new_group, unseen}
+use Rattle.trigger_group.specs.Group.{new_group}
 use Rattle.trigger_group.specs.Kept.{may_be}
-use Rattle.axis_homing.specs.declared.homing.Homing.{Homing}
-use Rattle.axis_homing.specs.Homing.{homing_of, homing_with, members_from}
+use Rattle.axis_homing.specs.Homing.{homing_of, homing_with}
 use Rattle.motion_work.specs.Puts.{begun_notes}
-use Rattle.motion_work.specs.Seen.{Started}
 use Rattle.motion_work.specs.Turns.{done_notes}
-use Rattle.host_reactor.specs.declared.ordered.Known.{Known}
-use Rattle.host_reactor.specs.Notes.{news_of, noted, known_behind, told_all}
 use Rattle.laws_homing.specs.home_runs.Words.{BeginsNone}
 use Rattle.laws_homing.proofs.home_runs.Knowing.{all_none}
 use Rattle.laws_homing.specs.home_plans.Notes.{IsNoteOf}
-use Rattle.laws_homing.proofs.home_plans.Noting.{done_none, none_both, told_both}
+use Rattle.laws_homing.proofs.home_plans.Noting.{done_none, none_both}
+use Rattle.laws_board.proofs.plans.Beginning.{all_append}
 
 -- what is known is of a section that was begun and starts in a turn, with its last turn
 abbrev pub IsFresh : List Started → ℕ → Option Homing → Type 0
@@ -99,7 +89,7 @@ note_begins m begun (suc k) given r is =
           let rest : BeginsNone (starts ++ is.1) = subst (λ (l : List NoteNews). BeginsNone (l ++ is.1)) (sym none) is.4 in
           inl (subst (λ (o : Option Note). BeginsNone (news_of o)) (sym is.2) (subst BeginsNone (sym is.3) (none_both done (starts ++ is.1) (done_none k 0 begun) rest)))
       | inr f ↦
-          let same : told_all m is.0.news r ≡ told_all m is.1 (told_all m starts first) = ap (λ (l : List NoteNews). told_all m l r) is.3 ∙ told_both m done (starts ++ is.1) r ∙ told_both m starts is.1 first in
+          let same : told_all m is.0.news r ≡ told_all m is.1 (told_all m starts first) = ap (λ (l : List NoteNews). told_all m l r) is.3 ∙ all_append m done (starts ++ is.1) r ∙ all_append m starts is.1 first in
           let homing : (told_all m is.0.news r).homing ≡ (told_all m starts first).homing = ap (λ (x : Known). x.homing) same ∙ all_none m is.1 (told_all m starts first) is.4 in
           let at : k + 260 ≡ suc k + 259 = omega arith in
           let fresh : IsFresh begun (suc k + 259) (told_all m is.0.news r).homing =

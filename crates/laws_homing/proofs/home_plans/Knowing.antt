@@ -1,35 +1,21 @@
 -- The homing section that the reactor knows was begun by a note of the planner.
 use Rattle.std.proofs.Common.{◌≡◌, ℕ, zero, suc, ◌+◌, ◌==◌, Bool, true, false, cond, List, [], ◌∷◌, ◌++◌, length, map, Option, Some, None, refl, ap, sym, ◌∙◌, subst, inl, inr, append_assoc, length-append, arith}
-use Rattle.plan_types.specs.declared.machine.Machine.{Machine}
-use Rattle.plan_types.specs.declared.plan.SectionKind.{SectionKind}
-use Rattle.plan_types.specs.declared.plan.SectionKind.TheVariants.{Home, Moves}
-use Rattle.plan_types.specs.Lines.{Clocks}
-use Rattle.plan_types.specs.Machines.{axis_at}
-use Rattle.msg_code.specs.declared.talk.Note.{Note}
-use Rattle.msg_code.specs.declared.talk.NoteNews.{NoteNews}
+use Rattle.laws_board.proofs.Names.{Machine, SectionKind, Home, Moves, Clocks, axis_at, Note, NoteNews, State, Switch, End, Member, phase, unseen, Homing, answer_in, goes_on_homing, hears_all, homing_after, members_from, Started, Known, noted, known_behind, told_all, Reacted, Came, GoesOn, known_by}
 use Rattle.msg_code.specs.declared.talk.NoteNews.TheVariants as news
-use Rattle.msg_code.specs.declared.talk.State.{State}
-use Rattle.wire_scene.specs.declared.scene.Switch.{Switch}
-use Rattle.trigger_group.specs.declared.order.End.{End}
-use Rattle.trigger_group.specs.declared.order.Member.{Member}
-use Rattle.trigger_group.specs.Group.{new_group, phase, unseen}
+use Rattle.trigger_group.specs.Group.{new_group}
 use Rattle.trigger_group.specs.Kept.{may_be}
-use Rattle.axis_homing.specs.declared.homing.Homing.{Homing}
-use Rattle.axis_homing.specs.Homing.{answer_in, goes_on_homing, hears_all, homing_after, homing_of, homing_with, members_from}
+use Rattle.axis_homing.specs.Homing.{homing_of, homing_with}
 use Rattle.motion_work.specs.Puts.{begun_notes}
-use Rattle.motion_work.specs.Seen.{Started}
 use Rattle.motion_work.specs.Turns.{done_notes}
-use Rattle.host_reactor.specs.declared.ordered.Known.{Known}
-use Rattle.host_reactor.specs.Notes.{noted, known_behind, told_all}
-use Rattle.host_reactor.specs.Reactor.{Reacted}
-use Rattle.host_reactor.specs.Runs.{Came, GoesOn, known_by}
 use Rattle.laws_board.proofs.clocks.Controls.{states_start}
 use Rattle.laws_board.proofs.clocks.Turning as turning
-use Rattle.laws_homing.proofs.home_runs.Knowing.{all_none, group_start}
+use Rattle.laws_homing.proofs.home_runs.Knowing.{all_none}
 use Rattle.laws_homing.specs.home_plans.Notes.{CameNotes, IsNoteOf, WasBegun}
-use Rattle.laws_homing.proofs.home_plans.Noting.{done_none, told_both}
+use Rattle.laws_homing.proofs.home_plans.Noting.{done_none}
 use Rattle.laws_homing.proofs.clear_boards.Keeping.{hears_keep}
 use Rattle.trigger_group.proofs.Knows.{after_last}
+use Rattle.axis_homing.proofs.Starts.{in_start}
+use Rattle.laws_board.proofs.plans.Beginning.{all_append}
 
 -- one of some sections
 abbrev Is : List Started → ℕ → SectionKind → ℕ → ℕ → Type 0
@@ -80,11 +66,11 @@ noted_was m begun (suc k) given r is w =
     let two = told_was m begun starts first (notes_of begun k 0 [] begun refl refl) one in
     let three : WasBegun begun (told_all m is.1 (told_all m starts first)).homing = subst (λ (o : Option Homing). WasBegun begun o) (sym (all_none m is.1 (told_all m starts first) is.4)) two in
     let same : told_all m is.0.news r ≡ told_all m is.1 (told_all m starts first) =
-    ap (λ (l : List NoteNews). told_all m l r) is.3 ∙ told_both m done (starts ++ is.1) r ∙ told_both m starts is.1 first in
+    ap (λ (l : List NoteNews). told_all m l r) is.3 ∙ all_append m done (starts ++ is.1) r ∙ all_append m starts is.1 first in
     subst (λ (o : Option Note). WasBegun begun (noted m o r).homing) (sym is.2) (subst (λ (x : Known). WasBegun begun x.homing) (sym same) three)
 
 goes_was : (begun : List Started) (k : ℕ) (h : Homing) (o : Option End) → WasBegun begun (Some h) → WasBegun begun (goes_on_homing k h o)
-goes_was begun k h None w = (w.0, w.1, w.2, w.3, w.4, w.5, w.6, group_start (phase h.group.start h.group.last k) h.group k ∙ w.7, w.8, w.9, after_last h.group k ∙ w.10)
+goes_was begun k h None w = (w.0, w.1, w.2, w.3, w.4, w.5, w.6, in_start (phase h.group.start h.group.last k) h.group k ∙ w.7, w.8, w.9, after_last h.group k ∙ w.10)
 goes_was begun k h (Some end) w = tt
 
 after_was : (begun : List Started) (clocks : List Clocks) (k : ℕ) (states : List State) (o : Option Homing) → WasBegun begun o → WasBegun begun (homing_after clocks k states o)

@@ -1,32 +1,20 @@
 -- The notes of a planner begin its homing sections.
 use Rattle.std.proofs.Common.{◌≡◌, ℕ, zero, suc, ◌+◌, ◌-◌, ◌<◌, ◌≤◌, ◌==◌, Bool, true, false, cond, List, [], ◌∷◌, ◌++◌, length, map, Option, Some, None, refl, ap, sym, ◌∙◌, subst, arith, inl, inr}
-use Rattle.std.proofs.lemmas.Bool.{eq-eqb}
-use Rattle.std.proofs.lemmas.Bool.Decides.{eqb_tells}
-use Rattle.plan_types.specs.declared.machine.Machine.{Machine}
-use Rattle.plan_types.specs.declared.plan.SectionKind.{SectionKind}
-use Rattle.plan_types.specs.declared.plan.SectionKind.TheVariants.{Home}
-use Rattle.plan_types.specs.Machines.{axis_at}
-use Rattle.msg_code.specs.declared.talk.Note.{Note}
-use Rattle.msg_code.specs.declared.talk.NoteNews.{NoteNews}
+use Rattle.laws_board.proofs.Names.{eq-eqb, eqb_tells, Machine, SectionKind, Home, axis_at, Note, NoteNews, Switch, Member, unseen, Homing, members_from, Started, Known, news_of, noted, known_behind, told_all, Came, known_by}
 use Rattle.msg_code.specs.declared.talk.NoteNews.TheVariants as news
-use Rattle.wire_scene.specs.declared.scene.Switch.{Switch}
-use Rattle.trigger_group.specs.declared.order.Member.{Member}
-use Rattle.trigger_group.specs.Group.{new_group, unseen}
+use Rattle.trigger_group.specs.Group.{new_group}
 use Rattle.trigger_group.specs.Kept.{group_where, may_be}
-use Rattle.axis_homing.specs.declared.homing.Homing.{Homing}
-use Rattle.axis_homing.specs.Homing.{homing_of, homing_with, members_from}
+use Rattle.axis_homing.specs.Homing.{homing_of, homing_with}
 use Rattle.motion_work.specs.Puts.{begun_notes}
-use Rattle.motion_work.specs.Seen.{Started}
 use Rattle.motion_work.specs.Turns.{done_notes}
-use Rattle.host_reactor.specs.declared.ordered.Known.{Known}
-use Rattle.host_reactor.specs.Notes.{news_of, noted, known_behind, told_all}
-use Rattle.host_reactor.specs.Runs.{Came, known_by}
 use Rattle.laws_homing.specs.home_runs.Sections.{IsOf}
 use Rattle.laws_homing.specs.home_runs.Words.{BeginsNone, IsBegunIn}
-use Rattle.laws_homing.proofs.home_runs.Forming.{unseen_members}
 use Rattle.laws_homing.proofs.home_runs.Knowing.{all_none}
 use Rattle.laws_homing.specs.home_plans.Notes.{CameNotes, IsNoteOf, IsSilentFrom}
 use Rattle.laws_board.specs.plans.Rows.{AreInARow}
+use Rattle.plan_types.proofs.Facts.{not_equal}
+use Rattle.laws_board.proofs.plans.Beginning.{all_append}
+use Rattle.axis_homing.proofs.Rises.{unseen-members}
 
 pub none_both : (xs ys : List NoteNews) → BeginsNone xs → BeginsNone ys → BeginsNone (xs ++ ys)
 none_both [] ys a b = b
@@ -43,13 +31,9 @@ pub done_none : (k i : ℕ) (ss : List Started) → BeginsNone (done_notes k i s
 done_none k i [] = tt
 done_none k i (s ∷ ss) = done_if (s.end == k) i k (done_notes k (i + 1) ss) (done_none k (i + 1) ss)
 
--- the sections of a turn
-differ : (a b : ℕ) → (a ≡ b → ⊥) → (a == b) ≡ false
-differ a b d = elim (eqb_tells a b) [ inl p ↦ absurd (d p.1) | inr p ↦ p.0 ]
-
 skip : (k i : ℕ) (s : Started) (ss : List Started) → (s.start ≡ k + 260 → ⊥) → begun_notes k i (s ∷ ss) ≡ begun_notes k (i + 1) ss
 skip k i s ss d =
-    ap (λ (c : Bool). cond c (news.Start i s.section.kind s.start s.last s.moving ∷ begun_notes k (i + 1) ss) (begun_notes k (i + 1) ss)) (differ s.start (k + 260) d)
+    ap (λ (c : Bool). cond c (news.Start i s.section.kind s.start s.last s.moving ∷ begun_notes k (i + 1) ss) (begun_notes k (i + 1) ss)) (not_equal s.start (k + 260) d)
 
 late_begun : (k i ready : ℕ) (ss : List Started) → AreInARow ready ss → k + 260 < ready → begun_notes k i ss ≡ []
 late_begun k i ready [] row l = refl
@@ -83,18 +67,13 @@ none_later ready from zero past s later given row is e far early = absurd (omega
 none_later ready from (suc k) past s later given row is e far early =
     let begun = past ++ s ∷ later in
     let one = only_one k 0 ready past s later row (omega (arith, e, far)) (omega (arith, early)) in
-    let none : begun_notes k 0 begun ≡ [] = one.1 ∙ ap (λ (c : Bool). cond c (news.Start one.0 s.section.kind s.start s.last s.moving ∷ []) []) (differ s.start (k + 260) (λ f. omega (arith, e, f, far))) in
+    let none : begun_notes k 0 begun ≡ [] = one.1 ∙ ap (λ (c : Bool). cond c (news.Start one.0 s.section.kind s.start s.last s.moving ∷ []) []) (not_equal s.start (k + 260) (λ f. omega (arith, e, f, far))) in
     let rest : BeginsNone (begun_notes k 0 begun ++ is.1) = subst (λ (l : List NoteNews). BeginsNone (l ++ is.1)) (sym none) is.4 in
     note_none given is.0 is.2 (subst BeginsNone (sym is.3) (none_both (done_notes k 0 begun) (begun_notes k 0 begun ++ is.1) (done_none k 0 begun) rest))
 
--- the given that begins it
-pub told_both : (m : Machine) (xs ys : List NoteNews) (r : Known) → told_all m (xs ++ ys) r ≡ told_all m ys (told_all m xs r)
-told_both m [] ys r = refl
-told_both m (x ∷ xs) ys r = told_both m xs ys (known_behind m r x)
-
 begun_of : (m : Machine) (section at turn last moving : ℕ) (ms : List Member) → may_be (map unseen ms) turn last ≡ true → IsOf turn ms (homing_with section at turn (group_where ms turn last))
 begun_of m section at turn last moving ms may =
-    subst (λ (c : Bool). IsOf turn ms (homing_with section at turn (cond c (Some (new_group ms turn last)) None))) (sym may) (refl, refl, unseen_members ms)
+    subst (λ (c : Bool). IsOf turn ms (homing_with section at turn (cond c (Some (new_group ms turn last)) None))) (sym may) (refl, refl, unseen-members ms)
 
 kind_of : (m : Machine) (section axis turn last moving : ℕ) (kind : SectionKind) → kind ≡ Home axis → may_be (map unseen (members_from m (axis_at m axis) moving 0 m.boards)) turn last ≡ true
     → IsOf turn (members_from m (axis_at m axis) moving 0 m.boards) (homing_of m section kind turn last moving)
@@ -114,7 +93,7 @@ now_of m ready k axis past s later given r row is at early kind may =
     let all : is.0.news ≡ done ++ (start ∷ is.1) = is.3 ∙ ap (λ (l : List NoteNews). done ++ (l ++ is.1)) here in
     let before = told_all m done r in
     let known : (told_all m is.0.news r).homing ≡ homing_of m one.0 s.section.kind s.start s.last s.moving =
-    ap (λ (l : List NoteNews). (told_all m l r).homing) all ∙ ap (λ (x : Known). x.homing) (told_both m done (start ∷ is.1) r) ∙ all_none m is.1 (known_behind m before start) is.4 in
+    ap (λ (l : List NoteNews). (told_all m l r).homing) all ∙ ap (λ (x : Known). x.homing) (all_append m done (start ∷ is.1) r) ∙ all_none m is.1 (known_behind m before start) is.4 in
     subst (λ (o : Option Note). IsOf s.start ms (noted m o r).homing) (sym is.2) (subst (λ (o : Option Homing). IsOf s.start ms o) (sym known) (kind_of m one.0 axis s.start s.last s.moving s.section.kind kind may))
 
 -- over turns

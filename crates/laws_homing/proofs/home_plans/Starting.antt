@@ -1,18 +1,10 @@
 -- The sections that a note of the planner begins all start 259 turns behind the turn in which it comes.
 use Rattle.std.proofs.Common.{◌≡◌, ◌≤◌, ◌+◌, ◌++◌, ℕ, zero, suc, List, [], ◌∷◌, length, Option, sym, subst, arith, inl, inr}
-use Rattle.std.proofs.lemmas.Bool.Decides.{eqb_tells}
-use Rattle.plan_types.specs.declared.machine.Machine.{Machine}
-use Rattle.plan_types.specs.Machines.{IsValidMachine}
-use Rattle.msg_code.specs.declared.talk.Note.{Note}
-use Rattle.msg_code.specs.declared.talk.NoteNews.{NoteNews}
+use Rattle.laws_board.proofs.Names.{eqb_tells, Machine, IsValidMachine, Note, NoteNews, Switch, Started, news_of, Came}
 use Rattle.msg_code.specs.declared.talk.NoteNews.TheVariants as news
-use Rattle.wire_scene.specs.declared.scene.Switch.{Switch}
 use Rattle.motion_work.specs.Puts.{begun_notes}
-use Rattle.motion_work.specs.Seen.{Started}
 use Rattle.motion_work.specs.Turns.{done_notes}
-use Rattle.host_reactor.specs.Notes.{news_of}
 use Rattle.host_reactor.specs.Room.{BeginFar, HaveRoom, StartFar}
-use Rattle.host_reactor.specs.Runs.{Came}
 use Rattle.host_reactor.proofs.Roomy.{all-have}
 use Rattle.laws_homing.specs.home_runs.Words.{BeginsNone}
 use Rattle.laws_homing.specs.home_plans.Notes.{CameNotes, IsNoteOf}

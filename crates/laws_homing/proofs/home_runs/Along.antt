@@ -1,15 +1,7 @@
 -- A board in a run is settled as each of its turns begins.
 use Rattle.std.proofs.Common.{◌≡◌, ℕ, ◌+◌, Bool, List, [], ◌∷◌, ◌++◌, length, Option, refl, ap, sym, ◌∙◌, subst, arith, inl, inr, append_assoc, append-nil, length-append}
-use Rattle.plan_types.specs.declared.clock.BoardClock.{BoardClock}
-use Rattle.plan_types.specs.declared.levels.Level.{Level}
-use Rattle.plan_types.specs.declared.machine.Machine.{Machine}
-use Rattle.plan_types.specs.Clock.{clock_of}
-use Rattle.plan_types.specs.Machines.{IsValidMachine, board_at}
-use Rattle.wire_scene.specs.declared.scene.Entry.{Entry}
-use Rattle.wire_scene.specs.declared.scene.Switch.{Switch}
-use Rattle.link_work.specs.Runs.{AreTurns, queued_in}
-use Rattle.link_work.specs.Stands.{first_state, orders}
-use Rattle.link_work.specs.Turn.{IsTurn, LinkState, Orders, after_board, after_host, after_replies}
+use Rattle.laws_board.proofs.Names.{BoardClock, Level, Machine, clock_of, IsValidMachine, board_at, Entry, Switch, AreTurns, queued_in, first_state, orders, IsTurn, LinkState, Orders, after_board, after_host}
+use Rattle.link_work.specs.Turn.{after_replies}
 use Rattle.laws_board.specs.turns.Turns.{AreBoardTurns, BoardTurn, stands_after}
 use Rattle.laws_board.specs.clocks.Runs.{orders_in}
 use Rattle.laws_board.specs.sections.Courses.{FindStopped, IsSettled}
@@ -21,6 +13,7 @@ use Rattle.laws_homing.specs.home_runs.Settled.{AreHomed}
 use Rattle.laws_homing.proofs.home_runs.Settled.{finds_stopped, sent_by, sent_parts, sent_turn, settled}
 use Rattle.laws_homing.proofs.home_runs.Windows.{begun}
 use Rattle.laws_board.proofs.sections.Linking.{same_bool}
+use Rattle.link_work.proofs.Shut.{one_turn}
 
 -- turns in their order behind others, of which the latest stands first
 abbrev Pushed : List BoardTurn → List BoardTurn → List BoardTurn
@@ -53,10 +46,6 @@ pushed_parts turns [] = ([], refl)
 pushed_parts turns (t ∷ made) = let rest = pushed_parts (t ∷ turns) made in (rest.0 ++ t ∷ [], rest.1 ∙ sym (append_assoc rest.0 (t ∷ []) turns))
 
 -- a turn has one end
-
-pub one_end : (clock : BoardClock) (turn : ℕ) (o : Orders) (l m n : LinkState) → IsTurn clock turn o l m → IsTurn clock turn o l n → m ≡ n
-one_end clock turn o l m n x y =
-    x.becomes ∙ ap (λ (r : Bool). after_replies turn (after_board clock turn (after_host turn o r l))) (same_bool x.resent y.resent _ x.due y.due) ∙ sym y.becomes
 
 -- the sections that have ended by an earlier turn
 pub homed_before : (m : Machine) (switches : List Switch) (pins : List (List Level)) (entries : List Entry) (b until : ℕ) (stops : ℕ → Option ℕ) (later turns : List BoardTurn) → AreHomed m switches pins entries b until stops (later ++ turns)
@@ -113,7 +102,7 @@ along m switches pins entries b until front tail stops turns (x ∷ made) n sent
     let o = orders x.control x.batch in
     let mine : IsTurn clock n o l x.after = subst (λ (k : ℕ). IsTurn clock k o l x.after) (sym long) (subst (λ (k : LinkState). IsTurn clock (length turns) o k x.after) (sym stand) here.0.0) in
     let steps = steps_of_turn clock n o t.1.resent l in
-    let after : t.0 ≡ x.after = one_end clock n o l t.0 x.after t.1 mine in
+    let after : t.0 ≡ x.after = one_turn clock n o l t.0 x.after t.1 mine in
     let sends : sent ++ sent_at n (queued_in o) ≡ sent_in 0 (orders_in (x ∷ turns)) =
     ap (λ (k : List Sent). k ++ sent_at n (queued_in o)) same ∙ ap (λ (k : ℕ). sent_in 0 (orders_in turns) ++ sent_at k (queued_in o)) long ∙ sym (sent_turn x turns) in (
       subst (λ (k : ℕ). IsSettled stops front k sent l.core) (sym long) (subst (λ (k : List Sent). IsSettled stops front (length turns) k l.core) (sym same)

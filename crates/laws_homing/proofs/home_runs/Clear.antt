@@ -1,24 +1,13 @@
 -- In a scene without entries a board takes in each turn all that is queued in it.
 use Rattle.std.proofs.Common.{◌≡◌, ℕ, suc, ◌+◌, ◌-◌, ◌≤◌, List, [], ◌∷◌, ◌++◌, length, take, refl, ap, sym, ◌∙◌, subst, arith, inl, inr, append-nil}
-use Rattle.std.specs.List.{flat_map}
+use Rattle.laws_board.proofs.Names.{flat_map, leb_tells, flat_map-append, Level, BoardDef, clock_of, Entry, Meant, AllKeepLimits, queued_in, first_state, orders, LinkState, Orders, and_from}
 use Rattle.std.proofs.Math.Seq.{take-length}
-use Rattle.std.proofs.lemmas.Bool.Decides.{leb_tells}
-use Rattle.std.proofs.lemmas.Grind.{flat_map-append}
-use Rattle.plan_types.specs.declared.levels.Level.{Level}
-use Rattle.plan_types.specs.declared.machine.BoardDef.{BoardDef}
-use Rattle.plan_types.specs.Clock.{clock_of}
-use Rattle.wire_scene.specs.declared.scene.Entry.{Entry}
-use Rattle.board_sim.specs.Fair.{Meant}
 use Rattle.link_work.specs.Ends.{Ended, is_quiet_line, spoiled, stretch}
-use Rattle.link_work.specs.Limits.{AllKeepLimits}
-use Rattle.link_work.specs.Runs.{queued_in}
-use Rattle.link_work.specs.Stands.{first_state, orders}
-use Rattle.link_work.specs.Turn.{LinkState, Orders}
 use Rattle.link_work.proofs.Late.{limits_split}
 use Rattle.laws_board.specs.turns.Turns.{AreBoardTurns, BoardTurn, stands_after}
 use Rattle.laws_board.specs.clocks.Runs.{ends_in, orders_in}
 use Rattle.laws_board.proofs.clocks.Orders.{ends_in_order, last_stands, order_length}
-use Rattle.laws_board.proofs.sections.Calm.{AllQuiet, AreClear, both_quiet, clear_turn, first_clear, none_unquiet, quiet_now, stretch_quiet}
+use Rattle.laws_board.proofs.sections.Calm.{AllQuiet, AreClear, clear_turn, first_clear, none_unquiet, quiet_now, stretch_quiet}
 use Rattle.laws_board.proofs.sections.Spoiled.{soon_at}
 use Rattle.laws_homing.specs.home_runs.Sections.{SpoilsFew, TakesSetUp, queued_in_turns}
 use Rattle.laws_homing.proofs.home_runs.Resting.{rests_up}
@@ -44,7 +33,7 @@ all_quiet b pins board entries (t ∷ before) e are =
     let next : suc turn ≡ turn + 1 = omega arith in
     let clear = subst (λ (n : ℕ). AreClear t.after n) next (clear_after b pins board entries (t ∷ before) e are) in
     quiet_both (ends_in before) (record { turn = turn; link = t.after } ∷ []) (all_quiet b pins board entries before e are.1)
-    (both_quiet (is_quiet_line t.after.down turn) (is_quiet_line t.after.up turn) (quiet_now t.after.down turn clear.0) (quiet_now t.after.up turn clear.1), tt)
+    (and_from (is_quiet_line t.after.down turn) (is_quiet_line t.after.up turn) (quiet_now t.after.down turn clear.0) (quiet_now t.after.up turn clear.1), tt)
 
 queue_flat : (turns : List BoardTurn) → flat_map queued_in (orders_in turns) ≡ queued_in_turns turns
 queue_flat [] = refl

@@ -1,40 +1,11 @@
 -- The clocks of the steppers that move in a homing section are set by its set-up.
 use Rattle.std.proofs.Common.{◌≡◌, ℕ, zero, suc, ◌+◌, ◌-◌, ◌*◌, ◌/◌, ◌%◌, ◌<◌, ◌≤◌, ◌==◌, ◌⊎◌, inl, inr, Bool, true, false, cond, List, [], ◌∷◌, ◌++◌, length, map, take, drop, Option, Some, None, refl, ap, sym, ◌∙◌, subst, arith}
-use Rattle.std.proofs.lemmas.Bool.{eq-eqb}
-use Rattle.std.proofs.lemmas.Bool.Decides.{leb_tells}
-use Rattle.std.proofs.lemmas.List.{length-drop, take-append-drop}
-use Rattle.plan_types.specs.declared.levels.Level.{Level}
-use Rattle.plan_types.specs.declared.machine.AxisDef.{AxisDef}
-use Rattle.plan_types.specs.declared.machine.Machine.{Machine}
-use Rattle.plan_types.specs.Lines.{Clocks}
-use Rattle.plan_types.specs.Machines.{axis_at, board_at, stepper_at}
-use Rattle.clock_line.specs.Early.{turn_tick}
-use Rattle.msg_code.specs.declared.cmd.Cmd.{Cmd}
+use Rattle.laws_board.proofs.Names.{eq-eqb, leb_tells, take-append-drop, Level, AxisDef, Machine, Clocks, axis_at, board_at, stepper_at, turn_tick, Cmd, State, Control, Entry, Switch, orders, Orders, BoardSection, End, Member, Sends, Seen, phase, round_of, steppers, unseen, Homing, answer_in, by_answer, command_to, commands_to, hears_all, homing_turn, low, members_of, Asking, clock_question, drifts, waits_in, Known, Connecting, noted, Reacted, homing_commands, stop_command, stops, Came, known_by, last_reacted, states-kept}
+use Rattle.std.proofs.lemmas.List.{length-drop}
 use Rattle.msg_code.specs.declared.cmd.Cmd.TheVariants as cmd
-use Rattle.msg_code.specs.declared.talk.State.{State}
-use Rattle.msg_code.specs.declared.unit.Control.{Control}
-use Rattle.wire_scene.specs.declared.scene.Entry.{Entry}
-use Rattle.wire_scene.specs.declared.scene.Switch.{Switch}
-use Rattle.link_work.specs.Stands.{orders}
-use Rattle.link_work.specs.Turn.{Orders}
-use Rattle.section_units.specs.Sections.{BoardSection}
-use Rattle.trigger_group.specs.declared.order.End.{End}
-use Rattle.trigger_group.specs.declared.order.Member.{Member}
 use Rattle.trigger_group.specs.declared.round.Phase.{Phase}
-use Rattle.trigger_group.specs.declared.round.Phase.TheVariants.{Sends}
 use Rattle.trigger_group.specs.declared.round.Round.TheVariants.{Resets}
-use Rattle.trigger_group.specs.declared.seen.Seen.{Seen}
-use Rattle.trigger_group.specs.Group.{bits, orders_of_group, orders_to, phase, reset, round_of, steppers, unseen}
-use Rattle.axis_homing.specs.declared.homing.Homing.{Homing}
-use Rattle.axis_homing.specs.Homing.{answer_in, by_answer, command_to, commands_to, hears_all, homing_turn, low}
-use Rattle.axis_homing.specs.Rising.{members_of}
-use Rattle.board_asking.specs.declared.asking.Asking.{Asking}
-use Rattle.board_asking.specs.Drift.{clock_question, drifts, waits_in}
-use Rattle.host_reactor.specs.declared.ordered.Known.{Known}
-use Rattle.host_reactor.specs.declared.ordered.Phase.TheVariants.{Connecting}
-use Rattle.host_reactor.specs.Notes.{noted}
-use Rattle.host_reactor.specs.Reactor.{Reacted, homing_commands, stop_command, stops}
-use Rattle.host_reactor.specs.Runs.{Came, known_by, last_reacted}
+use Rattle.trigger_group.specs.Group.{bits, orders_of_group, orders_to, reset}
 use Rattle.laws_board.specs.turns.Turns.{BoardTurn}
 use Rattle.laws_board.specs.clocks.Runs as clock_runs
 use Rattle.laws_board.specs.clocks.Runs.{IsInRun}
@@ -46,10 +17,11 @@ use Rattle.laws_board.proofs.clocks.Orders.{order_length}
 use Rattle.laws_board.proofs.clocks.Turning.{Asks, BoardTurned, Ends, Runs}
 use Rattle.laws_board.specs.sections.Homes.{SomeSets, SetsIn}
 use Rattle.laws_homing.specs.home_runs.Sections.{HomesFrom, IsOf, Moves}
-use Rattle.laws_homing.proofs.home_runs.Controlling.{connecting_not, not_yet}
-use Rattle.laws_homing.proofs.home_runs.Grouped.{members_states}
+use Rattle.laws_homing.proofs.home_runs.Controlling.{connecting_not}
 use Rattle.laws_homing.proofs.home_runs.Setting.{commands_both, steppers_are}
 use Rattle.laws_homing.proofs.home_runs.Settled.{later_orders}
+use Rattle.trigger_group.proofs.Setup.{length_word, few_steppers}
+use Rattle.host_reactor.proofs.Idle.{not-yet}
 
 sets_front : (oid : ℕ) (xs ys : List Cmd) → SomeSets oid xs → SomeSets oid (xs ++ ys)
 sets_front oid [] ys k = absurd k
@@ -87,19 +59,6 @@ round_sets m clocks b start axis row (x ∷ xs) s (inr is) =
     subst (λ (l : List Cmd). SomeSets i l) (sym (commands_both m clocks b start axis (orders_to (Resets row) x) (round_of (Resets row) xs)))
     (sets_behind i (commands_to m clocks b start axis (orders_to (Resets row) x)) (commands_to m clocks b start axis (round_of (Resets row) xs)) (round_sets m clocks b start axis row xs s is))
 
--- at most 16 steppers move on a board
-bits_few : (i n w : ℕ) → length (bits i n w) ≤ n
-bits_few i zero w = omega arith
-bits_few i (suc n) w = one (w % 2 == 1) (bits_few (i + 1) n (w / 2))
-  where
-    one : (t : Bool) → length (bits (i + 1) n (w / 2)) ≤ n → length (cond t (i ∷ []) [] ++ bits (i + 1) n (w / 2)) ≤ suc n
-    one true l = omega (arith, l)
-    one false l = omega (arith, l)
-
-steppers_few : (x : Seen) → length (steppers x) ≤ 16
-unfolding steppers
-steppers_few x = bits_few 0 16 x.member.moving
-
 among_all : (s n : ℕ) (ks : List ℕ) → length ks ≤ n → IsAmong s ks → IsAmong s (take n ks)
 among_all s n [] l is = absurd is
 among_all s zero (k ∷ ks) l is = absurd (omega (arith, l))
@@ -128,7 +87,7 @@ in_rows s ks few is = elim (among_both s (take 6 ks) (drop 6 ks) (subst (λ (l :
 
 row_of : (b s : ℕ) (ms : List Member) → Moves b s ms → (row : ℕ) × (row ≤ 2) × RowOf b s row ms
 row_of b s [] is = absurd is
-row_of b s (x ∷ ms) (inl is) = let r = in_rows s (steppers (unseen x)) (steppers_few (unseen x)) is.1 in (r.0, r.1, inl (is.0, r.2))
+row_of b s (x ∷ ms) (inl is) = let r = in_rows s (steppers (unseen x)) (few_steppers (unseen x)) is.1 in (r.0, r.1, inl (is.0, r.2))
 row_of b s (x ∷ ms) (inr is) = let r = row_of b s ms is in (r.0, r.1, inr r.2)
 
 -- the turn of a row
@@ -151,8 +110,8 @@ row_sets : (m : Machine) (all : List Clocks) (states : List State) (own : Clocks
 row_sets m all states own b k h s row together few e inside =
     let g = hears_all all states h in
     let at : g.group.start ≡ h.group.start = states_start all 0 h.start states h.group in
-    group_sets m own b k g s row (not_yet k g.start g.group (omega (arith, e, together, few))) (row_phase g.group.start g.group.last k row few (omega (arith, at, e)))
-    (subst (λ (l : List Member). RowOf b s row l) (sym (members_states all 0 h.start states h.group)) inside)
+    group_sets m own b k g s row (not-yet k g.start g.group (omega (arith, e, together, few))) (row_phase g.group.start g.group.last k row few (omega (arith, at, e)))
+    (subst (λ (l : List Member). RowOf b s row l) (sym (states-kept all 0 h.start states h.group)) inside)
 
 control_sets : (m : Machine) (b s row : ℕ) (c : Came) (r : Known) (k start : ℕ) (ms : List Member) (a : Asking) (x : Reacted) (t : BoardTurn) (o : Option Homing) → r.homing ≡ o → IsOf start ms o → row ≤ 2 → start + row ≡ k + 254 → RowOf b s row ms
     → (r.phase ≡ Connecting → ⊥) → BoardTurned m r b k c.states a x t.control → SomeSets (stepper_at m s).oid t.control.commands

@@ -1,42 +1,19 @@
 -- The controls of a board in the turns of a homing section.
 use Rattle.std.proofs.Common.{◌≡◌, ℕ, ◌+◌, ◌-◌, ◌<◌, ◌≤◌, inl, inr, Bool, cond, List, ◌∷◌, ◌++◌, length, Option, Some, None, refl, ap, sym, ◌∙◌, subst, arith}
-use Rattle.std.proofs.lemmas.Bool.Decides.{leb_tells}
-use Rattle.plan_types.specs.declared.levels.Level.{Level}
-use Rattle.plan_types.specs.declared.machine.Machine.{Machine}
-use Rattle.plan_types.specs.Lines.{Clocks}
-use Rattle.plan_types.specs.Machines.{axis_at, board_at, stepper_at}
-use Rattle.msg_code.specs.declared.talk.State.{State}
-use Rattle.msg_code.specs.declared.unit.Control.{Control}
-use Rattle.wire_scene.specs.declared.scene.Entry.{Entry}
-use Rattle.wire_scene.specs.declared.scene.Switch.{Switch}
-use Rattle.trigger_group.specs.declared.order.End.{End}
-use Rattle.trigger_group.specs.declared.order.Member.{Member}
+use Rattle.laws_board.proofs.Names.{leb_tells, Level, Machine, Clocks, axis_at, board_at, stepper_at, State, Control, Entry, Switch, End, Member, Sends, Homes, Starts, GroupState, first_timeout, phase, Homing, answer_in, by_answer, commands_to, hears_all, homing_turn, members_of, Asking, clock_question, drifts, waits_in, trigger_of, Known, Connecting, noted, Reacted, homing_commands, stop_command, stops, Came, known_by, last_reacted, states-kept}
 use Rattle.trigger_group.specs.declared.round.Phase.{Phase}
-use Rattle.trigger_group.specs.declared.round.Phase.TheVariants.{Sends}
 use Rattle.trigger_group.specs.declared.round.Round.{Round}
-use Rattle.trigger_group.specs.declared.round.Round.TheVariants.{Homes, Starts}
-use Rattle.trigger_group.specs.Group.{GroupState, ended, first_timeout, orders_of_group, phase}
+use Rattle.trigger_group.specs.Group.{ended, orders_of_group}
 use Rattle.trigger_group.specs.Kept.{BoardsRise}
-use Rattle.axis_homing.specs.declared.homing.Homing.{Homing}
-use Rattle.axis_homing.specs.Homing.{answer_in, by_answer, commands_to, hears_all, homing_turn}
-use Rattle.axis_homing.specs.Rising.{members_of}
-use Rattle.board_asking.specs.declared.asking.Asking.{Asking}
-use Rattle.board_asking.specs.Drift.{clock_question, drifts, waits_in}
-use Rattle.board_asking.specs.Machine.{trigger_of}
-use Rattle.host_reactor.specs.declared.ordered.Known.{Known}
-use Rattle.host_reactor.specs.declared.ordered.Phase.TheVariants.{Connecting}
-use Rattle.host_reactor.specs.Notes.{noted}
-use Rattle.host_reactor.specs.Reactor.{Reacted, homing_commands, stop_command, stops}
-use Rattle.host_reactor.specs.Runs.{Came, known_by, last_reacted}
 use Rattle.laws_board.specs.turns.Turns.{BoardTurn}
 use Rattle.laws_board.specs.clocks.Runs.{IsInRun}
 use Rattle.laws_board.proofs.clocks.Controls.{states_start}
 use Rattle.laws_board.proofs.clocks.Lines.{noted_phase, turn_of}
 use Rattle.laws_board.proofs.clocks.Turning.{Asks, BoardTurned, Ends, Runs}
 use Rattle.laws_homing.specs.home_runs.Sections.{IsOf}
-use Rattle.laws_homing.proofs.home_runs.Grouped.{members_states}
 use Rattle.laws_homing.proofs.home_runs.Saying.{EachCalm}
 use Rattle.laws_homing.proofs.home_runs.Setting.{Binds, FirstOf, InRound, RestOf, binds_front, each_both, first_in, late_calm, question_calm, rest_in, round_binds}
+use Rattle.host_reactor.proofs.Idle.{not-yet}
 
 -- the phases of the set-up
 pub phase_starts : (start last k : ℕ) → start ≡ k + 251 → phase start last k ≡ Sends (Starts (first_timeout start last))
@@ -44,9 +21,6 @@ phase_starts start last k e = let left : start - k ≡ 251 = omega (arith, e) in
 
 pub phase_homes : (start last k : ℕ) → start ≡ k + 250 → phase start last k ≡ Sends Homes
 phase_homes start last k e = let left : start - k ≡ 250 = omega (arith, e) in rw left refl
-
-pub not_yet : (k start : ℕ) (g : GroupState) → k < start → answer_in k start g ≡ None
-not_yet k start g l = elim (leb_tells start k) [ inl p ↦ absurd (omega (arith, l, p.1)) | inr p ↦ ap (λ (b : Bool). cond b (ended g) None) p.0 ]
 
 -- a group that didn't answer
 group_binds : (m : Machine) (own : Clocks) (b k : ℕ) (g : Homing) (s : ℕ) (round : Round) → answer_in k g.start g.group ≡ None → phase g.group.start g.group.last k ≡ Sends round → BoardsRise (members_of g.group) → InRound b s round g.group.members
@@ -62,8 +36,8 @@ pub first_binds : (m : Machine) (all : List Clocks) (states : List State) (own :
     → Binds (stepper_at m s).oid (trigger_of m b) (homing_commands m (homing_turn all k states (Some h)) own b)
 first_binds m all states own b k h s together e rise first =
     let g = hears_all all states h in
-    let members = members_states all 0 h.start states h.group in
-    group_binds m own b k g s (Starts (first_timeout g.group.start g.group.last)) (not_yet k g.start g.group (omega (arith, e, together)))
+    let members = states-kept all 0 h.start states h.group in
+    group_binds m own b k g s (Starts (first_timeout g.group.start g.group.last)) (not-yet k g.start g.group (omega (arith, e, together)))
     (phase_starts g.group.start g.group.last k (states_start all 0 h.start states h.group ∙ e)) (subst BoardsRise (sym members) rise)
     (first_in b s (first_timeout g.group.start g.group.last) g.group.members (subst (λ (l : List Member). FirstOf b s l) (sym members) first))
 
@@ -71,8 +45,8 @@ pub rest_binds : (m : Machine) (all : List Clocks) (states : List State) (own : 
     → Binds (stepper_at m s).oid (trigger_of m b) (homing_commands m (homing_turn all k states (Some h)) own b)
 rest_binds m all states own b k h s together e rise rest =
     let g = hears_all all states h in
-    let members = members_states all 0 h.start states h.group in
-    group_binds m own b k g s Homes (not_yet k g.start g.group (omega (arith, e, together)))
+    let members = states-kept all 0 h.start states h.group in
+    group_binds m own b k g s Homes (not-yet k g.start g.group (omega (arith, e, together)))
     (phase_homes g.group.start g.group.last k (states_start all 0 h.start states h.group ∙ e)) (subst BoardsRise (sym members) rise)
     (rest_in b s g.group.members (subst (λ (l : List Member). RestOf b s l) (sym members) rest))
 

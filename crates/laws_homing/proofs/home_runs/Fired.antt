@@ -1,23 +1,7 @@
 -- A homing section's members stop in time behind the turn in which one of them triggered.
 use Rattle.std.proofs.Common.{◌≡◌, ℕ, ◌+◌, ◌*◌, ◌%◌, ◌^◌, ◌<◌, ◌≤◌, inl, inr, List, [], ◌∷◌, ◌++◌, length, Some, refl, ap, sym, ◌∙◌, subst, arith, append_assoc}
-use Rattle.plan_types.specs.declared.levels.Level.{Level}
-use Rattle.plan_types.specs.declared.machine.Machine.{Machine}
-use Rattle.plan_types.specs.Board.{nearest}
-use Rattle.plan_types.specs.Clock.{board_tick, clock_of, turn_ns}
-use Rattle.plan_types.specs.Lines.{Clocks, lines_tick}
-use Rattle.plan_types.specs.Machines.{IsValidMachine, board_at}
-use Rattle.plan_types.specs.Sections.{clocks_at}
-use Rattle.clock_line.specs.Early.{turn_in_run, turn_tick}
-use Rattle.msg_code.specs.declared.cmd.Cmd.{Cmd}
+use Rattle.laws_board.proofs.Names.{Level, Machine, nearest, board_tick, clock_of, turn_ns, Clocks, lines_tick, IsValidMachine, board_at, clocks_at, turn_in_run, turn_tick, Cmd, News, State, Entry, Switch, first_state, LinkState, Member, Came}
 use Rattle.msg_code.specs.declared.cmd.Cmd.TheVariants as cmd
-use Rattle.msg_code.specs.declared.talk.News.{News}
-use Rattle.msg_code.specs.declared.talk.State.{State}
-use Rattle.wire_scene.specs.declared.scene.Entry.{Entry}
-use Rattle.wire_scene.specs.declared.scene.Switch.{Switch}
-use Rattle.link_work.specs.Stands.{first_state}
-use Rattle.link_work.specs.Turn.{LinkState}
-use Rattle.trigger_group.specs.declared.order.Member.{Member}
-use Rattle.host_reactor.specs.Runs.{Came}
 use Rattle.laws_board.specs.turns.Turns.{AreBoardTurns, BoardTurn, IsBoardOf, latest_state, stands_after}
 use Rattle.laws_board.specs.clocks.Runs.{IsInRun}
 use Rattle.laws_board.proofs.clocks.Lines.{as_long}
@@ -28,7 +12,7 @@ use Rattle.laws_homing.specs.home_runs.Timeouts.{BeginsBy, CouldUpTo, TakesSent,
 use Rattle.laws_homing.specs.home_runs.Told.{IsMember}
 use Rattle.laws_homing.specs.home_runs.Windows.{HasAnswer}
 use Rattle.laws_homing.specs.switch_runs.Runs.{IsEndstop, IsReadInRun}
-use Rattle.laws_homing.proofs.fired_runs.Reported.{before_start}
+use Rattle.laws_homing.proofs.fired_runs.Reported.{before_start, sole_state}
 use Rattle.laws_homing.proofs.home_runs.Hearing.{stops_by_heard}
 use Rattle.laws_homing.proofs.home_runs.Reporting.{reports_moments}
 use Rattle.laws_homing.proofs.home_runs.Timeouts.{nearest_low}
@@ -56,9 +40,6 @@ able_answer clocks turn when (n ∷ news) (inl a) = able_one clocks turn when n 
 able_answer clocks turn when (n ∷ news) (inr t) =
     let x = able_answer clocks turn when news t in
     record { oid = x.oid; can = x.can; reason = x.reason; clock = x.clock; has = inr x.has; able = x.able; is = x.is }
-
-pub same_state : (s u : State) → s ∷ [] ≡ u ∷ [] → s ≡ u
-same_state s u e = cc
 
 pub run_moments : (m : Machine) (switches : List Switch) (pins : List (List Level)) (entries : List Entry) (b : ℕ)
     (came : List Came) (later : List BoardTurn) (t : BoardTurn) (middle past : List BoardTurn) (oid can reason clock : ℕ)
@@ -94,7 +75,7 @@ module _ (m : Machine) (switches : List Switch) (pins : List (List Level)) (entr
       let old = x.middle ++ x.past in
       let whole : all ≡ on ++ x.latest ∷ old = e ∙ ap (λ (l : List BoardTurn). on ++ l) x.are in
       let on_run = subst (IsInRun m switches pins entries b run) whole r in
-      let state : x.latest.state ≡ s = same_state x.latest.state s (sym (ap latest_state x.are) ∙ latest) in
+      let state : x.latest.state ≡ s = sole_state x.latest.state s (sym (ap latest_state x.are) ∙ latest) in
       let turn : s.turn ≡ length old = ap (λ (z : State). z.turn) (sym state) ∙ turn_is on x.latest old on_run.turns_are in
       let has = subst (λ (z : State). HasAnswer (cmd.TrsyncState a.oid a.can a.reason a.clock) z.news) (sym state) a.has in
       let y = run_moments m switches pins entries b run on x.latest x.middle x.past a.oid a.can a.reason a.clock on_run x.none has a.able in
@@ -139,7 +120,7 @@ module _ (m : Machine) (switches : List Switch) (pins : List (List Level)) (entr
           → start ≤ s.turn + 1 → start ≤ length turns
       counted on [] s e latest counts = absurd (let l = ap length latest in omega (arith, l))
       counted on (t ∷ earlier) s e latest counts =
-          let state = same_state t.state s latest in
+          let state = sole_state t.state s latest in
           let turn : s.turn ≡ length earlier = ap (λ (z : State). z.turn) (sym state) ∙ turn_is on t earlier (subst (AreBoardTurns (clock_of (board_at m b)) First) e r.turns_are) in
           omega (arith, turn, counts)
 

@@ -1,19 +1,12 @@
 -- What a link's replies under way tell of a board's trigger: behind any event it stands as they tell it.
 use Rattle.std.proofs.Common.{◌≡◌, ℕ, ◌<◌, ◌≤◌, ◌^◌, List, [], ◌∷◌, ◌++◌, length, map, drop, ap, sym, ◌∙◌, arith, append_assoc}
-use Rattle.std.proofs.lemmas.List.{append_cancel_left, take-append-drop}
-use Rattle.msg_dict.specs.Own.{own_formats}
+use Rattle.laws_board.proofs.Names.{append_cancel_left, take-append-drop, own_formats, Cmd, IsText, Reply, Meant, commands_of, Rig, Event, IsOrdered, Core, does, after_event, takes_in, wire_text}
 use Rattle.msg_dict.specs.declared.row.Row.TheVariants as row
-use Rattle.msg_code.specs.declared.cmd.Cmd.{Cmd}
 use Rattle.msg_code.specs.declared.cmd.Cmd.TheVariants as cmd
 use Rattle.msg_code.specs.Table.{row_of}
-use Rattle.msg_code.specs.Text.{IsText}
-use Rattle.link_core.specs.Core.{Reply, numbered}
-use Rattle.board_sim.specs.Fair.{Meant, commands_of}
-use Rattle.board_sim.specs.Rig.{Rig}
-use Rattle.board_world.specs.declared.event.Event.{Event}
+use Rattle.link_core.specs.Core.{numbered}
 use Rattle.board_world.specs.declared.event.Event.TheVariants as event
-use Rattle.board_world.specs.Stands.{IsOrdered}
-use Rattle.board_world.specs.World.{Core, does, after_event, orders_of, takes_in, wire_text}
+use Rattle.board_world.specs.World.{orders_of}
 use Rattle.laws_board.proofs.clocks.Answers.{Each}
 use Rattle.laws_board.proofs.clocks.Replies.{AllUp, up_by, up_more}
 use Rattle.laws_board.proofs.clocks.Uptimes.{none_said}

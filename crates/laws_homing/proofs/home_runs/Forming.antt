@@ -1,49 +1,25 @@
 -- The members of a homing section are those of its axis, and the steppers that move on a board are the board's.
 use Rattle.std.proofs.Common.{◌≡◌, ℕ, ◌+◌, ◌<◌, ◌==◌, inl, inr, Bool, true, false, cond, List, [], ◌∷◌, ◌++◌, length, map, Option, Some, None, refl, ap, sym, ◌∙◌, subst, arith}
 use Rattle.std.specs.Prelude.{nat_lt, ◌||◌}
-use Rattle.plan_types.specs.declared.machine.AxisDef.{AxisDef}
-use Rattle.plan_types.specs.declared.machine.BoardDef.{BoardDef}
-use Rattle.plan_types.specs.declared.machine.Machine.{Machine}
-use Rattle.plan_types.specs.declared.plan.SectionKind.{SectionKind}
-use Rattle.plan_types.specs.declared.plan.SectionKind.TheVariants.{Moves as MovesKind, Home as HomeKind}
-use Rattle.plan_types.specs.Lines.{Clocks}
-use Rattle.plan_types.specs.Machines.{axis_at, stepper_at}
-use Rattle.msg_code.specs.declared.talk.Note.{Note}
-use Rattle.msg_code.specs.declared.talk.NoteNews.{NoteNews}
+use Rattle.laws_board.proofs.Names.{AxisDef, BoardDef, Machine, SectionKind, Moves as MovesKind, Home as HomeKind, Clocks, axis_at, stepper_at, Note, NoteNews, State, Switch, End, Member, Goes, Rests, Sends, Seen, GroupState, all_fired, phase, steppers, unseen, Homing, answer_in, goes_on_homing, hears_all, homing_after, members_from, members_of, Known, noted, known_behind, told_all, Reacted, Came, GoesOn, known_by, states-kept}
 use Rattle.msg_code.specs.declared.talk.NoteNews.TheVariants as news
-use Rattle.msg_code.specs.declared.talk.State.{State}
-use Rattle.wire_scene.specs.declared.scene.Switch.{Switch}
-use Rattle.trigger_group.specs.declared.order.End.{End}
-use Rattle.trigger_group.specs.declared.order.Member.{Member}
 use Rattle.trigger_group.specs.declared.round.Phase.{Phase}
-use Rattle.trigger_group.specs.declared.round.Phase.TheVariants.{Goes, Rests, Sends}
-use Rattle.trigger_group.specs.declared.seen.Seen.{Seen}
-use Rattle.trigger_group.specs.Group.{GroupState, after_in, all_fired, new_group, phase, steppers, unseen}
+use Rattle.trigger_group.specs.Group.{after_in, new_group}
 use Rattle.trigger_group.specs.Kept.{may_be}
-use Rattle.axis_homing.specs.declared.homing.Homing.{Homing}
-use Rattle.axis_homing.specs.Homing.{answer_in, goes_on_homing, hears_all, homing_after, homing_of, homing_with, members_from, moving_on}
-use Rattle.axis_homing.specs.Rising.{members_of}
-use Rattle.host_reactor.specs.declared.ordered.Known.{Known}
-use Rattle.host_reactor.specs.Notes.{noted, known_behind, told_all}
-use Rattle.host_reactor.specs.Reactor.{Reacted}
-use Rattle.host_reactor.specs.Runs.{Came, GoesOn, known_by}
+use Rattle.axis_homing.specs.Homing.{homing_of, homing_with, moving_on}
 use Rattle.laws_board.specs.clocks.Samples.{IsAmong}
 use Rattle.laws_board.proofs.clocks.Turning as turning
 use Rattle.laws_homing.specs.home_runs.Sections.{Moves}
-use Rattle.laws_homing.proofs.home_runs.Grouped.{members_states}
 use Rattle.laws_homing.proofs.home_runs.Resetting.{is_there, on_board}
+use Rattle.axis_homing.proofs.Rises.{unseen-members, in-kept}
 
 -- the members of a homing section are those of some steppers of its axis
 abbrev pub IsFormed : Machine → Option Homing → Type 0
 IsFormed m None = Unit {0}
 IsFormed m (Some h) = (axis : AxisDef) × (moving : ℕ) × (members_of h.group ≡ members_from m axis moving 0 m.boards) × (axis ≡ axis_at m h.axis)
 
-pub unseen_members : (ms : List Member) → map (λ (s : Seen). s.member) (map unseen ms) ≡ ms
-unseen_members [] = refl
-unseen_members (x ∷ ms) = ap (λ (l : List Member). x ∷ l) (unseen_members ms)
-
 formed_if : (c : Bool) (m : Machine) (section at turn start last moving : ℕ) (axis : AxisDef) → axis ≡ axis_at m at → IsFormed m (homing_with section at turn (cond c (Some (new_group (members_from m axis moving 0 m.boards) start last)) None))
-formed_if true m section at turn start last moving axis e = (axis, moving, unseen_members (members_from m axis moving 0 m.boards), e)
+formed_if true m section at turn start last moving axis e = (axis, moving, unseen-members (members_from m axis moving 0 m.boards), e)
 formed_if false m section at turn start last moving axis e = tt
 
 begun_formed : (m : Machine) (section : ℕ) (what : SectionKind) (turn last moving : ℕ) → IsFormed m (homing_of m section what turn last moving)
@@ -70,20 +46,15 @@ group_either : (c : Bool) (x g : GroupState) → members_of x ≡ members_of g �
 group_either true x g e = refl
 group_either false x g e = e
 
-pub in_formed : (p : Phase) (g : GroupState) (turn : ℕ) → members_of (after_in p g turn) ≡ members_of g
-in_formed (Sends round) g turn = refl
-in_formed Goes g turn = group_either (all_fired g.members) _ g refl
-in_formed Rests g turn = refl
-
 goes_formed : (m : Machine) (k : ℕ) (h : Homing) (o : Option End) → IsFormed m (Some h) → IsFormed m (goes_on_homing k h o)
-goes_formed m k h None f = (f.0, f.1, in_formed (phase h.group.start h.group.last k) h.group k ∙ f.2, f.3)
+goes_formed m k h None f = (f.0, f.1, in-kept (phase h.group.start h.group.last k) h.group k ∙ f.2, f.3)
 goes_formed m k h (Some end) f = tt
 
 after_formed : (m : Machine) (clocks : List Clocks) (k : ℕ) (states : List State) (o : Option Homing) → IsFormed m o → IsFormed m (homing_after clocks k states o)
 after_formed m clocks k states None f = tt
 after_formed m clocks k states (Some h) f =
     let g = hears_all clocks states h in
-    goes_formed m k g (answer_in k g.start g.group) (f.0, f.1, members_states clocks 0 h.start states h.group ∙ f.2, f.3)
+    goes_formed m k g (answer_in k g.start g.group) (f.0, f.1, states-kept clocks 0 h.start states h.group ∙ f.2, f.3)
 
 pub known_formed : (m : Machine) (switches : List Switch) (came : List Came) → GoesOn m switches came → IsFormed m (known_by m switches came).homing
 known_formed m switches [] g = tt

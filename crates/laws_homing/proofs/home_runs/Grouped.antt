@@ -1,50 +1,22 @@
 -- A homing group answers only once each of its boards has told that its trigger can't trigger.
 use Rattle.std.proofs.Common.{◌≡◌, ℕ, zero, suc, ◌+◌, ◌<◌, ◌≤◌, ◌==◌, inl, inr, Bool, true, false, cond, not, List, [], ◌∷◌, length, map, Option, Some, None, refl, ap, sym, ◌∙◌, subst, arith}
-use Rattle.std.proofs.lemmas.Bool.{eqb-true}
-use Rattle.std.proofs.lemmas.Bool.Decides.{leb_tells}
+use Rattle.laws_board.proofs.Names.{eqb-true, leb_tells, Level, Machine, SectionKind, Moves, Home, nearest, clock_of, Clocks, axis_at, board_at, turn_in_run, turn_tick, Cmd, News, Note, NoteNews, State, Entry, Switch, first_state, End, Member, Goes, Rests, Sends, Fired, Seen, GroupState, all_fired, phase, unseen, Homing, answer_in, goes_on_homing, hears_all, homing_after, members_from, members_of, Known, noted, known_behind, told_all, Reacted, Came, known_by, state_at, both_parts, states-kept}
 use Rattle.std.specs.Prelude.{nat_le, nat_lt}
-use Rattle.plan_types.specs.declared.levels.Level.{Level}
-use Rattle.plan_types.specs.declared.machine.Machine.{Machine}
-use Rattle.plan_types.specs.declared.plan.SectionKind.{SectionKind}
-use Rattle.plan_types.specs.declared.plan.SectionKind.TheVariants.{Moves, Home}
 use Rattle.plan_types.specs.declared.plan.TrigState.{TrigState}
-use Rattle.plan_types.specs.Board.{nearest}
-use Rattle.plan_types.specs.Clock.{clock_of}
-use Rattle.plan_types.specs.Lines.{Clocks}
-use Rattle.plan_types.specs.Machines.{axis_at, board_at}
-use Rattle.clock_line.specs.Early.{turn_in_run, turn_tick}
-use Rattle.msg_code.specs.declared.cmd.Cmd.{Cmd}
 use Rattle.msg_code.specs.declared.cmd.Cmd.TheVariants as cmd
-use Rattle.msg_code.specs.declared.talk.News.{News}
-use Rattle.msg_code.specs.declared.talk.Note.{Note}
-use Rattle.msg_code.specs.declared.talk.NoteNews.{NoteNews}
 use Rattle.msg_code.specs.declared.talk.NoteNews.TheVariants as news
-use Rattle.msg_code.specs.declared.talk.State.{State}
-use Rattle.wire_scene.specs.declared.scene.Entry.{Entry}
-use Rattle.wire_scene.specs.declared.scene.Switch.{Switch}
-use Rattle.link_work.specs.Stands.{first_state}
-use Rattle.trigger_group.specs.declared.order.End.{End}
-use Rattle.trigger_group.specs.declared.order.Member.{Member}
 use Rattle.trigger_group.specs.declared.round.Phase.{Phase}
-use Rattle.trigger_group.specs.declared.round.Phase.TheVariants.{Goes, Rests, Sends}
-use Rattle.trigger_group.specs.declared.seen.Fired.{Fired}
-use Rattle.trigger_group.specs.declared.seen.Seen.{Seen}
-use Rattle.trigger_group.specs.Group.{GroupState, after_in, all_fired, answer, came, ended, first_fired, has_fired, hears_from, later, new_group, phase, unseen}
+use Rattle.trigger_group.specs.Group.{after_in, answer, came, ended, first_fired, has_fired, hears_from, later, new_group}
 use Rattle.trigger_group.specs.Kept.{may_be}
-use Rattle.axis_homing.specs.declared.homing.Homing.{Homing}
-use Rattle.axis_homing.specs.Homing.{answer_in, came_at, goes_on_homing, hears_all, hears_answer, hears_news, hears_state, hears_states, homing_after, homing_of, homing_with, members_from}
-use Rattle.axis_homing.specs.Rising.{members_of}
-use Rattle.host_reactor.specs.declared.ordered.Known.{Known}
-use Rattle.host_reactor.specs.Notes.{noted, known_behind, told_all}
-use Rattle.host_reactor.specs.Reactor.{Reacted}
-use Rattle.host_reactor.specs.Runs.{Came, known_by, state_at}
+use Rattle.axis_homing.specs.Homing.{came_at, hears_answer, hears_news, hears_state, hears_states, homing_of, homing_with}
 use Rattle.laws_board.specs.turns.Turns.{AreBoardTurns, BoardTurn, latest_state}
 use Rattle.laws_board.specs.clocks.Runs.{IsInRun}
 use Rattle.laws_board.proofs.clocks.Lines.{run_before}
 use Rattle.laws_board.proofs.clocks.Turning.{goes}
 use Rattle.laws_homing.specs.home_runs.Told.{IsMember, TellFiredFrom}
 use Rattle.laws_homing.specs.home_runs.Windows.{IsFired, SayFired}
-use Rattle.laws_board.proofs.clocks.Askings.{both_true}
+use Rattle.plan_types.proofs.Facts.{was_le}
+use Rattle.axis_homing.proofs.Rises.{members-kept, either-members, at-kept, answer-kept, news-kept, either-group}
 
 -- of a board's members each that was heard to have triggered has told so
 abbrev pub SeenSo : ℕ → Type 0 → List Seen → Type 0
@@ -107,13 +79,10 @@ group_if : (c : Bool) (b : ℕ) (P : Type 0) (x g : GroupState) → (c ≡ true 
 group_if true b P x g k l = k refl
 group_if false b P x g k l = l
 
-is_le : (m n : ℕ) → nat_le m n ≡ true → m ≤ n
-is_le m n e = elim (leb_tells m n) [ inl p ↦ p.1 | inr p ↦ absurd (cc) ]
-
 group_state : (b board start : ℕ) (P : Type 0) (clocks : Clocks) (s : State) (g : GroupState) → GroupSo b P g → (board ≡ b → start ≤ s.turn + 1 → SayFired s.news → P) → GroupSo b P (hears_state clocks board start s g)
 group_state b board start P clocks s g k new =
     group_if (nat_le start (s.turn + 1)) b P (hears_news clocks board s.turn s.news g) g
-    (λ e. group_news b board s.turn P clocks s.news g k (λ same t. new same (is_le start (s.turn + 1) e) t)) k
+    (λ e. group_news b board s.turn P clocks s.news g k (λ same t. new same (was_le start (s.turn + 1) e) t)) k
 
 group_over : (b board start : ℕ) (P : Type 0) (clocks : List Clocks) (states : List State) (g : GroupState) → b < board → GroupSo b P g → GroupSo b P (hears_states clocks board start states g)
 group_over b board start P [] states g l k = k
@@ -175,7 +144,7 @@ noted_so m b turns None r k = k
 noted_so m b turns (Some note) r k = all_told_so m b turns note.news r k
 
 -- the states come
-sole_state : (s t : State) → t ∷ [] ≡ s ∷ [] → t ≡ s
+pub sole_state : (s t : State) → t ∷ [] ≡ s ∷ [] → t ≡ s
 sole_state s t e = cc
 
 told_from : (b start : ℕ) (m : Machine) (pins : List (List Level)) (entries : List Entry) (turns : List BoardTurn) (s : State) → AreBoardTurns (clock_of (board_at m b)) (first_state (board_at m b) pins b entries) turns
@@ -222,56 +191,15 @@ known_so m switches pins entries b (c ∷ before) (t ∷ turns) r =
       ]
     ]
 
--- the members are those that the section has from its begin on
-members_heard : (board tick turn : ℕ) (t : TrigState) (ss : List Seen) → map (λ (s : Seen). s.member) (map (hears_from board t tick turn) ss) ≡ map (λ (s : Seen). s.member) ss
-members_heard board tick turn t [] = refl
-members_heard board tick turn t (s ∷ ss) =
-    ap (λ (x : Member). x ∷ map (λ (s : Seen). s.member) (map (hears_from board t tick turn) ss)) (one (s.member.board == board) t.can)
-    ∙ ap (λ (l : List Member). s.member ∷ l) (members_heard board tick turn t ss)
-  where
-    one : (here can : Bool)
-        → (cond here (cond can (record s { heard = Some (later s.heard turn) }) (record s { fired = Some (first_fired s.fired (record { reason = t.reason; tick = tick; turn = turn })) })) s).member ≡ s.member
-    one true true = refl
-    one true false = refl
-    one false can = refl
-
-members_either : (c : Bool) (x g : GroupState) → members_of x ≡ members_of g → members_of (cond c x g) ≡ members_of g
-members_either true x g e = e
-members_either false x g e = refl
-
-list_either : (c : Bool) (xs ys : List Seen) → map (λ (s : Seen). s.member) ys ≡ map (λ (s : Seen). s.member) xs → map (λ (s : Seen). s.member) (cond c xs ys) ≡ map (λ (s : Seen). s.member) xs
-list_either true xs ys e = refl
-list_either false xs ys e = e
-
-members_at : (board tick : ℕ) (t : TrigState) (o : Option ℕ) (g : GroupState) → members_of (came_at board t tick o g) ≡ members_of g
-members_at board tick t None g = refl
-members_at board tick t (Some turn) g = list_either (nat_lt turn g.start) g.members (map (hears_from board t tick turn) g.members) (members_heard board tick turn t g.members)
-
-members_answer : (clocks : Clocks) (board turn : ℕ) (c : Cmd) (g : GroupState) → members_of (hears_answer clocks board turn c g) ≡ members_of g
-members_answer clocks board turn (cmd.TrsyncState oid can reason clock) g =
-    let at = nearest (turn_tick clocks turn) clock in
-    members_at board at (record { can = not (can == 0); reason = reason; clock = clock }) (turn_in_run clocks at) g
-members_answer clocks board turn c g = refl
-
-members_news : (clocks : Clocks) (board turn : ℕ) (ns : List News) (g : GroupState) → members_of (hears_news clocks board turn ns g) ≡ members_of g
-members_news clocks board turn [] g = refl
-members_news clocks board turn (n ∷ ns) g = members_news clocks board turn ns (hears_answer clocks board turn n.answer g) ∙ members_answer clocks board turn n.answer g
-
-pub members_states : (clocks : List Clocks) (board start : ℕ) (states : List State) (g : GroupState) → members_of (hears_states clocks board start states g) ≡ members_of g
-members_states [] board start states g = refl
-members_states (c ∷ clocks) board start [] g = refl
-members_states (c ∷ clocks) board start (s ∷ states) g =
-    members_states clocks (board + 1) start states (hears_state c board start s g) ∙ members_either (nat_le start (s.turn + 1)) (hears_news c board s.turn s.news g) g (members_news c board s.turn s.news g)
-
 -- each member was heard to have triggered
 among_fired : (b : ℕ) (P : Type 0) (xs : List Seen) → all_fired xs ≡ true → IsMember b (map (λ (s : Seen). s.member) xs) → SeenSo b P xs → P
 among_fired b P [] all is k = absurd is
-among_fired b P (x ∷ xs) all (inl e) k = one x.fired refl (both_true (has_fired x.fired) (all_fired xs) all).0
+among_fired b P (x ∷ xs) all (inl e) k = one x.fired refl (both_parts (has_fired x.fired) (all_fired xs) all).0
   where
     one : (o : Option Fired) → x.fired ≡ o → has_fired o ≡ true → P
     one None e h = cc
     one (Some f) same h = k.0 f e same
-among_fired b P (x ∷ xs) all (inr is) k = among_fired b P xs (both_true (has_fired x.fired) (all_fired xs) all).1 is k.1
+among_fired b P (x ∷ xs) all (inr is) k = among_fired b P xs (both_parts (has_fired x.fired) (all_fired xs) all).1 is k.1
 
 ended_all : (c : Bool) (a e : End) → cond c (Some a) None ≡ Some e → c ≡ true
 ended_all true a e h = refl
@@ -289,5 +217,5 @@ answered_told m switches pins entries b c before turns h e r at is ends among =
     let was : HomingSo b turns (Some h) = subst (λ (o : Option Homing). HomingSo b turns o) is (noted_so m b turns c.note (known_by m switches before) (known_so m switches pins entries b before turns r)) in
     let g = hears_all n.clocks c.states h in
     among_fired b (TellFiredFrom h.start turns) g.group.members (answered (nat_le h.start (length before)) g.group e ends)
-    (subst (λ (l : List Member). IsMember b l) (sym (members_states n.clocks 0 h.start c.states h.group)) among)
+    (subst (λ (l : List Member). IsMember b l) (sym (states-kept n.clocks 0 h.start c.states h.group)) among)
     (heard_so m pins entries b turns n.clocks c.states h r.turns_are at was)

@@ -1,27 +1,21 @@
 -- What commands and time keep of a stepper that is bound to a trigger.
 use Rattle.std.proofs.Common.{◌≡◌, ◌≢◌, ℕ, zero, suc, ◌+◌, ◌/◌, ◌%◌, ◌^◌, ◌<◌, ◌==◌, ◌&&◌, Bool, true, false, not, List, [], ◌∷◌, length, get_or, set, Option, Some, None, refl, ap, sym, ◌∙◌, subst, ◌⊎◌, inl, inr}
 use Rattle.std.specs.Prelude.{if◌then◌else◌, slice_index_or, nat_lt}
-use Rattle.std.proofs.lemmas.List.{get_or-set_same, length-set, length-map}
-use Rattle.std.proofs.lemmas.Bool.Decides.{leb_tells}
-use Rattle.plan_types.specs.declared.levels.Level.{Level}
-use Rattle.plan_types.specs.declared.plan.BoardState.{BoardState}
-use Rattle.plan_types.specs.declared.plan.BoardState.TheVariants.{Running, Shut}
-use Rattle.board_step.specs.Steps.{Pending}
+use Rattle.laws_board.proofs.Names.{get_or-set_same, length-map, leb_tells, Level, BoardState, Running, Shut, Pending, Trigger, Nothing, nearest, Cmd, Rig, Slot, Passed, slot_at, becomes, expires_at_once, set_timeout, acts, acts_running, takes, earliest_moment, runs_to, rests_to, happens_to, goes_on, at_of, passes_by, pass, passes, all_left, slot_range, one_slot, no_both}
+use Rattle.std.proofs.lemmas.List.{length-set}
 use Rattle.board_trig.specs.declared.sampling.Homing.{Homing}
-use Rattle.board_trig.specs.declared.trigger.Trigger.{Trigger}
-use Rattle.board_trig.specs.declared.trigger.Happening.TheVariants.{Nothing}
 use Rattle.board_trig.specs.Trigger as trig
 use Rattle.board_trig.proofs.Nexts.{was_before, was_switch}
-use Rattle.plan_types.specs.Board.{nearest}
-use Rattle.msg_code.specs.declared.cmd.Cmd.{Cmd}
 use Rattle.msg_code.specs.declared.cmd.Cmd.TheVariants as cmd
 use Rattle.board_sim.specs.Board.{stepper_at}
-use Rattle.board_sim.specs.Rig.{Rig, Slot, Passed, slot_at, levels_of, becomes, make_trigger, make_endstop, start_trigger, expires_at_once, set_timeout, trigger, bind, home, by_board, acts, acts_running, takes, earliest_moment, runs_to, rested, rests_to, happens_to, happens_at, goes_on, at_of, passes_by, pass, passes, all_left}
+use Rattle.board_sim.specs.Rig.{levels_of, make_trigger, make_endstop, start_trigger, trigger, bind, home, by_board, rested, happens_at}
 use Rattle.board_sim.specs.RigRuns.{has, IsHalted, IsBehindSetUp}
 use Rattle.board_sim.proofs.RigPlaces.{there_is, is_there, halted_is, is_halted}
 use Rattle.board_sim.proofs.RigCommands.{IsIn, takes_is, passes_is}
-use Rattle.board_sim.proofs.Bound.{slot_range, same_or_not, one_slot, set_other, halts_is, halts_all, both_true, or_true, map_at}
+use Rattle.board_sim.proofs.Bound.{same_or_not, set_other, halts_is, halts_all, both_true, map_at}
 use Rattle.laws_homing.specs.home_runs.Guards.{HasFired, IsCalm, IsGuarded, HasNoTimeout, IsSole, StandsFired}
+use Rattle.plan_types.proofs.Facts.{true_or_false}
+use Rattle.std.proofs.lemmas.Bool.{or_right}
 
 -- what becomes of a trigger that isn't started anew: where it can't trigger, it can't on; and where it has no timeout then, its reason and tick stay
 pub record Stays (t u : Trigger) : Type 0 where
@@ -45,21 +39,13 @@ pub record Next (i j : ℕ) (r q : Rig) : Type 0 where
   pub sole : IsSole j r → IsSole j q
   pub quiet : HasNoTimeout j r → HasNoTimeout j q
 
-no_other : (b : Bool) → b ≡ true → b ≡ false → ⊥
-no_other true e f = cc
-no_other false e f = cc
-
-pub true_or_false : (b : Bool) → (b ≡ true) ⊎ (b ≡ false)
-true_or_false true = inl refl
-true_or_false false = inr refl
-
 still_fired : (can fired : Bool) → (can ≡ true → fired ≡ true) → fired ≡ false → can ≡ false
-still_fired true fired f e = absurd (no_other fired (f refl) e)
+still_fired true fired f e = absurd (no_both fired (f refl) e)
 still_fired false fired f e = refl
 
 -- a trigger that could trigger, and one of which only other things change
 stays_could : (t u : Trigger) → t.can ≡ true → (u.can ≡ false → u.timeout ≡ None) → Stays t u
-stays_could t u could none = record { can = λ c. could; quiet = λ k. none; same = λ f. absurd (no_other t.can could f) }
+stays_could t u could none = record { can = λ c. could; quiet = λ k. none; same = λ f. absurd (no_both t.can could f) }
 
 stays_as : (t u : Trigger) → u.can ≡ t.can → u.timeout ≡ t.timeout → u.reason ≡ t.reason → u.tick ≡ t.tick → Stays t u
 stays_as t u can timeout reason tick = record { can = λ c. sym can ∙ c; quiet = λ k f. timeout ∙ k (sym can ∙ f); same = λ f none. (reason, tick) }
@@ -83,7 +69,7 @@ quiet_by i j s r q at b quiet v is = subst (λ (x : Slot). x.trigger.can ≡ fal
 
 pub next_same : (i j : ℕ) (r : Rig) → Next i j r r
 next_same i j r = record {
-  slots = λ s e. record { slot = s; is = e; bound = λ b. b; stays = stays_self s.trigger; stops = λ stopped could b is. absurd (no_other s.trigger.can could stopped) };
+  slots = λ s e. record { slot = s; is = e; bound = λ b. b; stays = stays_self s.trigger; stops = λ stopped could b is. absurd (no_both s.trigger.can could stopped) };
   keep = λ h is. is;
   places = refl;
   sole = λ x. x;
@@ -152,7 +138,7 @@ record Own (i : ℕ) (s u : Slot) (r q : Rig) : Type 0 where
 
 other_next : (i j : ℕ) (r q : Rig) → slot_at q j ≡ slot_at r j → length q.triggers ≡ length r.triggers → (IsSole j r → IsSole j q) → ((h : Bool) → IsIn h i r.controller → IsIn h i q.controller) → Next i j r q
 other_next i j r q e places sole keep = record {
-  slots = λ s at. record { slot = s; is = e ∙ at; bound = λ b. b; stays = stays_self s.trigger; stops = λ stopped could b is. absurd (no_other s.trigger.can could stopped) };
+  slots = λ s at. record { slot = s; is = e ∙ at; bound = λ b. b; stays = stays_self s.trigger; stops = λ stopped could b is. absurd (no_both s.trigger.can could stopped) };
   keep = keep;
   places = places;
   sole = sole;
@@ -238,7 +224,7 @@ expires_next i j oid None r s t at stays = becomes_next i j oid r s t at (λ sam
 expires_next i j oid (Some n) r s t at stays = becomes_next i j oid r s (record t { untold = None }) at (λ same. record { can = stays.can; quiet = stays.quiet; same = stays.same })
 
 timeout_stays : (can early : Bool) (now tick : ℕ) (t : Trigger) → t.can ≡ can → Stays t (if can then (if early then record t { timeout = Some tick } else record (trig.fired now t.expire t) { untold = Some now }) else t)
-timeout_stays true true now tick t e = stays_could t (record t { timeout = Some tick }) e (λ f. absurd (no_other t.can e f))
+timeout_stays true true now tick t e = stays_could t (record t { timeout = Some tick }) e (λ f. absurd (no_both t.can e f))
 timeout_stays true false now tick t e = stays_could t (record (trig.fired now t.expire t) { untold = Some now }) e (λ f. refl)
 timeout_stays false early now tick t e = stays_self t
 
@@ -262,9 +248,9 @@ bind_next i j oid other r (Some q) None e = next_same i j r
 bind_next i j oid other r (Some q) (Some s) e =
     next_by i j other s (record s { bound = oid ∷ s.bound }) r (bind r oid (Some q) other (Some s)) e refl (λ h is. halts_is (not s.trigger.can) (oid ∷ []) r.controller i h is)
     (λ same. record {
-      bound = λ member. or_true (i == oid) (has i s.bound) member;
+      bound = λ member. or_right (i == oid) (has i s.bound) member;
       stays = stays_self s.trigger;
-      stops = λ stopped could member is. absurd (no_other s.trigger.can could stopped);
+      stops = λ stopped could member is. absurd (no_both s.trigger.can could stopped);
     })
     (same_or_not other j)
 
@@ -276,7 +262,7 @@ home_next i j other r (Some pin) (Some s) h e =
     (λ same. record {
       bound = λ member. member;
       stays = stays_as s.trigger (trig.sampling r.controller.tick h s.trigger) refl refl refl refl;
-      stops = λ stopped could member is. absurd (no_other s.trigger.can could stopped);
+      stops = λ stopped could member is. absurd (no_both s.trigger.can could stopped);
     })
     (same_or_not other j)
 
@@ -342,7 +328,7 @@ rests_becomes i j r t s e =
       is = map_at (rested r.pins t) r.triggers j refl ∙ ap (λ (o : Option Slot). rested r.pins t o) e;
       bound = λ b. b;
       stays = stays_as s.trigger rests refl refl refl refl;
-      stops = λ stopped could b is. absurd (no_other s.trigger.can could stopped);
+      stops = λ stopped could b is. absurd (no_both s.trigger.can could stopped);
     }
 
 rests_quiet : (i j : ℕ) (r : Rig) (t : ℕ) → HasNoTimeout j r → HasNoTimeout j (rests_to r t).rig
@@ -366,7 +352,7 @@ happened_stays e (Some tick) None levels until t at on =
     let is = was_switch levels (trig.or_until until (trig.expiry_of until t)) t.can t.sampling tick on in
     stays_could t (trig.fired tick (trig.reason_of t.sampling) t) is.0.1 (λ f. refl)
 happened_stays (Some tick) None None levels until t at on = record {
-  can = λ (c : false ≡ true). absurd (no_other false c refl);
+  can = λ (c : false ≡ true). absurd (no_both false c refl);
   quiet = λ k f. refl;
   same = λ f none. let bad : None ≡ Some tick = sym none ∙ (was_before until t.timeout tick at).0 in absurd (cc);
 }

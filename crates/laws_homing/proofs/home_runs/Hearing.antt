@@ -1,33 +1,13 @@
 -- What a homing group hears of a member that could trigger, over a run.
 use Rattle.std.proofs.Common.{◌≡◌, ℕ, ◌+◌, ◌++◌, ◌≤◌, inl, inr, Bool, true, false, cond, List, [], ◌∷◌, length, map, Option, Some, None, sym, ◌∙◌, subst, arith}
-use Rattle.plan_types.specs.declared.levels.Level.{Level}
-use Rattle.plan_types.specs.declared.machine.Machine.{Machine}
-use Rattle.plan_types.specs.declared.plan.SectionKind.{SectionKind}
-use Rattle.plan_types.specs.declared.plan.SectionKind.TheVariants.{Moves, Home}
-use Rattle.plan_types.specs.Lines.{Clocks}
-use Rattle.plan_types.specs.Machines.{IsValidMachine, axis_at}
-use Rattle.plan_types.specs.Sections.{clocks_at}
-use Rattle.msg_code.specs.declared.talk.News.{News}
-use Rattle.msg_code.specs.declared.talk.Note.{Note}
-use Rattle.msg_code.specs.declared.talk.NoteNews.{NoteNews}
+use Rattle.laws_board.proofs.Names.{Level, Machine, SectionKind, Moves, Home, Clocks, IsValidMachine, axis_at, clocks_at, News, Note, NoteNews, Entry, Switch, End, Member, Seen, unseen, Homing, answer_in, goes_on_homing, hears_all, homing_after, members_from, members_of, Known, noted, known_behind, told_all, Reacted, Came, GoesOn, known_by, states-kept}
 use Rattle.msg_code.specs.declared.talk.NoteNews.TheVariants as news
-use Rattle.wire_scene.specs.declared.scene.Entry.{Entry}
-use Rattle.wire_scene.specs.declared.scene.Switch.{Switch}
-use Rattle.trigger_group.specs.declared.order.End.{End}
-use Rattle.trigger_group.specs.declared.order.Member.{Member}
-use Rattle.trigger_group.specs.declared.seen.Seen.{Seen}
-use Rattle.trigger_group.specs.Group.{new_group, unseen}
+use Rattle.trigger_group.specs.Group.{new_group}
 use Rattle.trigger_group.specs.Kept.{may_be}
 use Rattle.trigger_group.proofs.Answering.{none_there}
 use Rattle.trigger_group.proofs.Bounds.{UpTo, by_heard}
 use Rattle.trigger_group.proofs.Knows.{after_members}
-use Rattle.axis_homing.specs.declared.homing.Homing.{Homing}
-use Rattle.axis_homing.specs.Homing.{answer_in, goes_on_homing, hears_all, homing_after, homing_of, homing_with, members_from}
-use Rattle.axis_homing.specs.Rising.{members_of}
-use Rattle.host_reactor.specs.declared.ordered.Known.{Known}
-use Rattle.host_reactor.specs.Notes.{noted, known_behind, told_all}
-use Rattle.host_reactor.specs.Reactor.{Reacted}
-use Rattle.host_reactor.specs.Runs.{Came, GoesOn, known_by}
+use Rattle.axis_homing.specs.Homing.{homing_of, homing_with}
 use Rattle.laws_board.specs.turns.Turns.{BoardTurn}
 use Rattle.laws_board.proofs.clocks.Controls.{states_start}
 use Rattle.laws_board.proofs.clocks.Turning.{goes}
@@ -38,7 +18,6 @@ use Rattle.laws_homing.specs.home_runs.SetUps.{IsBoundIn, StopsAt}
 use Rattle.laws_homing.specs.home_runs.Timeouts.{BeginsBy, CouldUpTo, TakesSent, known_in}
 use Rattle.laws_homing.specs.home_runs.Told.{IsMember}
 use Rattle.laws_homing.proofs.clear_groups.Noticing.{AllAbleBy, hears_until}
-use Rattle.laws_homing.proofs.home_runs.Grouped.{members_states}
 use Rattle.laws_homing.proofs.home_runs.Timeouts.{AllWithinFrom, stops_under}
 
 able_by : (clocks : Clocks) (turn most : ℕ) (ns : List News) → ((when : ℕ) → TellAble clocks turn when ns → when ≤ most)
@@ -135,7 +114,7 @@ module _ (m : Machine) (switches : List Switch) (b start u : ℕ) (late : start 
         let of : IsOf start ms (Some h) = subst (IsOf start ms) is (homes.0 since).1 in
         let was : HeardSo (Some h) = subst HeardSo is (noted_so c.note (known_by m switches before) (known_so before g.1 could.1)) in
         let begins : now.group.start ≡ start = states_start n.clocks 0 h.start c.states h.group ∙ of.1 in
-        let members : members_of now.group ≡ ms = members_states n.clocks 0 h.start c.states h.group ∙ of.2 in
+        let members : members_of now.group ≡ ms = states-kept n.clocks 0 h.start c.states h.group ∙ of.2 in
         let heard = up_to b start u now.group.members (heard_so c before h could was of.0) (subst (IsMember b) (sym members) member) in
         by_heard ([] ∷ []) (length before) b u now.group (omega (arith, begins, late)) (λ q there. absurd (none_there q there))
         (subst (λ (s : ℕ). UpTo b s u now.group.members) (sym begins) heard)),

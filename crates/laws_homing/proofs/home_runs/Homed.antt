@@ -1,16 +1,6 @@
 -- A homing section that a word tells of is one whose set-up each board took in time.
 use Rattle.std.proofs.Common.{◌≡◌, ℕ, ◌+◌, ◌-◌, ◌<◌, ◌≤◌, true, List, [], ◌∷◌, ◌++◌, length, map, Option, ap, sym, ◌∙◌, subst, arith}
-use Rattle.plan_types.specs.declared.levels.Level.{Level}
-use Rattle.plan_types.specs.declared.machine.Machine.{Machine}
-use Rattle.plan_types.specs.Clock.{clock_of}
-use Rattle.plan_types.specs.Lines.{Clocks}
-use Rattle.plan_types.specs.Machines.{IsValidMachine, board_at}
-use Rattle.msg_code.specs.declared.talk.State.{State}
-use Rattle.wire_scene.specs.declared.scene.Entry.{Entry}
-use Rattle.wire_scene.specs.declared.scene.Switch.{Switch}
-use Rattle.link_work.specs.Stands.{first_state}
-use Rattle.link_work.specs.Turn.{LinkState, Orders}
-use Rattle.board_world.specs.World.{new_world}
+use Rattle.laws_board.proofs.Names.{Level, Machine, clock_of, Clocks, IsValidMachine, board_at, State, Entry, Switch, first_state, LinkState, Orders, new_world, Member, members_of}
 use Rattle.laws_board.specs.sections.Courses.{AllHeed, courses}
 use Rattle.laws_board.specs.sections.Events.{AreOwn}
 use Rattle.laws_board.specs.sections.Homes.{AreOrdersIn, AreSoon, BeginLeftOf, IsHomeBoard, IsHomeRun, IsSplitIn, RunSection, lost_at}
@@ -18,8 +8,6 @@ use Rattle.laws_board.specs.sections.Links.{AreTold, steps_of, turns_told}
 use Rattle.laws_board.specs.sections.Timely.{AllTimely}
 use Rattle.laws_board.proofs.sections.HomeCut.{ended_by, front_queued, split_soon}
 use Rattle.trigger_group.specs.declared.order.End.TheVariants.{Endstop}
-use Rattle.trigger_group.specs.declared.order.Member.{Member}
-use Rattle.axis_homing.specs.Rising.{members_of}
 use Rattle.laws_board.specs.turns.Turns.{AreBoardTurns, BoardTurn}
 use Rattle.laws_board.specs.clocks.Runs.{orders_in}
 use Rattle.laws_board.proofs.clocks.Lines.{as_long}

@@ -1,47 +1,18 @@
 -- In the turn in which a homing group answers, every stepper that moves is halted.
 use Rattle.std.proofs.Common.{◌≡◌, ℕ, suc, ◌+◌, ◌<◌, ◌≤◌, inl, inr, List, [], ◌∷◌, ◌++◌, length, drop, Option, Some, None, refl, ap, sym, ◌∙◌, subst, arith, append_assoc, append-nil}
-use Rattle.std.proofs.lemmas.Bool.Decides.{leb_tells}
-use Rattle.std.proofs.lemmas.List.{append_cancel_left, take-append-drop}
-use Rattle.plan_types.specs.declared.levels.Level.{Level}
-use Rattle.plan_types.specs.declared.machine.BoardDef.{BoardDef}
-use Rattle.plan_types.specs.declared.machine.Machine.{Machine}
-use Rattle.plan_types.specs.declared.plan.BoardState.TheVariants.{Running}
-use Rattle.plan_types.specs.declared.clock.BoardClock.{BoardClock}
-use Rattle.plan_types.specs.Clock.{clock_of}
-use Rattle.plan_types.specs.Machines.{IsValidMachine, board_at, stepper_at}
-use Rattle.msg_code.specs.declared.talk.Note.{Note}
-use Rattle.msg_code.specs.declared.talk.NoteNews.{NoteNews}
+use Rattle.laws_board.proofs.Names.{leb_tells, append_cancel_left, take-append-drop, Level, BoardDef, Machine, Running, BoardClock, clock_of, IsValidMachine, board_at, stepper_at, Note, NoteNews, Entry, Switch, Meant, commands_of, Core, queued_in, first_state, orders, IsTurn, LinkState, Orders, turns_are_steps, End, Member, Homing, answer_in, hears_all, members_of, trigger_of, Connecting, Known, noted, known_behind, told_all, Reacted, Came, GoesOn, known_by, state_at}
 use Rattle.msg_code.specs.declared.talk.NoteNews.TheVariants as news
-use Rattle.wire_scene.specs.declared.scene.Entry.{Entry}
-use Rattle.wire_scene.specs.declared.scene.Switch.{Switch}
 use Rattle.board_sim.specs.Board as board
-use Rattle.board_sim.specs.Fair.{Meant, commands_of}
 use Rattle.board_sim.specs.RigRuns.{IsHalted}
-use Rattle.board_world.specs.World.{Core}
 use Rattle.board_world.proofs.Runs.{all_orders}
-use Rattle.link_work.specs.Runs.{queued_in}
-use Rattle.link_work.specs.Stands.{first_state, orders}
-use Rattle.link_work.specs.Turn.{IsTurn, LinkState, Orders}
-use Rattle.link_work.proofs.Turns.{turns_are_steps}
-use Rattle.trigger_group.specs.declared.order.End.{End}
-use Rattle.trigger_group.specs.declared.order.Member.{Member}
 use Rattle.trigger_group.specs.Kept.{BoardsRise}
-use Rattle.axis_homing.specs.declared.homing.Homing.{Homing}
-use Rattle.axis_homing.specs.Homing.{answer_in, hears_all}
-use Rattle.axis_homing.specs.Rising.{HomingRises, members_of}
+use Rattle.axis_homing.specs.Rising.{HomingRises}
 use Rattle.axis_homing.proofs.Rises.{homing-rises, started-rises}
-use Rattle.board_asking.specs.Machine.{trigger_of}
-use Rattle.host_reactor.specs.declared.ordered.Phase.TheVariants.{Connecting}
-use Rattle.host_reactor.specs.declared.ordered.Known.{Known}
-use Rattle.host_reactor.specs.Notes.{noted, known_behind, told_all}
-use Rattle.host_reactor.specs.Reactor.{Reacted}
-use Rattle.host_reactor.specs.Runs.{Came, GoesOn, known_by, state_at}
 use Rattle.laws_board.specs.turns.Turns.{AreBoardTurns, BoardTurn, latest_state, stands_after}
 use Rattle.laws_board.specs.clocks.Runs.{IsInRun}
 use Rattle.laws_board.proofs.clocks.Lines.{as_long, run_before}
 use Rattle.laws_board.proofs.clocks.Made.{made_none, made_once}
 use Rattle.laws_board.proofs.clocks.Turning.{goes}
-use Rattle.laws_board.proofs.orders.Controlled.{few_on}
 use Rattle.laws_homing.specs.home_runs.Guards.{AreCalm}
 use Rattle.laws_homing.specs.home_runs.Sections.{HomesFrom, GroupAnswers, IsMoved, IsOf, Moves, TakesSetUp, SetNoneFrom, queued_in_turns}
 use Rattle.laws_homing.specs.home_runs.Stages.{no_stage, stage_from}
@@ -54,6 +25,8 @@ use Rattle.laws_homing.proofs.home_runs.Setting.{Binds, which}
 use Rattle.laws_homing.proofs.home_runs.Staging.{commands_both, ran_turns, stage_append, staged_after}
 use Rattle.laws_homing.proofs.home_runs.Whole.{IsWhole, binds_turn, brings_calm, run_only, run_ready, stage_turn, turn_only, whole_by, whole_on}
 use Rattle.laws_homing.proofs.home_runs.Windows.{ordered_after, told_halts}
+use Rattle.laws_board.proofs.causes.Four.{turn_queued}
+use Rattle.axis_homing.proofs.Room.{on-few}
 
 -- of a stepper that moves, behind the turn in which it is bound
 BindsAt : Machine → List Switch → List (List Level) → List Entry → ℕ → ℕ → ℕ → ℕ → List Member → Type 0
@@ -136,12 +109,6 @@ earlier m switches pins entries b [] (t ∷ window) past i from start ms r homes
 earlier m switches pins entries b (c ∷ before) (t ∷ window) past i from start ms r homes none =
     earlier m switches pins entries b before window past i from start ms (run_before m switches pins entries b c before t (window ++ past) r) homes.1 none.1
 
--- what was queued
-turn_queued : (clock : BoardClock) (turn : ℕ) (o : Orders) (l n : LinkState) → IsTurn clock turn o l n → n.core.queued ≡ l.core.queued ++ queued_in o
-turn_queued clock turn o l n t =
-    let steps = turns_are_steps clock turn (o ∷ []) l n (n, t, refl) in
-    ap (λ (h : Core). h.queued) steps.1 ∙ all_orders steps.0 l.core ∙ ap (λ (ms : List Meant). l.core.queued ++ ms) (steps.2 ∙ append-nil (queued_in o))
-
 pub all_queued : (b : BoardDef) (pins : List (List Level)) (board : ℕ) (entries : List Entry) (turns : List BoardTurn) → AreBoardTurns (clock_of b) (first_state b pins board entries) turns
     → (stands_after (first_state b pins board entries) turns).core.queued ≡ queued_in_turns turns
 all_queued b pins board entries [] are = refl
@@ -161,7 +128,7 @@ late_parts i j (t ∷ late) past =
 oid_small : (m : Machine) (switches : List Switch) (pins : List (List Level)) (entries : List Entry) (b : ℕ) (came : List Came) (turns : List BoardTurn) (s : ℕ) → IsValidMachine m → IsInRun m switches pins entries b came turns
     → ((known_by m switches came).phase ≡ Connecting → ⊥) → s < length m.steppers → (stepper_at m s).board ≡ b → (stepper_at m s).oid < 256
 oid_small m switches pins entries b came turns s v r n l e =
-    let few : trigger_of m b ≤ 16 = let q = v.steppers_few in omega (arith, few_on b m.steppers, q) in
+    let few : trigger_of m b ≤ 16 = let q = v.steppers_few in omega (arith, on-few b m.steppers, q) in
     let one = made_once m switches pins entries b came turns v r n s l e in
     elim (leb_tells (trigger_of m b) (stepper_at m s).oid) [
       | inl p ↦ let none = made_none m switches pins entries b came turns v r (stepper_at m s).oid p.1 in absurd (omega (arith, one, none))
@@ -216,7 +183,7 @@ set_up m switches pins entries b came late past s from start ms more v r homes n
     ap (λ (x : List Meant). stage_from i j no_stage (commands_of x)) (sym took) ∙ ap (stage_from i j no_stage) (commands_both (queued_in_turns past) more) ∙ stage_append i j no_stage (commands_of (queued_in_turns past)) (commands_of more) in
     let now : IsWhole (stage_from i j no_stage (commands_of h.taken)) = subst IsWhole (sym stage_is) (whole_on i j (stage_from i j no_stage (commands_of (queued_in_turns past))) (commands_of more) (calm_each i j more calm.0) whole) in
     let small = small_by m switches pins entries b old.came past s from start ms v old.run old.homes (omega (arith, early, soon)) l e in
-    let few : j < 256 = let q = v.steppers_few in omega (arith, few_on b m.steppers, q) in
+    let few : j < 256 = let q = v.steppers_few in omega (arith, on-few b m.steppers, q) in
     let staged = (staged_after d pins b entries (late ++ past) i j small few r.turns_are).staged runs in
     record {
       guarded = staged.bound now.bound;

@@ -1,46 +1,23 @@
 -- A homing section is known from its note until the word that tells of its answer.
 use Rattle.std.proofs.Common.{◌≡◌, ℕ, suc, ◌+◌, ◌<◌, ◌≤◌, ◌⊎◌, inl, inr, Bool, true, false, cond, List, [], ◌∷◌, ◌++◌, length, Option, Some, None, refl, ap, sym, ◌∙◌, subst, arith}
-use Rattle.std.proofs.lemmas.Bool.Decides.{leb_tells}
-use Rattle.plan_types.specs.declared.cause.Cause.{Cause}
-use Rattle.plan_types.specs.declared.machine.Machine.{Machine}
-use Rattle.plan_types.specs.Lines.{Clocks}
-use Rattle.plan_types.specs.Machines.{axis_at}
-use Rattle.msg_code.specs.declared.talk.Note.{Note}
-use Rattle.msg_code.specs.declared.talk.NoteNews.{NoteNews}
+use Rattle.laws_board.proofs.Names.{leb_tells, Cause, Machine, Clocks, axis_at, Note, NoteNews, State, ReportLine, Switch, End, Member, Goes, Rests, Sends, GroupState, turned_group, all_fired, phase, Homing, HomingTurn, answer_in, by_answer, goes_on_homing, hears_all, homing_after, homing_turn, members_of, Asking, listen_all, stale, Known, Phase, Connecting, Stopping, is_out, news_of, noted, known_behind, told_all, first_lines, first_cause, Reacted, by_phase, cut_line, reacts, unless_ended, unless_stale, Came, GoesOn, known_by, last_reacted, states-kept}
 use Rattle.msg_code.specs.declared.talk.NoteNews.TheVariants as news
-use Rattle.msg_code.specs.declared.talk.State.{State}
 use Rattle.msg_code.specs.declared.talk.WordNews.{WordNews}
 use Rattle.msg_code.specs.declared.talk.WordNews.TheVariants as word
-use Rattle.report_text.specs.declared.line.ReportLine.{ReportLine}
-use Rattle.wire_scene.specs.declared.scene.Switch.{Switch}
-use Rattle.trigger_group.specs.declared.order.End.{End}
 use Rattle.trigger_group.specs.declared.order.End.TheVariants as end
-use Rattle.trigger_group.specs.declared.order.Member.{Member}
-use Rattle.trigger_group.specs.declared.round.Phase.TheVariants.{Goes, Rests, Sends}
 use Rattle.trigger_group.specs.declared.round.Phase.{Phase as GroupPhase}
-use Rattle.trigger_group.specs.Group.{GroupState, turned_group, after_in, all_fired, phase}
-use Rattle.axis_homing.specs.declared.homing.Homing.{Homing}
-use Rattle.axis_homing.specs.declared.homing.HomingTurn.{HomingTurn}
-use Rattle.axis_homing.specs.Homing.{answer_in, by_answer, goes_on_homing, hears_all, homing_after, homing_turn}
-use Rattle.axis_homing.specs.Rising.{members_of}
-use Rattle.board_asking.specs.declared.asking.Asking.{Asking}
-use Rattle.board_asking.specs.Connecting.{listen_all}
-use Rattle.board_asking.specs.Drift.{new_line, new_lines, stale}
-use Rattle.host_reactor.specs.declared.ordered.Known.{Known}
-use Rattle.host_reactor.specs.declared.ordered.Phase.{Phase}
-use Rattle.host_reactor.specs.declared.ordered.Phase.TheVariants.{Connecting, Running, Stopping}
-use Rattle.host_reactor.specs.Notes.{is_out, news_of, noted, known_behind, told_all}
-use Rattle.host_reactor.specs.Report.{first_lines}
-use Rattle.host_reactor.specs.Running.{first_cause}
-use Rattle.host_reactor.specs.Reactor.{Reacted, after_homing, by_phase, cut_line, homed, phase_after, reacts, unless_ended, unless_homing_ends, unless_stale}
-use Rattle.host_reactor.specs.Runs.{Came, GoesOn, known_by, last_reacted}
+use Rattle.trigger_group.specs.Group.{after_in}
+use Rattle.board_asking.specs.Drift.{new_line, new_lines}
+use Rattle.host_reactor.specs.declared.ordered.Phase.TheVariants.{Running}
+use Rattle.host_reactor.specs.Reactor.{after_homing, homed, phase_after, unless_homing_ends}
 use Rattle.laws_board.proofs.clocks.Controls.{states_start}
 use Rattle.laws_board.proofs.clocks.Lines.{noted_phase}
 use Rattle.laws_board.proofs.clocks.Turning.{Goes as Going, RunsOn, goes}
 use Rattle.laws_homing.specs.home_runs.Sections.{HomesFrom, IsOf}
 use Rattle.laws_homing.specs.home_runs.Words.{BeginsNone, IsBegunIn, TellsHomed}
-use Rattle.laws_homing.proofs.home_runs.Forming.{in_formed}
-use Rattle.laws_homing.proofs.home_runs.Grouped.{members_states}
+use Rattle.host_reactor.proofs.Connects.{stop-phase}
+use Rattle.axis_homing.proofs.Starts.{in_start}
+use Rattle.axis_homing.proofs.Rises.{in-kept}
 
 abbrev end_of : Reacted → Option Cause
 end_of x = x.ordered.end
@@ -144,10 +121,6 @@ running_now m r k states x (inl g) n = absurd (n g.phase)
 running_now m r k states x (inr (inl g)) n = absurd (n g.phase)
 running_now m r k states x (inr (inr g)) n = g
 
-pub not_connecting : (stop : Option ℕ) → phase_after stop ≡ Connecting → ⊥
-not_connecting None e = cc
-not_connecting (Some line) e = cc
-
 -- the note
 told_none : (m : Machine) (r : Known) (n : NoteNews) → BeginsNone (n ∷ []) → (known_behind m r n).homing ≡ r.homing
 told_none m r (news.Start section kind turn last moving) b = absurd b
@@ -174,11 +147,6 @@ start_either : (c : Bool) (g x : GroupState) → x.start ≡ g.start → (cond c
 start_either true g x e = refl
 start_either false g x e = e
 
-pub group_start : (p : GroupPhase) (g : GroupState) (turn : ℕ) → (after_in p g turn).start ≡ g.start
-group_start (Sends round) g turn = refl
-group_start Goes g turn = start_either (all_fired g.members) g _ refl
-group_start Rests g turn = refl
-
 still_of : (clocks : List Clocks) (k start : ℕ) (states : List State) (ms : List Member) (o : Option Homing) → IsOf start ms o → (homing_turn clocks k states o).cut ≡ None → (homing_turn clocks k states o).end ≡ None
     → IsOf start ms (homing_after clocks k states o)
 still_of clocks k start states ms None of c e = absurd of
@@ -187,7 +155,7 @@ still_of clocks k start states ms (Some h) of c e =
     let none = no_answer k g (answer_in k g.start g.group) c e in
     let p = phase g.group.start g.group.last k in
     subst (λ (o : Option End). IsOf start ms (goes_on_homing k g o)) (sym none)
-    (of.0, group_start p g.group k ∙ states_start clocks 0 h.start states h.group ∙ of.1, in_formed p g.group k ∙ members_states clocks 0 h.start states h.group ∙ of.2)
+    (of.0, in_start p g.group k ∙ states_start clocks 0 h.start states h.group ∙ of.1, in-kept p g.group k ∙ states-kept clocks 0 h.start states h.group ∙ of.2)
 
 -- what is known as the next turn begins
 record IsKnown (m : Machine) (switches : List Switch) (start : ℕ) (ms : List Member) (came : List Came) : Type 0 where
@@ -206,7 +174,7 @@ after_known m switches start ms c before end_is n of none =
     let cut = none_cut m now k c.states x g none in
     let ended = turn_end m switches known k c.states c.note g.phase end_is in
     record {
-      past = λ e. not_connecting g.stop (sym (ap (λ (y : Reacted). y.known.phase) g.is) ∙ e);
+      past = λ e. stop-phase g.stop (sym (ap (λ (y : Reacted). y.known.phase) g.is) ∙ e);
       of = subst (λ (y : Reacted). IsOf start ms y.known.homing) (sym g.is) (still_of now.clocks k start c.states ms now.homing of cut ended);
     }
 

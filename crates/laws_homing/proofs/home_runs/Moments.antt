@@ -1,26 +1,17 @@
 -- What a board tells of triggers that can trigger is of moments at which they could.
 use Rattle.std.proofs.Common.{◌≡◌, ℕ, zero, suc, ◌+◌, ◌-◌, ◌*◌, ◌/◌, ◌%◌, ◌^◌, ◌<◌, ◌≤◌, ◌==◌, Bool, true, false, List, [], ◌∷◌, get_or, Option, Some, None, refl, ap, sym, ◌∙◌, subst, arith, ◌⊎◌, inl, inr}
 use Rattle.std.specs.Prelude.{if◌then◌else◌, slice_index_or}
-use Rattle.std.proofs.lemmas.List.{get_or-set_same}
-use Rattle.std.proofs.lemmas.Bool.Decides.{nat_tests}
-use Rattle.plan_types.specs.declared.levels.Level.{Level}
-use Rattle.plan_types.specs.declared.plan.BoardState.{BoardState}
-use Rattle.plan_types.specs.declared.plan.BoardState.TheVariants.{Running, Shut}
-use Rattle.plan_types.specs.Board.{nearest}
-use Rattle.board_trig.specs.declared.trigger.Trigger.{Trigger}
-use Rattle.board_trig.specs.declared.trigger.Happening.{Happening}
-use Rattle.board_trig.specs.declared.trigger.Happening.TheVariants.{Nothing, Expires, Switches, Reports}
+use Rattle.laws_board.proofs.Names.{get_or-set_same, nat_tests, Level, BoardState, Running, Shut, nearest, Trigger, Happening, Nothing, Expires, Switches, Reports, Cmd, Passed, Rig, Slot, acts_running, all_left, at_of, becomes, earliest_moment, goes_on, happens_to, pass, passes_by, rests_to, runs_to, slot_at, takes, AllSound, one_slot, slot_range}
 use Rattle.board_trig.specs.Trigger as trig
 use Rattle.board_trig.specs.Kept.{MovesOn}
 use Rattle.board_trig.specs.Nexts.{ExpiresAt, IsNextOf, SwitchesAt}
 use Rattle.board_trig.proofs.Nexts.{is_next}
-use Rattle.msg_code.specs.declared.cmd.Cmd.{Cmd}
 use Rattle.msg_code.specs.declared.cmd.Cmd.TheVariants as cmd
 use Rattle.msg_code.specs.Units.{bit}
-use Rattle.board_sim.specs.Rig.{Passed, Rig, Slot, acts_running, all_left, at_of, becomes, earliest_moment, goes_on, happens_at, happens_to, make_trigger, pass, passes_by, rested, rests_to, runs_to, slot_at, takes, trigger_answers}
-use Rattle.board_sim.specs.RigRuns.{AllSound, IsSoundTrigger}
-use Rattle.board_sim.proofs.Bound.{map_at, one_slot, same_or_not, set_other, slot_range}
-use Rattle.board_sim.proofs.Halting.{quiet_moves, quiet_switch}
+use Rattle.board_sim.specs.Rig.{happens_at, make_trigger, rested, trigger_answers}
+use Rattle.board_sim.specs.RigRuns.{IsSoundTrigger}
+use Rattle.board_sim.proofs.Bound.{map_at, same_or_not, set_other}
+use Rattle.board_sim.proofs.Halting.{quiet_moves, quiet_switch, ceiling}
 use Rattle.board_sim.proofs.Passing.{finishes}
 use Rattle.board_sim.proofs.RigStates.{all_tick}
 use Rattle.board_sim.proofs.Sound.{sound_regular}
@@ -260,13 +251,6 @@ DueFrom now t = (y : ℕ) → t.report ≡ Some y → now ≤ y
 
 abbrev pub AllDueNow : Rig → Type 0
 AllDueNow r = (oid : ℕ) (s : Slot) → slot_at r oid ≡ Some s → DueFrom r.controller.tick s.trigger
-
-ceiling : (a step : ℕ) → 0 < step → a ≤ (a + (step - 1)) / step * step
-ceiling a step some =
-    let q = (a + (step - 1)) / step in
-    let less : a + (step - 1) < ((a + (step - 1)) / step + 1) * step = omega (arith, some) in
-    let one : ((a + (step - 1)) / step + 1) * step ≡ (a + (step - 1)) / step * step + step = omega arith in
-    omega (arith, less, one, some)
 
 pub report_from : (b : Bool) (now clock every y : ℕ) → (every == 0) ≡ b
     → (if b then None else Some (trig.first_from now (nearest now clock) every)) ≡ Some y → now ≤ y

@@ -1,47 +1,15 @@
 -- A board is sent the commands of a homing section in order, and takes them so.
 use Rattle.std.proofs.Common.{◌≡◌, ◌≢◌, ℕ, zero, suc, ◌+◌, ◌-◌, ◌*◌, ◌/◌, ◌%◌, ◌<◌, ◌≤◌, ◌==◌, ◌&&◌, ◌⊎◌, inl, inr, Bool, true, false, cond, List, [], ◌∷◌, ◌++◌, length, map, take, drop, get_or, Option, Some, None, refl, ap, sym, ◌∙◌, subst, arith, append_assoc, append-nil, length-append}
 use Rattle.std.specs.Prelude.{max}
-use Rattle.std.proofs.lemmas.Bool.{eq-eqb}
-use Rattle.std.proofs.lemmas.Bool.Decides.{eqb_tells}
-use Rattle.std.proofs.lemmas.List.{append_cancel_left, take-append-drop}
-use Rattle.plan_types.specs.declared.levels.Level.{Level}
-use Rattle.plan_types.specs.declared.machine.AxisDef.{AxisDef}
-use Rattle.plan_types.specs.declared.machine.Machine.{Machine}
-use Rattle.plan_types.specs.Lines.{Clocks}
-use Rattle.plan_types.specs.Machines.{axis_at, board_at, stepper_at}
-use Rattle.msg_code.specs.declared.cmd.Cmd.{Cmd}
+use Rattle.laws_board.proofs.Names.{eq-eqb, eqb_tells, append_cancel_left, take-append-drop, Level, AxisDef, Machine, Clocks, axis_at, board_at, stepper_at, Cmd, State, Control, Unit as StepUnit, Entry, Switch, Meant, commands_of, units_orders, queued_in, first_state, orders, Ctl, End, Member, Sends, Homes, Starts, Seen, first_timeout, phase, round_of, steppers, unseen, Homing, by_answer, commands_to, hears_all, homing_turn, order_command, members_of, Asking, asks_now, clock_question, drifts, waits_in, trigger_of, Known, Connecting, noted, Reacted, homing_commands, stop_command, stops, Came, known_by, last_reacted, states-kept}
 use Rattle.msg_code.specs.declared.cmd.Cmd.TheVariants as cmd
-use Rattle.msg_code.specs.declared.talk.State.{State}
-use Rattle.msg_code.specs.declared.unit.Control.{Control}
-use Rattle.msg_code.specs.declared.unit.Unit.{Unit as StepUnit}
-use Rattle.wire_scene.specs.declared.scene.Entry.{Entry}
-use Rattle.wire_scene.specs.declared.scene.Switch.{Switch}
-use Rattle.board_sim.specs.Fair.{Meant, commands_of}
-use Rattle.board_world.specs.Orders.{units_orders}
-use Rattle.link_work.specs.Runs.{queued_in}
-use Rattle.link_work.specs.Stands.{first_state, orders}
-use Rattle.trigger_group.specs.declared.order.Ctl.{Ctl}
-use Rattle.trigger_group.specs.declared.order.End.{End}
-use Rattle.trigger_group.specs.declared.order.Member.{Member}
 use Rattle.trigger_group.specs.declared.order.Order.TheVariants as order
 use Rattle.trigger_group.specs.declared.round.Phase.{Phase}
-use Rattle.trigger_group.specs.declared.round.Phase.TheVariants.{Sends}
 use Rattle.trigger_group.specs.declared.round.Round.{Round}
-use Rattle.trigger_group.specs.declared.round.Round.TheVariants.{Homes, Resets, Starts}
-use Rattle.trigger_group.specs.declared.seen.Seen.{Seen}
-use Rattle.trigger_group.specs.Group.{bits, first_timeout, orders_of_group, orders_to, phase, reset, round_of, steppers, stop, to_board, unseen}
+use Rattle.trigger_group.specs.declared.round.Round.TheVariants.{Resets}
+use Rattle.trigger_group.specs.Group.{bits, orders_of_group, orders_to, reset, stop, to_board}
 use Rattle.trigger_group.specs.Kept.{BoardsRise}
-use Rattle.axis_homing.specs.declared.homing.Homing.{Homing}
-use Rattle.axis_homing.specs.Homing.{by_answer, commands_to, hears_all, homing_turn, order_command}
-use Rattle.axis_homing.specs.Rising.{HomingRises, members_of}
-use Rattle.board_asking.specs.declared.asking.Asking.{Asking}
-use Rattle.board_asking.specs.Drift.{asks_now, clock_question, drifts, waits_in}
-use Rattle.board_asking.specs.Machine.{trigger_of}
-use Rattle.host_reactor.specs.declared.ordered.Known.{Known}
-use Rattle.host_reactor.specs.declared.ordered.Phase.TheVariants.{Connecting}
-use Rattle.host_reactor.specs.Notes.{noted}
-use Rattle.host_reactor.specs.Reactor.{Reacted, homing_commands, stop_command, stops}
-use Rattle.host_reactor.specs.Runs.{Came, known_by, last_reacted}
+use Rattle.axis_homing.specs.Rising.{HomingRises}
 use Rattle.laws_board.specs.turns.Turns.{BoardTurn, stands_after}
 use Rattle.laws_board.specs.clocks.Runs.{IsInRun}
 use Rattle.laws_board.specs.clocks.Samples.{IsAmong}
@@ -53,14 +21,16 @@ use Rattle.laws_homing.specs.home_runs.Guards.{AreCalm, IsCalm}
 use Rattle.laws_homing.specs.home_runs.Sections.{HomesFrom, IsOf, Moves, SetNone, SetNoneFrom, queued_in_turns}
 use Rattle.laws_homing.specs.home_runs.Settled.{SendNoneIn, SetNoClockFrom}
 use Rattle.laws_homing.specs.home_runs.SetUps.{AreSetUpInOrder, IsInOrder, far_by}
-use Rattle.laws_homing.proofs.home_runs.Controlling.{connecting_not, not_yet, phase_homes, phase_starts, turn_calm}
-use Rattle.laws_homing.proofs.home_runs.Grouped.{members_states}
+use Rattle.laws_homing.proofs.home_runs.Controlling.{connecting_not, phase_homes, phase_starts, turn_calm}
 use Rattle.laws_homing.proofs.home_runs.Joining.{all_queued, known_rises, noted_rises}
 use Rattle.laws_homing.proofs.home_runs.Setting.{AllTo, NotOn, above_not, commands_both, orders_are_to, rise_behind, steppers_are}
 use Rattle.laws_homing.proofs.home_runs.Settled.{clock_from}
 use Rattle.laws_homing.proofs.home_runs.Staging.{commands_both as meant_both}
 use Rattle.laws_homing.proofs.home_runs.Whole.{brings_calm, turn_commands, units_calm}
 use Rattle.laws_homing.proofs.home_runs.Windows.{ordered_after}
+use Rattle.trigger_group.proofs.Setup.{length_word, few_steppers}
+use Rattle.plan_types.proofs.Facts.{not_equal}
+use Rattle.host_reactor.proofs.Idle.{not-yet}
 
 -- how far some commands bring it
 abbrev pub far_all : ℕ → ℕ → ℕ → List Cmd → ℕ
@@ -130,16 +100,13 @@ question_quiet commands a s = both (asks_now commands a) s
 abbrev IsBound : ℕ → Type 0
 IsBound far = far ≡ 4
 
-pub no_match : (a b : ℕ) → (a ≡ b → ⊥) → (a == b) ≡ false
-no_match a b d = elim (eqb_tells a b) [ inl p ↦ absurd (d p.1) | inr p ↦ p.0 ]
-
 either_way : (t : Bool) (m n : ℕ) → m ≡ n → cond t m n ≡ n
 either_way true m n e = e
 either_way false m n e = refl
 
 calm_stays : (i j : ℕ) (c : Cmd) → IsCalm i j c → IsInOrder i j 4 c × (far_by i j 4 c ≡ 4)
-calm_stays i j (cmd.ResetStepClock oid clock) calm = (λ e. absurd (calm e), ap (λ (b : Bool). cond b 1 4) (no_match oid i calm))
-calm_stays i j (cmd.TrsyncStart oid clock every reason) calm = (λ e. absurd (calm e), ap (λ (b : Bool). cond b 2 4) (no_match oid j calm))
+calm_stays i j (cmd.ResetStepClock oid clock) calm = (λ e. absurd (calm e), ap (λ (b : Bool). cond b 1 4) (not_equal oid i calm))
+calm_stays i j (cmd.TrsyncStart oid clock every reason) calm = (λ e. absurd (calm e), ap (λ (b : Bool). cond b 2 4) (not_equal oid j calm))
 calm_stays i j (cmd.TrsyncSetTimeout oid clock) calm = (λ e. omega arith, either_way (oid == j) (max 4 3) 4 refl)
 calm_stays i j (cmd.StepperStopOnTrigger oid other) calm = (λ e. omega arith, either_way ((oid == i) && (other == j)) 4 4 refl)
 calm_stays i j (cmd.QueueStep oid interval count add) calm = (λ e. refl, refl)
@@ -160,7 +127,7 @@ mine m clocks b start axis c rest same = ap (λ (t : Bool). cond t (order_comman
 none_to : (m : Machine) (clocks : Clocks) (b c start : ℕ) (axis : AxisDef) (ctls : List Ctl) → AllTo c ctls → c ≢ b → commands_to m clocks b start axis ctls ≡ []
 none_to m clocks b c start axis [] a d = refl
 none_to m clocks b c start axis (x ∷ ctls) a d =
-    ap (λ (t : Bool). cond t (order_command m clocks b start axis x.what ∷ []) [] ++ commands_to m clocks b start axis ctls) (no_match x.board b (λ e. d (sym a.0 ∙ e))) ∙ none_to m clocks b c start axis ctls a.1 d
+    ap (λ (t : Bool). cond t (order_command m clocks b start axis x.what ∷ []) [] ++ commands_to m clocks b start axis ctls) (not_equal x.board b (λ e. d (sym a.0 ∙ e))) ∙ none_to m clocks b c start axis ctls a.1 d
 
 none_round : (m : Machine) (clocks : Clocks) (b start : ℕ) (axis : AxisDef) (round : Round) (xs : List Seen) → NotOn b xs → commands_to m clocks b start axis (round_of round xs) ≡ []
 none_round m clocks b start axis round [] n = refl
@@ -264,18 +231,6 @@ abbrev movers_of : ℕ → List Member → List ℕ
 movers_of b [] = []
 movers_of b (x ∷ ms) = cond (x.board == b) (steppers (unseen x)) (movers_of b ms)
 
-bits_few : (i n word : ℕ) → length (bits i n word) ≤ n
-bits_few i zero word = omega arith
-bits_few i (suc n) word = let rest = bits_few (i + 1) n (word / 2) in by (word % 2 == 1) rest
-  where
-    by : (t : Bool) → length (bits (i + 1) n (word / 2)) ≤ n → length (cond t (i ∷ []) [] ++ bits (i + 1) n (word / 2)) ≤ suc n
-    by true r = omega (arith, r)
-    by false r = omega (arith, r)
-
-few_steppers : (x : Seen) → length (steppers x) ≤ 16
-unfolding steppers
-few_steppers x = bits_few 0 16 x.member.moving
-
 above_not_this : (b s : ℕ) (x : Member) (ms : List Member) → BoardsRise (x ∷ ms) → Moves b s ms → x.board ≢ b
 above_not_this b s x [] rise is = absurd is
 above_not_this b s x (y ∷ ms) rise (inl is) = λ e. let less = rise 0 1 x (omega arith) (omega arith) in absurd (omega (arith, less, e, is.0))
@@ -315,7 +270,7 @@ on_board b s (x ∷ xs) rise (inr is) =
     let ms = map (λ (y : Seen). y.member) xs in
     let other = above_not_this b s x.member ms rise is in
     let rest = on_board b s xs (rise_behind x.member ms rise) is in
-    let later : movers_of b (x.member ∷ ms) ≡ movers_of b ms = ap (λ (t : Bool). cond t (steppers (unseen x.member)) (movers_of b ms)) (no_match x.member.board b other) in
+    let later : movers_of b (x.member ∷ ms) ≡ movers_of b ms = ap (λ (t : Bool). cond t (steppers (unseen x.member)) (movers_of b ms)) (not_equal x.member.board b other) in
     record {
       seen = rest.seen;
       on = rest.on;
@@ -376,14 +331,14 @@ home_goes m all states own b k s h ms round P far start of early rise moves is g
     let i = (stepper_at m s).oid in
     let j = trigger_of m b in
     let g = hears_all all states h in
-    let members : members_of g.group ≡ ms = members_states all 0 h.start states h.group ∙ of.2 in
+    let members : members_of g.group ≡ ms = states-kept all 0 h.start states h.group ∙ of.2 in
     let begin : g.group.start ≡ start = states_start all 0 h.start states h.group ∙ of.1 in
     let on = on_board b s g.group.members (subst BoardsRise (sym members) rise) (subst (λ (l : List Member). Moves b s l) (sym members) moves) in
     let begun = of.0 in
     let By : Option End → Type 0 = λ o. Goes i j P far (homing_commands m (by_answer k g o) own b) in
     let In : Phase → Type 0 = λ p. Goes i j P far (commands_to m own b g.start (axis_at m g.axis) (orders_of_group p g.group k)) in
     let phase_is : phase g.group.start g.group.last k ≡ Sends (round g.group.last) = ap (λ (n : ℕ). phase n g.group.last k) begin ∙ is g.group.last in
-    subst By (sym (not_yet k g.start g.group (omega (arith, early, begun))))
+    subst By (sym (not-yet k g.start g.group (omega (arith, early, begun))))
     (subst In (sym phase_is)
     (subst (λ (l : List Cmd). Goes i j P far l) (sym (on.sole m own g.start (axis_at m g.axis) (round g.group.last))) (goes on.seen g.start (axis_at m g.axis) on.on (on.are ∙ ap (movers_of b) members)
     (subst (λ (l : List Member). IsAmong s (movers_of b l)) members on.among) (subst (λ (l : List Member). length (movers_of b l) ≤ 16) members on.few))))

@@ -1,37 +1,20 @@
 -- What comes to the host of triggers that can trigger, over a line that may lose, repeat, delay and garble blocks and replies.
 use Rattle.std.proofs.Common.{◌≡◌, ℕ, ◌+◌, ◌%◌, ◌^◌, ◌≤◌, Bool, true, false, cond, List, [], ◌∷◌, ◌++◌, length, map, Option, Some, None, refl, ap, sym, ◌∙◌, subst, arith, inl, inr}
 use Rattle.std.specs.Prelude.{nat_lt}
-use Rattle.std.proofs.lemmas.Bool.Decides.{leb_tells}
-use Rattle.plan_types.specs.declared.levels.Level.{Level}
-use Rattle.plan_types.specs.declared.machine.BoardDef.{BoardDef}
-use Rattle.plan_types.specs.declared.plan.BoardState.{BoardState}
-use Rattle.plan_types.specs.declared.plan.BoardState.TheVariants.{Running, Shut}
-use Rattle.plan_types.specs.Clock.{board_tick, clock_of}
-use Rattle.msg_dict.specs.Own.{own_formats}
+use Rattle.laws_board.proofs.Names.{leb_tells, Level, BoardDef, BoardState, Running, Shut, board_tick, clock_of, own_formats, Cmd, News, IsText, Entry, Up, Reply, Meant, commands_of, Passed, Rig, all_left, pass, slot_at, takes, takes_all, AllSound, Event, Core, Do, Step, Turn, world_after, does, after_event, run_world, takes_in, wire_text, first_state, orders, LinkState, come, turns_are_steps}
 use Rattle.msg_dict.specs.declared.row.Row.TheVariants as row
-use Rattle.msg_code.specs.declared.cmd.Cmd.{Cmd}
 use Rattle.msg_code.specs.declared.cmd.Cmd.TheVariants as cmd
-use Rattle.msg_code.specs.declared.talk.News.{News}
 use Rattle.msg_code.specs.Table.{row_of}
-use Rattle.msg_code.specs.Text.{IsText}
-use Rattle.wire_scene.specs.declared.scene.Entry.{Entry}
-use Rattle.wire_scene.specs.declared.scene.Way.TheVariants.{Up}
-use Rattle.link_core.specs.Core.{Reply, numbered}
-use Rattle.board_sim.specs.Fair.{Meant, commands_of}
-use Rattle.board_sim.specs.Rig.{Passed, Rig, all_left, new_rig, pass, slot_at, takes, takes_all}
-use Rattle.board_sim.specs.RigRuns.{AllSound}
+use Rattle.link_core.specs.Core.{numbered}
+use Rattle.board_sim.specs.Rig.{new_rig}
 use Rattle.board_sim.specs.Turn.{says_shut}
 use Rattle.board_sim.proofs.Passing.{finishes}
 use Rattle.board_sim.proofs.RigStates.{all_tick}
 use Rattle.board_sim.proofs.Sound.{passes_sound, sound_regular, takes_sound}
-use Rattle.board_world.specs.declared.event.Event.{Event}
 use Rattle.board_world.specs.declared.event.Event.TheVariants as event
 use Rattle.board_world.specs.Stands.{IsAnswer}
-use Rattle.board_world.specs.World.{Core, Deed, Do, Step, Turn, world_after, does, after_event, obeys, run_world, board_runs, shut_before, takes_in, wire_text}
-use Rattle.link_work.specs.Stands.{first_state, orders}
+use Rattle.board_world.specs.World.{Deed, obeys, board_runs, shut_before}
 use Rattle.link_work.specs.Told.{AreNews, before_replies, news_of}
-use Rattle.link_work.specs.Turn.{LinkState, come}
-use Rattle.link_work.proofs.Turns.{turns_are_steps}
 use Rattle.laws_board.specs.turns.Turns.{AreBoardTurns, BoardTurn, stands_after}
 use Rattle.laws_board.proofs.clocks.Answers.{Each, each_both}
 use Rattle.laws_board.proofs.clocks.Replies.{AllUp, up_by, up_come, up_more}

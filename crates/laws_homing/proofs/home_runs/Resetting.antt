@@ -1,43 +1,17 @@
 -- A control sets the clocks of steppers that move alone.
 use Rattle.std.proofs.Common.{◌≡◌, ℕ, zero, suc, ◌+◌, ◌*◌, ◌/◌, ◌%◌, ◌<◌, ◌==◌, ◌&&◌, ◌⊎◌, inl, inr, Bool, true, false, cond, List, [], ◌∷◌, ◌++◌, length, map, take, drop, Option, Some, None, refl, sym, subst, arith}
 use Rattle.std.specs.Prelude.{nat_lt, slice_index_or}
-use Rattle.std.proofs.lemmas.Bool.{eqb-true}
-use Rattle.std.proofs.lemmas.List.{take-append-drop}
-use Rattle.plan_types.specs.declared.levels.Level.{Level}
-use Rattle.plan_types.specs.declared.machine.AxisDef.{AxisDef}
-use Rattle.plan_types.specs.declared.machine.Machine.{Machine}
+use Rattle.laws_board.proofs.Names.{eqb-true, take-append-drop, Level, AxisDef, Machine, Clocks, axis_at, board_at, stepper_at, Cmd, State, Control, Entry, Switch, Ctl, End, Member, Order, Goes, Rests, Sends, Homes, Starts, Fired, Seen, GroupState, all_fired, phase, relay_in, relays_in, round_of, steppers, Homing, answer_in, by_answer, command_to, commands_to, hears_all, homing_turn, order_command, members_of, Asking, asks_now, clock_question, drifts, waits_in, Known, Connecting, noted, Reacted, homing_commands, stop_command, stops, Came, known_by, last_reacted, states-kept, both_parts}
 use Rattle.plan_types.specs.declared.machine.StepperDef.{StepperDef}
-use Rattle.plan_types.specs.Lines.{Clocks}
-use Rattle.plan_types.specs.Machines.{axis_at, board_at, no_stepper, stepper_at}
-use Rattle.msg_code.specs.declared.cmd.Cmd.{Cmd}
+use Rattle.plan_types.specs.Machines.{no_stepper}
 use Rattle.msg_code.specs.declared.cmd.Cmd.TheVariants as cmd
-use Rattle.msg_code.specs.declared.talk.State.{State}
-use Rattle.msg_code.specs.declared.unit.Control.{Control}
-use Rattle.wire_scene.specs.declared.scene.Entry.{Entry}
-use Rattle.wire_scene.specs.declared.scene.Switch.{Switch}
-use Rattle.trigger_group.specs.declared.order.Ctl.{Ctl}
-use Rattle.trigger_group.specs.declared.order.End.{End}
 use Rattle.trigger_group.specs.declared.order.End.TheVariants as end
-use Rattle.trigger_group.specs.declared.order.Member.{Member}
-use Rattle.trigger_group.specs.declared.order.Order.{Order}
 use Rattle.trigger_group.specs.declared.order.Order.TheVariants as order
 use Rattle.trigger_group.specs.declared.round.Phase.{Phase}
-use Rattle.trigger_group.specs.declared.round.Phase.TheVariants.{Goes, Rests, Sends}
 use Rattle.trigger_group.specs.declared.round.Round.{Round}
-use Rattle.trigger_group.specs.declared.round.Round.TheVariants.{Homes, Relays, Resets, Starts, Timeouts}
-use Rattle.trigger_group.specs.declared.seen.Fired.{Fired}
-use Rattle.trigger_group.specs.declared.seen.Seen.{Seen}
-use Rattle.trigger_group.specs.Group.{GroupState, all_fired, bits, goes, limit, orders, orders_of_group, orders_to, phase, relay_in, relays_in, reset, round_of, steppers, stop, to_board, unless_fired}
-use Rattle.axis_homing.specs.declared.homing.Homing.{Homing}
-use Rattle.axis_homing.specs.Homing.{answer_in, by_answer, command_to, commands_to, hears_all, homing_turn, moving_on, order_command}
-use Rattle.axis_homing.specs.Rising.{members_of}
-use Rattle.board_asking.specs.declared.asking.Asking.{Asking}
-use Rattle.board_asking.specs.Drift.{asks_now, clock_question, drifts, waits_in}
-use Rattle.host_reactor.specs.declared.ordered.Known.{Known}
-use Rattle.host_reactor.specs.declared.ordered.Phase.TheVariants.{Connecting}
-use Rattle.host_reactor.specs.Notes.{noted}
-use Rattle.host_reactor.specs.Reactor.{Reacted, homing_commands, stop_command, stops}
-use Rattle.host_reactor.specs.Runs.{Came, known_by, last_reacted}
+use Rattle.trigger_group.specs.declared.round.Round.TheVariants.{Relays, Resets, Timeouts}
+use Rattle.trigger_group.specs.Group.{bits, goes, limit, orders, orders_of_group, orders_to, reset, stop, to_board, unless_fired}
+use Rattle.axis_homing.specs.Homing.{moving_on}
 use Rattle.laws_board.specs.turns.Turns.{BoardTurn}
 use Rattle.laws_board.specs.clocks.Runs.{IsInRun}
 use Rattle.laws_board.specs.clocks.Samples.{IsAmong}
@@ -45,9 +19,8 @@ use Rattle.laws_board.proofs.clocks.Lines.{noted_phase, turn_of}
 use Rattle.laws_board.proofs.clocks.Turning.{Asks, BoardTurned, Ends, Runs}
 use Rattle.laws_homing.specs.home_runs.Sections.{IsOf, Moves}
 use Rattle.laws_homing.proofs.home_runs.Controlling.{connecting_not}
-use Rattle.laws_homing.proofs.home_runs.Grouped.{members_states}
 use Rattle.laws_homing.proofs.home_runs.Setting.{steppers_are}
-use Rattle.laws_board.proofs.clocks.Askings.{both_true}
+use Rattle.laws_homing.proofs.home_parts.Bits.{no_bits}
 
 -- commands that set the clocks of some steppers alone
 abbrev pub SetsOf : (ℕ → Type 0) → Cmd → Type 0
@@ -187,7 +160,7 @@ home_of : (m : Machine) (all : List Clocks) (k : ℕ) (states : List State) (h :
 home_of m all k states h own b =
     let g = hears_all all states h in
     let turn = by_answer k g (answer_in k g.start g.group) in
-    let same = members_states all 0 h.start states h.group in
+    let same = states-kept all 0 h.start states h.group in
     subst (λ (ms : List Member). AllSetOf (MovesAs m b ms) (homing_commands m turn own b)) same
     (ctls_of m own b turn.start (axis_at m turn.axis) (members_of g.group) turn.ctls.items
     (answer_resets (members_of g.group) k g (answer_in k g.start g.group) (phase_in (members_of g.group) (phase g.group.start g.group.last k) g.group k (covers g.group.members))))
@@ -230,10 +203,6 @@ IsOn b n [] = ⊥
 IsOn b zero (x ∷ ss) = x.board ≡ b
 IsOn b (suc n) (x ∷ ss) = IsOn b n ss
 
-bits_none : (i n s : ℕ) → IsAmong s (bits i n 0) → ⊥
-bits_none i zero s is = is
-bits_none i (suc n) s is = bits_none (i + 1) n s is
-
 bit_in : (c : Bool) (i s : ℕ) (rest : List ℕ) → IsAmong s (cond (cond c 1 0 == 1) (i ∷ []) [] ++ rest) → ((i ≡ s) × (c ≡ true)) ⊎ IsAmong s rest
 bit_in true i s rest (inl e) = inl (e, refl)
 bit_in true i s rest (inr is) = inr is
@@ -241,7 +210,7 @@ bit_in false i s rest is = inr is
 
 pub on_board : (b i n s : ℕ) (word : ℕ) (ss : List StepperDef) → IsAmong s (bits i n (moving_on b word ss)) → (k : ℕ) × (i + k ≡ s) × IsOn b k ss
 on_board b i zero s word ss is = absurd is
-on_board b i (suc n) s word [] is = absurd (bits_none (i + 1) n s is)
+on_board b i (suc n) s word [] is = absurd (no_bits (i + 1) n s is)
 on_board b i (suc n) s word (x ∷ ss) is =
     let c = (x.board == b) && (word % 2 == 1) in
     let rest = moving_on b (word / 2) ss in
@@ -249,7 +218,7 @@ on_board b i (suc n) s word (x ∷ ss) is =
     let At : ℕ → ℕ → Type 0 = λ bit others. IsAmong s (cond (bit == 1) (i ∷ []) [] ++ bits (i + 1) n others) in
     let one : At (cond c 1 0) rest = subst (λ (v : ℕ). At v rest) low.0 (subst (λ (v : ℕ). At ((cond c 1 0 + 2 * rest) % 2) v) low.1 is) in
     elim (bit_in c i s (bits (i + 1) n rest) one) [
-      | inl here ↦ (0, omega (arith, here.0), eqb-true x.board b (both_true (x.board == b) (word % 2 == 1) here.1).0)
+      | inl here ↦ (0, omega (arith, here.0), eqb-true x.board b (both_parts (x.board == b) (word % 2 == 1) here.1).0)
       | inr later ↦ let found = on_board b (i + 1) n s (word / 2) ss later in (suc found.0, omega (arith, found.1), found.2)
     ]
 

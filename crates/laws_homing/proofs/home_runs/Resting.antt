@@ -1,18 +1,12 @@
 -- A link that rests in time: its board took the set-up of a homing section, and nothing that it said is under way.
 use Rattle.std.proofs.Common.{◌≡◌, ℕ, ◌==◌, true, List, [], ◌∷◌, map, refl, ap, sym, ◌∙◌, subst, append-nil}
-use Rattle.std.proofs.lemmas.Bool.{eqb-true}
-use Rattle.plan_types.specs.declared.levels.Level.{Level}
-use Rattle.plan_types.specs.declared.machine.BoardDef.{BoardDef}
-use Rattle.plan_types.specs.Clock.{clock_of}
-use Rattle.wire_scene.specs.declared.scene.Entry.{Entry}
-use Rattle.link_core.specs.Core.{Command, Reply, sent}
+use Rattle.laws_board.proofs.Names.{eqb-true, Level, BoardDef, clock_of, Entry, Reply, Core, first_state, turns_are_steps, both_parts}
+use Rattle.link_core.specs.Core.{Command, sent}
 use Rattle.board_world.specs.Stands.{reply_text}
-use Rattle.board_world.specs.World.{Core}
 use Rattle.board_world.proofs.Runs.{start_ordered}
 use Rattle.link_work.specs.Ends.{is_idle, none_wait}
 use Rattle.link_work.specs.Runs.{blocks_on}
-use Rattle.link_work.specs.Stands.{first_state}
-use Rattle.link_work.proofs.Turns.{turns_are_steps, turns_hold}
+use Rattle.link_work.proofs.Turns.{turns_hold}
 use Rattle.laws_board.specs.turns.Turns.{AreBoardTurns, BoardTurn, stands_after}
 use Rattle.laws_board.specs.clocks.Runs.{orders_in}
 use Rattle.laws_board.proofs.clocks.Orders.{turns_in_order}
@@ -20,15 +14,8 @@ use Rattle.laws_board.proofs.sections.Finding.{idle_took}
 use Rattle.laws_homing.specs.home_runs.Sections.{RestsInTime, TakesSetUp, queued_in_turns}
 use Rattle.laws_homing.proofs.home_runs.Joining.{all_queued}
 use Rattle.laws_homing.proofs.home_runs.Windows.{begun}
-use Rattle.laws_board.proofs.clocks.Askings.{both_true}
-
-pub no_wait : (cs : List Command) → none_wait cs ≡ true → cs ≡ []
-no_wait [] e = refl
-no_wait (c ∷ cs) e = cc
-
-none_up : (rs : List Reply) → map reply_text rs ≡ [] → rs ≡ []
-none_up [] e = refl
-none_up (r ∷ rs) e = cc
+use Rattle.board_world.proofs.Standing.{none_up}
+use Rattle.link_work.proofs.Bounds.{nothing_waits}
 
 pub rests_took : (b : BoardDef) (pins : List (List Level)) (board : ℕ) (entries : List Entry) (turns : List BoardTurn) → AreBoardTurns (clock_of b) (first_state b pins board entries) turns
     → is_idle (stands_after (first_state b pins board entries) turns) ≡ true → (stands_after (first_state b pins board entries) turns).core.taken ≡ queued_in_turns turns
@@ -36,8 +23,8 @@ rests_took b pins board entries turns are idle =
     let first = first_state b pins board entries in
     let l = stands_after first turns in
     let steps = turns_are_steps (clock_of b) 0 (orders_in turns) first l (turns_in_order (clock_of b) first turns are) in
-    let both = both_true (none_wait l.core.link.waiting) (l.core.link.acked == sent l.core.link) idle in
-    let waits = no_wait l.core.link.waiting both.0 in
+    let both = both_parts (none_wait l.core.link.waiting) (l.core.link.acked == sent l.core.link) idle in
+    let waits = nothing_waits l.core.link.waiting both.0 in
     let acked = eqb-true l.core.link.acked (sent l.core.link) both.1 in
     let took = idle_took b pins steps.0 (ap (λ (h : Core). h.link.waiting) (sym steps.1) ∙ waits) (subst (λ (h : Core). h.link.acked ≡ sent h.link) steps.1 acked) in
     ap (λ (h : Core). h.taken) steps.1 ∙ took ∙ ap (λ (h : Core). h.queued) (sym steps.1) ∙ all_queued b pins board entries turns are

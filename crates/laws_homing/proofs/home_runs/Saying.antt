@@ -1,27 +1,18 @@
 -- What a board answers of its triggers: of one that it tells that it can't trigger, that is so, and it stands as told.
 use Rattle.std.proofs.Common.{◌≡◌, ℕ, zero, suc, ◌+◌, ◌/◌, ◌%◌, ◌<◌, ◌≤◌, ◌^◌, Bool, true, false, cond, List, [], ◌∷◌, length, Option, Some, None, refl, ap, sym, subst, arith, inl, inr}
 use Rattle.std.specs.Prelude.{if◌then◌else◌, slice_index_or, nat_lt}
-use Rattle.std.proofs.lemmas.List.{get_or-set_same}
-use Rattle.std.proofs.lemmas.Bool.Decides.{leb_tells}
+use Rattle.laws_board.proofs.Names.{get_or-set_same, leb_tells, Level, BoardState, Running, Shut, Pending, Happening, Nothing, Expires, Switches, Reports, Trigger, Cmd, Controller, Rig, Slot, Passed, becomes, slot_at, expires_at_once, set_timeout, acts, acts_running, takes, takes_all, happens_to, runs_to, rests_to, earliest_moment, at_of, goes_on, passes_by, pass, all_left, passes, slot_range, says}
 use Rattle.msg_code.specs.Units.{bit}
-use Rattle.plan_types.specs.declared.levels.Level.{Level}
-use Rattle.plan_types.specs.declared.plan.BoardState.{BoardState}
-use Rattle.plan_types.specs.declared.plan.BoardState.TheVariants.{Running, Shut}
 use Rattle.plan_types.specs.declared.plan.TrigState.{TrigState}
 use Rattle.plan_types.specs.declared.plan.Triple.{Triple}
-use Rattle.board_step.specs.Steps.{Pending, ticks_at}
-use Rattle.board_trig.specs.declared.trigger.Happening.{Happening}
-use Rattle.board_trig.specs.declared.trigger.Happening.TheVariants.{Nothing, Expires, Switches, Reports}
-use Rattle.board_trig.specs.declared.trigger.Trigger.{Trigger}
+use Rattle.board_step.specs.Steps.{ticks_at}
 use Rattle.board_trig.specs.declared.trigger.TrigEvent.{TrigEvent}
 use Rattle.board_trig.specs.Trigger as trig
-use Rattle.msg_code.specs.declared.cmd.Cmd.{Cmd}
 use Rattle.msg_code.specs.declared.cmd.Cmd.TheVariants as cmd
-use Rattle.board_sim.specs.Board.{Controller, Done as BoardDone, stepper_at, is_none_pending, first_of, refusal, takes_triple, queue_step, set_dir, reset, make_stepper, acts as board_acts, acts_running as board_running, takes as board_takes, stop, quiet as board_quiet, with_stepper, stepper_active}
-use Rattle.board_sim.specs.Rig.{Rig, Slot, Passed, becomes, slot_at, expires_at_once, set_timeout, trigger, acts, acts_running, takes, takes_all, tell, trigger_answers, happens_to, happens_at, runs_to, rests_to, earliest_moment, at_of, goes_on, passes_by, pass, all_left, passes}
+use Rattle.board_sim.specs.Board.{Done as BoardDone, stepper_at, is_none_pending, first_of, refusal, takes_triple, queue_step, set_dir, reset, make_stepper, acts as board_acts, acts_running as board_running, takes as board_takes, stop, quiet as board_quiet, with_stepper, stepper_active}
+use Rattle.board_sim.specs.Rig.{trigger, tell, trigger_answers, happens_at}
 use Rattle.board_sim.specs.Turn.{says_shut}
-use Rattle.board_sim.proofs.Bound.{slot_range}
-use Rattle.board_world.specs.World.{says, shut_before}
+use Rattle.board_world.specs.World.{shut_before}
 use Rattle.laws_board.proofs.clocks.Answers.{Each, each_both}
 use Rattle.laws_homing.specs.home_runs.Guards.{HasFired, IsCalm, HasNoTimeout, IsSole, StandsFired}
 use Rattle.laws_homing.proofs.home_runs.Guarding.{Next, fired_next, stands_next, next_same, next_then, pass_next, runs_next, happens_next, takes_next}

@@ -1,42 +1,22 @@
 -- The commands of a homing section's set-up to a board, and those behind it.
 use Rattle.std.proofs.Common.{◌≡◌, ◌≢◌, ℕ, suc, ◌+◌, ◌-◌, ◌*◌, ◌<◌, ◌≤◌, ◌==◌, ◌⊎◌, inl, inr, Bool, true, false, cond, List, [], ◌∷◌, ◌++◌, length, map, take, drop, get_or, Option, Some, None, refl, ap, sym, ◌∙◌, subst, arith, append_assoc}
 use Rattle.std.specs.Prelude.{nat_lt}
-use Rattle.std.proofs.lemmas.Bool.{eq-eqb, eqb-true}
-use Rattle.std.proofs.lemmas.Bool.Decides.{eqb_tells}
-use Rattle.std.proofs.lemmas.List.{take-append-drop}
-use Rattle.plan_types.specs.declared.machine.AxisDef.{AxisDef}
-use Rattle.plan_types.specs.declared.machine.Machine.{Machine}
-use Rattle.plan_types.specs.Lines.{Clocks}
-use Rattle.plan_types.specs.Machines.{axis_at, stepper_at}
-use Rattle.msg_code.specs.declared.cmd.Cmd.{Cmd}
+use Rattle.laws_board.proofs.Names.{eq-eqb, eqb-true, eqb_tells, take-append-drop, AxisDef, Machine, Clocks, axis_at, stepper_at, Cmd, State, Ctl, End, Member, Order, Goes, Rests, Sends, Homes, Starts, Fired, Seen, GroupState, all_fired, first_timeout, phase, relay_in, relays_in, round_of, steppers, unseen, Homing, answer_in, by_answer, command_to, commands_to, hears_all, homing_turn, order_command, Asking, asks_now, clock_question, trigger_of, homing_commands, stop_command}
 use Rattle.msg_code.specs.declared.cmd.Cmd.TheVariants as cmd
-use Rattle.msg_code.specs.declared.talk.State.{State}
-use Rattle.trigger_group.specs.declared.order.Ctl.{Ctl}
-use Rattle.trigger_group.specs.declared.order.End.{End}
 use Rattle.trigger_group.specs.declared.order.End.TheVariants as end
-use Rattle.trigger_group.specs.declared.order.Member.{Member}
-use Rattle.trigger_group.specs.declared.order.Order.{Order}
 use Rattle.trigger_group.specs.declared.order.Order.TheVariants as order
 use Rattle.trigger_group.specs.declared.round.Phase.{Phase}
-use Rattle.trigger_group.specs.declared.round.Phase.TheVariants.{Goes, Rests, Sends}
 use Rattle.trigger_group.specs.declared.round.Round.{Round}
-use Rattle.trigger_group.specs.declared.round.Round.TheVariants.{Homes, Relays, Resets, Starts, Timeouts}
-use Rattle.trigger_group.specs.declared.seen.Fired.{Fired}
-use Rattle.trigger_group.specs.declared.seen.Seen.{Seen}
-use Rattle.trigger_group.specs.Group.{GroupState, all_fired, first_timeout, goes, limit, orders, orders_of_group, orders_to, phase, relay_in, relays_in, round_of, steppers, stop, to_board, unless_fired, unseen}
+use Rattle.trigger_group.specs.declared.round.Round.TheVariants.{Relays, Resets, Timeouts}
+use Rattle.trigger_group.specs.Group.{goes, limit, orders, orders_of_group, orders_to, stop, to_board, unless_fired}
 use Rattle.trigger_group.specs.Kept.{BoardsRise}
-use Rattle.axis_homing.specs.declared.homing.Homing.{Homing}
-use Rattle.axis_homing.specs.Homing.{answer_in, by_answer, command_to, commands_to, hears_all, homing_turn, order_command}
-use Rattle.board_asking.specs.declared.asking.Asking.{Asking}
-use Rattle.board_asking.specs.Drift.{asks_now, clock_question}
-use Rattle.board_asking.specs.Machine.{trigger_of}
-use Rattle.host_reactor.specs.Reactor.{homing_commands, stop_command}
 use Rattle.laws_board.specs.clocks.Samples.{IsAmong}
 use Rattle.laws_board.proofs.clocks.Controls.{states_start}
 use Rattle.laws_board.proofs.clocks.Links.{among_both}
 use Rattle.laws_homing.specs.home_runs.Guards.{IsCalm}
 use Rattle.laws_homing.specs.home_runs.Sections.{Moves}
 use Rattle.laws_homing.proofs.home_runs.Saying.{EachCalm}
+use Rattle.plan_types.proofs.Facts.{not_equal}
 
 pub each_both : (i j : ℕ) (xs ys : List Cmd) → EachCalm i j xs → EachCalm i j ys → EachCalm i j (xs ++ ys)
 each_both i j [] ys a b = b
@@ -207,13 +187,10 @@ orders_are_to Homes x =
 orders_are_to (Timeouts turn) x = (refl, tt)
 orders_are_to Relays x = to_fired x.member.board x.fired (to_board x order.Trigger ∷ []) (refl, tt)
 
-differ : (a b : ℕ) → a ≢ b → (a == b) ≡ false
-differ a b d = elim (eqb_tells a b) [ inl p ↦ absurd (d p.1) | inr p ↦ p.0 ]
-
 none_to : (i j : ℕ) (m : Machine) (clocks : Clocks) (b c start : ℕ) (axis : AxisDef) (ctls : List Ctl) → AllTo c ctls → c ≢ b → EachCalm i j (commands_to m clocks b start axis ctls)
 none_to i j m clocks b c start axis [] a d = tt
 none_to i j m clocks b c start axis (x ∷ ctls) a d =
-    let no = differ x.board b (λ e. d (sym a.0 ∙ e)) in
+    let no = not_equal x.board b (λ e. d (sym a.0 ∙ e)) in
     each_both i j (command_to m clocks b start axis x) (commands_to m clocks b start axis ctls)
     (subst (λ (t : Bool). EachCalm i j (cond t (order_command m clocks b start axis x.what ∷ []) [])) (sym no) tt) (none_to i j m clocks b c start axis ctls a.1 d)
 

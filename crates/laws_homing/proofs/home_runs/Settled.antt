@@ -1,34 +1,11 @@
 -- As each turn begins, a board has begun the parts that stop by then, and halted their steppers.
 use Rattle.std.proofs.Common.{◌≡◌, ℕ, suc, ◌+◌, ◌<◌, ◌≤◌, ◌==◌, ◌⊎◌, inl, inr, Bool, true, false, cond, List, [], ◌∷◌, ◌++◌, length, map, Option, Some, None, refl, ap, sym, ◌∙◌, subst, arith, append_assoc, append-nil, length-append}
-use Rattle.std.proofs.lemmas.Bool.{eqb-true, eq-eqb}
-use Rattle.std.proofs.lemmas.List.{append_cancel_left}
-use Rattle.plan_types.specs.declared.levels.Level.{Level}
-use Rattle.plan_types.specs.declared.machine.Machine.{Machine}
-use Rattle.plan_types.specs.declared.plan.BoardState.TheVariants.{Running}
-use Rattle.plan_types.specs.declared.clock.BoardClock.{BoardClock}
-use Rattle.plan_types.specs.Clock.{clock_of}
-use Rattle.plan_types.specs.Machines.{IsValidMachine, board_at, stepper_at}
-use Rattle.msg_code.specs.Units.{dir_commands, reset_commands, step_command}
-use Rattle.msg_code.specs.declared.cmd.Cmd.{Cmd}
+use Rattle.laws_board.proofs.Names.{eqb-true, eq-eqb, append_cancel_left, Level, Machine, Running, BoardClock, clock_of, IsValidMachine, board_at, stepper_at, dir_commands, reset_commands, step_command, Cmd, Unit as StepUnit, Entry, Switch, Pending, Meant, commands_of, plain, unit_orders, units_orders, Core, Step, run_world, queued_in, first_state, orders, LinkState, Orders, trigger_of, Member, Homing, members_of, Came, known_by, cons_same}
 use Rattle.msg_code.specs.declared.cmd.Cmd.TheVariants as cmd
-use Rattle.msg_code.specs.declared.unit.Unit.{Unit as StepUnit}
-use Rattle.wire_scene.specs.declared.scene.Entry.{Entry}
-use Rattle.wire_scene.specs.declared.scene.Switch.{Switch}
-use Rattle.board_step.specs.Steps.{Pending}
 use Rattle.board_sim.specs.Board as board
-use Rattle.board_sim.specs.Fair.{Meant, commands_of}
 use Rattle.board_sim.specs.Halted.{is_halted}
 use Rattle.board_sim.specs.RigRuns.{IsHalted}
-use Rattle.board_world.specs.Orders.{plain, unit_orders, unit_ticks, units_orders}
-use Rattle.board_world.specs.World.{Core, Step, run_world}
-use Rattle.link_work.specs.Runs.{queued_in}
-use Rattle.link_work.specs.Stands.{first_state, orders}
-use Rattle.link_work.specs.Turn.{LinkState, Orders}
-use Rattle.board_asking.specs.Machine.{trigger_of}
-use Rattle.trigger_group.specs.declared.order.Member.{Member}
-use Rattle.axis_homing.specs.declared.homing.Homing.{Homing}
-use Rattle.axis_homing.specs.Rising.{members_of}
-use Rattle.host_reactor.specs.Runs.{Came, known_by}
+use Rattle.board_world.specs.Orders.{unit_ticks}
 use Rattle.laws_board.specs.turns.Turns.{AreBoardTurns, BoardTurn, stands_after}
 use Rattle.laws_board.specs.clocks.Runs.{IsInRun}
 use Rattle.laws_board.specs.clocks.Runs as clock_runs
@@ -37,7 +14,7 @@ use Rattle.laws_board.proofs.clocks.Orders.{order_length}
 use Rattle.laws_board.specs.sections.Courses.{AreInTime, Course, IsFrom, FindStopped, IsInTime, IsSettled, IsStopped, course_behind, course_from, course_of, courses, next_part, no_course}
 use Rattle.laws_board.specs.sections.Finds.{AllSetNot, SetsNot, StepsFindHalted}
 use Rattle.laws_board.specs.sections.Known.{AreQueued, Known, Sent, more_steps, orders_sent, sent_at, sent_in}
-use Rattle.laws_board.proofs.sections.Lists.{cons_same, cuts, orders_append, orders_at, orders_long, shorter}
+use Rattle.laws_board.proofs.sections.Lists.{cuts, orders_append, orders_at, orders_long, shorter}
 use Rattle.laws_homing.specs.home_runs.Sections.{HomesFrom, IsMoved, SetNone, SetNoneFrom, TakesSetUp, queued_in_turns}
 use Rattle.laws_homing.specs.home_runs.Settled.{AreHomed, IsHomed, SendNoneIn, SetNoClock, SetNoClockFrom}
 use Rattle.laws_homing.specs.fired_runs.Since.{HasFiredSince}
@@ -53,6 +30,9 @@ use Rattle.laws_homing.proofs.home_runs.Staging.{commands_both, ran_steps}
 use Rattle.laws_homing.proofs.home_runs.Whole.{turn_commands}
 use Rattle.laws_homing.proofs.home_runs.Staying.{halted_stays, not_parts, taken_later}
 use Rattle.laws_homing.proofs.home_runs.Windows.{ordered_after}
+use Rattle.plan_types.proofs.Facts.{some_same}
+use Rattle.laws_board.proofs.sections.Spans.{sent_in_append}
+use Rattle.laws_board.proofs.sections.Stepping.{course_append}
 
 -- commands that were sent from a turn on
 abbrev pub AllFrom : ℕ → List Sent → Type 0
@@ -75,14 +55,6 @@ pub from_in : (turn from : ℕ) (os : List Orders) → from ≤ turn → AllFrom
 from_in turn from [] l = tt
 from_in turn from (o ∷ os) l = from_both from (sent_at turn (queued_in o)) (sent_in (turn + 1) os) (from_at turn from (queued_in o) l) (from_in (turn + 1) from os (omega (arith, l)))
 
--- what was sent in some turns, and behind them
-in_append : (turn : ℕ) (os ps : List Orders) → sent_in turn (os ++ ps) ≡ sent_in turn os ++ sent_in (turn + length os) ps
-in_append turn [] ps = ap (λ (n : ℕ). sent_in n ps) (omega arith)
-in_append turn (o ∷ os) ps =
-    let e : turn + 1 + length os ≡ turn + suc (length os) = omega arith in
-    ap (λ (x : List Sent). sent_at turn (queued_in o) ++ x) (in_append (turn + 1) os ps ∙ ap (λ (n : ℕ). sent_in (turn + 1) os ++ sent_in n ps) e)
-    ∙ sym (append_assoc (sent_at turn (queued_in o)) (sent_in (turn + 1) os) (sent_in (turn + suc (length os)) ps))
-
 pub later_orders : (later past : List BoardTurn) → (os : List Orders) × (clock_runs.orders_in (later ++ past) ≡ clock_runs.orders_in past ++ os)
 later_orders [] past = ([], sym (append-nil (clock_runs.orders_in past)))
 later_orders (t ∷ later) past =
@@ -97,13 +69,13 @@ sent_parts later past =
     let more = later_orders later past in
     let n = length (clock_runs.orders_in past) in
     let long : length past ≤ 0 + n = let e = order_length past in omega (arith, e) in
-    (sent_in (0 + n) more.0, ap (sent_in 0) more.1 ∙ in_append 0 (clock_runs.orders_in past) more.0, from_in (0 + n) (length past) more.0 long)
+    (sent_in (0 + n) more.0, ap (sent_in 0) more.1 ∙ sent_in_append 0 (clock_runs.orders_in past) more.0, from_in (0 + n) (length past) more.0 long)
 
 pub sent_turn : (t : BoardTurn) (before : List BoardTurn) → sent_by (t ∷ before) ≡ sent_by before ++ sent_at (length before) (queued_in (orders t.control t.batch))
 sent_turn t before =
     let o = orders t.control t.batch in
     let at : 0 + length (clock_runs.orders_in before) ≡ length before = let e = order_length before in omega (arith, e) in
-    in_append 0 (clock_runs.orders_in before) (o ∷ [])
+    sent_in_append 0 (clock_runs.orders_in before) (o ∷ [])
     ∙ ap (λ (n : ℕ). sent_by before ++ (sent_at n (queued_in o) ++ [])) at
     ∙ ap (λ (x : List Sent). sent_by before ++ x) (append-nil (sent_at (length before) (queued_in o)))
 
@@ -132,12 +104,9 @@ Begun oid turn c ss = ((c.since ≡ Some turn) × AllSetNot oid (orders_sent ss)
 One : ℕ → ℕ → Course → Course → Cmd → ℕ → Type 0
 One oid turn c d m at = d.since ≡ Some turn → ((c.since ≡ Some turn) × SetsNot oid m) ⊎ ((at ≡ turn) × ((clock : ℕ) × (m ≡ cmd.ResetStepClock oid clock)))
 
-some_is : (a b : ℕ) → Some a ≡ Some b → a ≡ b
-some_is a b e = cc
-
 set_one : (t : Bool) (oid turn at other clock : ℕ) (c : Course) → (other == oid) ≡ t → One oid turn c (cond t (next_part at clock c) c) (cmd.ResetStepClock other clock) at
 unfolding One
-set_one true oid turn at other clock c e = λ since. inr (some_is at turn since, (clock, ap (λ (n : ℕ). cmd.ResetStepClock n clock) (eqb-true other oid e)))
+set_one true oid turn at other clock c e = λ since. inr (some_same at turn since, (clock, ap (λ (n : ℕ). cmd.ResetStepClock n clock) (eqb-true other oid e)))
 set_one false oid turn at other clock c e = λ since. inl (since, λ same. clash (other == oid) (eq-eqb other oid same) e)
   where
     clash : (b : Bool) → b ≡ true → b ≡ false → ⊥
@@ -375,15 +344,11 @@ set_own false oid turn clock c e = absurd (clash (oid == oid) (eq-eqb oid oid re
 set_ends : (oid turn clock : ℕ) (c : Course) (m : Cmd) (ticks : List ℕ) → m ≡ cmd.ResetStepClock oid clock → (course_of oid turn c m ticks).known.ends ≡ []
 set_ends oid turn clock c m ticks e = subst (λ (x : Cmd). (course_of oid turn c x ticks).known.ends ≡ []) (sym e) (set_own (oid == oid) oid turn clock c refl)
 
-course_both : (oid : ℕ) (c : Course) (ss ts : List Sent) → course_from oid c (ss ++ ts) ≡ course_from oid (course_from oid c ss) ts
-course_both oid c [] ts = refl
-course_both oid c (s ∷ ss) ts = course_both oid (course_behind oid c s) ss ts
-
 none_ends : (oid clock : ℕ) (front : List Sent) (set : Sent) (behind : List Sent) → set.order.command ≡ cmd.ResetStepClock oid clock → AllSetNot oid (orders_sent behind) → AllStepNot oid (orders_sent behind)
     → (courses (front ++ set ∷ behind) oid).known.ends ≡ []
 none_ends oid clock front set behind is sets steps =
     let c = courses front oid in
-    ap (λ (x : Course). x.known.ends) (course_both oid no_course front (set ∷ behind)) ∙ all_ends oid (course_behind oid c set) behind sets steps ∙ set_ends oid set.turn clock c set.order.command set.order.ticks is
+    ap (λ (x : Course). x.known.ends) (course_append oid no_course front (set ∷ behind)) ∙ all_ends oid (course_behind oid c set) behind sets steps ∙ set_ends oid set.turn clock c set.order.command set.order.ticks is
 
 step_parts : (i : ℕ) (xs ys : List Meant) → AllStepNot i (xs ++ ys) → AllStepNot i ys
 step_parts i [] ys a = a

@@ -1,20 +1,8 @@
 -- A board in a run has one trigger.
 use Rattle.std.proofs.Common.{◌≡◌, ℕ, ◌<◌, ◌≤◌, List, ◌++◌, length, drop, refl, ap, sym, ◌∙◌, subst, arith}
-use Rattle.std.proofs.lemmas.List.{take-append-drop}
-use Rattle.plan_types.specs.declared.levels.Level.{Level}
-use Rattle.plan_types.specs.declared.machine.Machine.{Machine}
-use Rattle.plan_types.specs.declared.plan.BoardState.TheVariants.{Running}
-use Rattle.plan_types.specs.Machines.{IsValidMachine, board_at}
-use Rattle.msg_code.specs.declared.cmd.Cmd.{Cmd}
-use Rattle.wire_scene.specs.declared.scene.Entry.{Entry}
-use Rattle.wire_scene.specs.declared.scene.Switch.{Switch}
-use Rattle.board_sim.specs.Fair.{commands_of}
-use Rattle.link_work.specs.Stands.{first_state}
-use Rattle.board_asking.specs.Machine.{trigger_of}
-use Rattle.host_reactor.specs.Runs.{Came}
+use Rattle.laws_board.proofs.Names.{take-append-drop, Level, Machine, Running, IsValidMachine, board_at, Cmd, Entry, Switch, commands_of, first_state, trigger_of, Came}
 use Rattle.laws_board.specs.turns.Turns.{BoardTurn, stands_after}
 use Rattle.laws_board.specs.clocks.Runs.{IsInRun}
-use Rattle.laws_board.proofs.orders.Controlled.{few_on}
 use Rattle.laws_homing.specs.home_runs.Guards.{IsSole}
 use Rattle.laws_homing.specs.home_runs.Sections.{queued_in_turns}
 use Rattle.laws_homing.specs.home_runs.Stages.{no_stage}
@@ -22,6 +10,7 @@ use Rattle.laws_homing.proofs.home_runs.Joining.{all_queued}
 use Rattle.laws_homing.proofs.home_runs.Staging.{commands_both, staged_after}
 use Rattle.laws_homing.proofs.home_runs.Whole.{Only, grown, only_parts, queue_only, run_only}
 use Rattle.laws_homing.proofs.home_runs.Windows.{ordered_after}
+use Rattle.axis_homing.proofs.Room.{on-few}
 
 -- no other trigger stands on a board that runs
 pub sole_after : (m : Machine) (switches : List Switch) (pins : List (List Level)) (entries : List Entry) (b : ℕ) (came : List Came) (turns : List BoardTurn) → IsValidMachine m → IsInRun m switches pins entries b came turns
@@ -32,7 +21,7 @@ sole_after m switches pins entries b came turns v r runs =
     let d = board_at m b in
     let first = first_state d pins b entries in
     let h = (stands_after first turns).core in
-    let few : j < 256 = let q = v.steppers_few in omega (arith, few_on b m.steppers, q) in
+    let few : j < 256 = let q = v.steppers_few in omega (arith, on-few b m.steppers, q) in
     let staged = staged_after d pins b entries turns 0 j (omega arith) few r.turns_are in
     let o = ordered_after d pins b entries turns r.turns_are in
     let left = drop (length h.link.taken) h.queued in

@@ -5,17 +5,16 @@ use Rattle.vlq_code.proofs.Lengths.{spelling_spells}
 use Rattle.vlq_code.proofs.Spelled.{joined_alike, one_number}
 use Rattle.msg_dict.specs.declared.row.Row.{Row}
 use Rattle.msg_dict.specs.declared.row.Row.TheVariants as row
-use Rattle.msg_dict.specs.Own.{own_formats}
+use Rattle.laws_board.proofs.Names.{own_formats, Cmd, IsText, wire_text}
+use Rattle.msg_dict.specs.declared.row.Kind.TheVariants as kind
 use Rattle.msg_dict.specs.Table.{kinds, own_id}
 use Rattle.msg_code.specs.declared.Param.{Param}
 use Rattle.msg_code.specs.declared.Param.TheVariants as param
-use Rattle.msg_code.specs.declared.cmd.Cmd.{Cmd}
 use Rattle.msg_code.specs.declared.cmd.Cmd.TheVariants as cmd
 use Rattle.msg_code.specs.Table.{command, params_of, row_of}
-use Rattle.msg_code.specs.Text.{IsText, SpellsAll, params_text}
+use Rattle.msg_code.specs.Text.{SpellsAll, params_text}
 use Rattle.msg_code.proofs.Sizes.{own_text}
 use Rattle.msg_code.proofs.Texts.{is_text, one_text}
-use Rattle.board_world.specs.World.{wire_text}
 use Rattle.laws_board.proofs.clocks.Uptimes.{own_row, row_back, same_row, small}
 
 -- the row of an answer, and how its parameters are spelled
@@ -50,7 +49,8 @@ alike c told t =
     }
 
 -- the first two numbers of an answer
-two : (ps : List Param) (rest : List ℕ) (a b : ℕ) (more : List ℕ) → a < 2 ^ 32 → b < 2 ^ 32 → SpellsAll (kinds row.TrsyncState) ps rest → rest ≡ spelling a ++ (spelling b ++ more)
+two : (ps : List Param) (rest : List ℕ) (a b : ℕ) (more : List ℕ) → a < 2 ^ 32 → b < 2 ^ 32 → SpellsAll (kind.Number ∷ kind.Number ∷ kind.Number ∷ kind.Number ∷ []) ps rest
+    → rest ≡ spelling a ++ (spelling b ++ more)
     → (x : ℕ) × (y : ℕ) × (qs : List Param) × (ps ≡ param.Number x ∷ param.Number y ∷ qs) × (x ≡ a) × (y ≡ b)
 two [] rest a b more k l s e = absurd s
 two (param.Bytes bytes ∷ ps) rest a b more k l s e = absurd s.0

@@ -1,47 +1,32 @@
 -- A board by the commands that it took: which stepper is bound to its trigger.
 use Rattle.std.proofs.Common.{◌≡◌, ℕ, zero, suc, ◌+◌, ◌/◌, ◌<◌, ◌==◌, ◌&&◌, ◌||◌, inl, inr, Bool, true, false, cond, not, List, [], ◌∷◌, ◌++◌, length, map, get_or, set, Option, Some, None, refl, ap, sym, ◌∙◌, subst, arith, append-nil}
 use Rattle.std.specs.Prelude.{slice_index_or}
-use Rattle.std.proofs.lemmas.Bool.{eq-eqb, eqb-true}
-use Rattle.std.proofs.lemmas.List.{get_or-set_same, length-map, length-set, map-append}
-use Rattle.std.proofs.lemmas.Bool.Decides.{leb_tells}
-use Rattle.plan_types.specs.declared.levels.Level.{Level}
-use Rattle.plan_types.specs.declared.machine.BoardDef.{BoardDef}
-use Rattle.plan_types.specs.declared.plan.BoardState.{BoardState}
-use Rattle.plan_types.specs.declared.plan.BoardState.TheVariants.{Running, Shut}
+use Rattle.laws_board.proofs.Names.{eq-eqb, eqb-true, get_or-set_same, length-map, map-append, leb_tells, Level, BoardDef, BoardState, Running, Shut, BoardClock, clock_of, Entry, Pending, Trigger, Cmd, Controller, is_shut, Meant, commands_of, Rig, Slot, Passed, acts, acts_running, all_left, at_of, becomes, earliest_moment, expires_at_once, goes_on, happens_to, pass, passes, passes_by, rests_to, runs_to, set_timeout, slot_at, takes, takes_all, slot_range, Event, Core, Step, Do, Turn, after_event, in_turn, run_world, new_world as start_core, takes_in, first_state, orders, LinkState, turns_are_steps, both_parts}
+use Rattle.std.proofs.lemmas.List.{length-set}
 use Rattle.plan_types.specs.declared.plan.Triple.{Triple}
-use Rattle.plan_types.specs.declared.clock.BoardClock.{BoardClock}
-use Rattle.plan_types.specs.Clock.{clock_of}
-use Rattle.wire_scene.specs.declared.scene.Entry.{Entry}
-use Rattle.board_step.specs.Steps.{Pending, ticks_at}
+use Rattle.board_step.specs.Steps.{ticks_at}
 use Rattle.board_trig.specs.declared.sampling.Homing.{Homing}
-use Rattle.board_trig.specs.declared.trigger.Trigger.{Trigger}
 use Rattle.board_trig.specs.Trigger as trig
-use Rattle.msg_code.specs.declared.cmd.Cmd.{Cmd}
 use Rattle.msg_code.specs.declared.cmd.Cmd.TheVariants as cmd
-use Rattle.board_sim.specs.Board.{Controller, emptied, first_of, is_none_pending, is_shut, make_stepper, quiet, queue_step, refusal, reset, set_dir, slot_to, stepper_at, stop, takes_triple, with_stepper}
+use Rattle.board_sim.specs.Board.{emptied, first_of, is_none_pending, make_stepper, quiet, queue_step, refusal, reset, set_dir, slot_to, stepper_at, stop, takes_triple, with_stepper}
 use Rattle.board_sim.specs.Board as board
-use Rattle.board_sim.specs.Fair.{Meant, commands_of}
-use Rattle.board_sim.specs.Rig.{Rig, Slot, Passed, acts, acts_running, all_left, at_of, becomes, bind, earliest_moment, expires_at_once, goes_on, halt, halts, happens_to, home, levels_of, make_endstop, make_trigger, pass, passes, passes_by, rests_to, runs_to, set_timeout, slot_at, start_trigger, takes, takes_all, trigger}
+use Rattle.board_sim.specs.Rig.{bind, halt, halts, home, levels_of, make_endstop, make_trigger, start_trigger, trigger}
 use Rattle.board_sim.specs.Rig.{happens_at as rig_happens}
 use Rattle.board_sim.specs.RigRuns.{IsThere, has}
-use Rattle.board_sim.proofs.Bound.{halts_all, halts_is, slot_range}
+use Rattle.board_sim.proofs.Bound.{halts_all, halts_is}
 use Rattle.board_sim.proofs.Enough.{none_at}
 use Rattle.board_sim.proofs.RigPlaces.{is_halted, is_there, set_is, there_is}
 use Rattle.board_sim.proofs.RigShut.{all_left_by}
 use Rattle.board_sim.proofs.RigStates.{passes_state}
-use Rattle.board_world.specs.declared.event.Event.{Event}
 use Rattle.board_world.specs.declared.event.Event.TheVariants as event
-use Rattle.board_world.specs.World.{Core, Step, Do, Turn, after_event, in_turn, run_world, new_world as start_core, takes_in}
-use Rattle.link_work.specs.Stands.{first_state, orders}
-use Rattle.link_work.specs.Turn.{LinkState}
-use Rattle.link_work.proofs.Turns.{turns_are_steps}
 use Rattle.laws_board.specs.turns.Turns.{AreBoardTurns, BoardTurn, stands_after}
 use Rattle.laws_homing.specs.home_runs.Guards.{IsCalm, IsGuarded, IsSole}
 use Rattle.laws_homing.specs.home_runs.Stages.{Stage, lost_stage, no_stage, stage_from, stage_of}
 use Rattle.laws_homing.proofs.clear_boards.Slots.{running_beside, running_sole}
 use Rattle.laws_homing.proofs.home_runs.Guarding.{Next, guard_next, passes_next, takes_next}
 use Rattle.laws_homing.proofs.home_runs.Windows.{takes_places}
-use Rattle.laws_board.proofs.clocks.Askings.{both_true}
+use Rattle.plan_types.proofs.Facts.{false_true}
+use Rattle.laws_homing.proofs.clear_boards.Turned.{ran as ran_before}
 
 -- a trigger stands here
 pub record HasSlot (j : ℕ) (r : Rig) : Type 0 where
@@ -69,11 +54,8 @@ staged_next i j s r q x k = record {
   bound = λ e. guard_next i j r q x (k.bound e);
 }
 
-no : false ≡ true → ⊥
-no e = cc
-
 lost : (i j : ℕ) (r : Rig) → Staged i j lost_stage r
-lost i j r = record { sole = λ e. absurd (no e); made = λ e. absurd (no e); there = λ e. absurd (no e); bound = λ e. absurd (no e) }
+lost i j r = record { sole = λ e. absurd (false_true e); made = λ e. absurd (false_true e); there = λ e. absurd (false_true e); bound = λ e. absurd (false_true e) }
 
 -- a stepper is made
 made_there : (b : Controller) (i : ℕ) (o : Option Pending) → stepper_at b i ≡ o → i < length b.steppers → IsThere (stepper_at (make_stepper b i o).board i)
@@ -124,7 +106,7 @@ start_case true i j oid clock every reason s r e runs k = record {
   made = λ x. subst (λ (o : BoardState). IsThere (stepper_at (acts_running o r (cmd.TrsyncStart oid clock every reason)).rig.controller i)) runs
       (next_there i (suc oid) r (takes r (cmd.TrsyncStart oid clock every reason)).rig (takes_next i (suc oid) r (cmd.TrsyncStart oid clock every reason) (λ same. omega (arith, same))) (k.made x));
   there = λ x. let h = k.there x in let u = (running_beside Running r (cmd.TrsyncStart oid clock every reason)).3 j h.slot h.is in record { slot = u.0; is = u.1 };
-  bound = λ x. absurd (no x);
+  bound = λ x. absurd (false_true x);
 }
 start_case false i j oid clock every reason s r e runs k =
     subst (λ (o : BoardState). Staged i j s (acts_running o r (cmd.TrsyncStart oid clock every reason)).rig) runs
@@ -160,7 +142,7 @@ reset_case true i j oid clock s r e runs k =
       sole = λ x. next.sole (k.sole x);
       made = λ x. subst (λ (o : BoardState). IsThere (stepper_at (board.acts_running o r.controller c).board i)) (sym runs) (reset_there r.controller i oid clock (stepper_at r.controller oid) (k.made x));
       there = λ x. next_slot (suc oid) j r (acts r c).rig next (k.there x);
-      bound = λ x. absurd (no x);
+      bound = λ x. absurd (false_true x);
     }
 reset_case false i j oid clock s r e runs k =
     subst (λ (o : BoardState). Staged i j s (acts_running o r (cmd.ResetStepClock oid clock)).rig) runs
@@ -188,13 +170,13 @@ bind_case : (t : Bool) (i j oid other : ℕ) (s : Stage) (r : Rig) → ((oid == 
     → Staged i j (cond t (record s { bound = s.made && s.there }) s) (acts r (cmd.StepperStopOnTrigger oid other)).rig
 bind_case false i j oid other s r e old k = k
 bind_case true i j oid other s r e old k =
-    let both = both_true (oid == i) (other == j) e in
+    let both = both_parts (oid == i) (other == j) e in
     record {
       sole = k.sole;
       made = k.made;
       there = k.there;
       bound = λ x.
-          let flags = both_true s.made s.there x in
+          let flags = both_parts s.made s.there x in
           subst (λ (n : ℕ). IsGuarded i j (bind r n (stepper_at r.controller n) other (slot_at r other))) (sym (eqb-true oid i both.0))
           (subst (λ (n : ℕ). IsGuarded i j (bind r i (stepper_at r.controller i) n (slot_at r n))) (sym (eqb-true other j both.1))
           (bound_is i j r (stepper_at r.controller i) (slot_at r j) refl refl (old.made flags.0) (old.there flags.1)));
@@ -365,10 +347,6 @@ ran_by : (o : BoardState) (r : Rig) (c : Cmd) → r.controller.state ≡ o → (
 ran_by Running r c e runs = e
 ran_by (Shut reason tick first) r c e runs = let shut = still_shut r c reason tick first e in let x : Shut reason tick first ≡ Running = sym shut ∙ runs in absurd (cc)
 
-pub ran_before : (r : Rig) (cs : List Cmd) → (takes_all r cs).rig.controller.state ≡ Running → r.controller.state ≡ Running
-ran_before r [] runs = runs
-ran_before r (c ∷ cs) runs = ran_by r.controller.state r c refl (ran_before (takes r c).rig cs runs)
-
 -- a board, and what it took
 pub record StagedBy (i j : ℕ) (cs : List Cmd) (r : Rig) : Type 0 where
   pub steppers : length r.controller.steppers ≡ 256
@@ -442,9 +420,9 @@ begin_staged b pins i j = record {
   triggers = refl;
   staged = λ runs. record {
     sole = λ e oid s is. let none : None ≡ Some s = sym (none_at 256 oid) ∙ is in absurd (cc);
-    made = λ e. absurd (no e);
-    there = λ e. absurd (no e);
-    bound = λ e. absurd (no e);
+    made = λ e. absurd (false_true e);
+    there = λ e. absurd (false_true e);
+    bound = λ e. absurd (false_true e);
   };
 }
 

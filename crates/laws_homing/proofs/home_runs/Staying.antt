@@ -1,25 +1,17 @@
 -- A stepper that is halted stays so until its clock is set.
 use Rattle.std.proofs.Common.{◌≡◌, ℕ, suc, true, List, [], ◌∷◌, ◌++◌, length, refl, ap, sym, ◌∙◌, subst, arith, append-nil, append_assoc}
-use Rattle.std.proofs.lemmas.List.{append_cancel_left}
-use Rattle.plan_types.specs.declared.clock.BoardClock.{BoardClock}
-use Rattle.msg_code.specs.declared.cmd.Cmd.{Cmd}
+use Rattle.laws_board.proofs.Names.{append_cancel_left, BoardClock, Cmd, Meant, commands_of, Rig, takes, takes_all, Event, Core, Step, Do, Turn, does, after_event, in_turn, run_world, takes_in, orders, LinkState, turns_are_steps}
 use Rattle.msg_code.specs.declared.cmd.Cmd.TheVariants as cmd
 use Rattle.board_sim.specs.Board.{stepper_at}
-use Rattle.board_sim.specs.Fair.{Meant, commands_of}
-use Rattle.board_sim.specs.Rig.{Rig, takes, takes_all}
 use Rattle.board_sim.specs.RigRuns.{IsHalted}
 use Rattle.board_sim.proofs.RigCommands.{IsIn}
 use Rattle.board_sim.proofs.RigPlaces.{halted_is, is_halted}
-use Rattle.board_world.specs.declared.event.Event.{Event}
 use Rattle.board_world.specs.declared.event.Event.TheVariants as event
-use Rattle.board_world.specs.World.{Core, Step, Do, Turn, does, after_event, in_turn, run_world, takes_in}
-use Rattle.link_work.specs.Stands.{orders}
-use Rattle.link_work.specs.Turn.{LinkState}
-use Rattle.link_work.proofs.Turns.{turns_are_steps}
 use Rattle.laws_board.specs.turns.Turns.{AreBoardTurns, BoardTurn, stands_after}
 use Rattle.laws_homing.specs.home_runs.Guards.{IsCalm}
 use Rattle.laws_board.specs.sections.Finds.{AllSetNot, SetsNot}
 use Rattle.laws_homing.proofs.home_runs.Guarding.{passes_next, takes_next}
+use Rattle.laws_board.proofs.sections.Naming.{taken_more}
 
 pub not_parts : (i : ℕ) (xs ys : List Meant) → AllSetNot i (xs ++ ys) → AllSetNot i xs × AllSetNot i ys
 not_parts i [] ys a = (tt, a)
@@ -51,22 +43,16 @@ stay_by i h event.Garble n is = is
 stay_by i h event.Reply n is = is
 stay_by i h event.LoseReply n is = is
 
--- what steps take
-unfoldable pub steps_take : (steps : List Step) (h : Core) → (ms : List Meant) × ((run_world steps h).taken ≡ h.taken ++ ms)
-steps_take [] h = ([], sym (append-nil h.taken))
-steps_take (Do e ∷ steps) h = let rest = steps_take steps (after_event h e) in (takes_in h e ++ rest.0, rest.1 ∙ append_assoc h.taken (takes_in h e) rest.0)
-steps_take (Turn turn ∷ steps) h = steps_take steps (in_turn h turn)
-
-pub steps_stay : (i : ℕ) (steps : List Step) (h : Core) → AllSetNot i (steps_take steps h).0 → IsIn true i h.board.controller → IsIn true i (run_world steps h).board.controller
-unfolding steps_take
+pub steps_stay : (i : ℕ) (steps : List Step) (h : Core) → AllSetNot i (taken_more steps h).0 → IsIn true i h.board.controller → IsIn true i (run_world steps h).board.controller
+unfolding taken_more
 steps_stay i [] h n is = is
-steps_stay i (Do e ∷ steps) h n is = let both = not_parts i (takes_in h e) (steps_take steps (after_event h e)).0 n in steps_stay i steps (after_event h e) both.1 (stay_by i h e both.0 is)
+steps_stay i (Do e ∷ steps) h n is = let both = not_parts i (takes_in h e) (taken_more steps (after_event h e)).0 n in steps_stay i steps (after_event h e) both.1 (stay_by i h e both.0 is)
 steps_stay i (Turn turn ∷ steps) h n is = steps_stay i steps (in_turn h turn) n is
 
 -- over some steps, as far as what they take doesn't set the clock
 pub halted_stays : (i : ℕ) (steps : List Step) (h : Core) (ms : List Meant) → (run_world steps h).taken ≡ h.taken ++ ms → AllSetNot i ms → IsHalted (stepper_at h.board.controller i) → IsHalted (stepper_at (run_world steps h).board.controller i)
 halted_stays i steps h ms e n is =
-    let took = steps_take steps h in
+    let took = taken_more steps h in
     let same : took.0 ≡ ms = append_cancel_left h.taken took.0 ms (sym took.1 ∙ e) in
     is_halted (stepper_at (run_world steps h).board.controller i)
     (steps_stay i steps h (subst (λ (x : List Meant). AllSetNot i x) (sym same) n) (halted_is (stepper_at h.board.controller i) is))
@@ -78,7 +64,7 @@ taken_later clock first (t ∷ later) past are =
     let before = later ++ past in
     let l = stands_after first before in
     let steps = turns_are_steps clock (length before) (orders t.control t.batch ∷ []) l t.after (t.after, are.0.0, refl) in
-    let took = steps_take steps.0 l.core in
+    let took = taken_more steps.0 l.core in
     let rest = taken_later clock first later past are.1 in (
       rest.0 ++ took.0,
       ap (λ (h : Core). h.taken) steps.1 ∙ took.1 ∙ ap (λ (x : List Meant). x ++ took.0) rest.1 ∙ append_assoc (stands_after first past).core.taken rest.0 took.0,

@@ -1,43 +1,27 @@
 -- A stepper that moves in a homing section stops with its board's trigger.
 use Rattle.std.proofs.Common.{◌≡◌, ◌⊎◌, inl, inr, ℕ, ◌+◌, ◌<◌, ◌≤◌, ◌==◌, ◌&&◌, Bool, true, false, false, cond, List, [], ◌∷◌, ◌++◌, length, Some, refl, ap, sym, ◌∙◌, subst, arith, append_assoc, length-append, drop}
 use Rattle.std.specs.Prelude.{max}
-use Rattle.std.proofs.lemmas.Bool.{eq-eqb}
-use Rattle.std.proofs.lemmas.Bool.Decides.{eqb_tells}
-use Rattle.std.proofs.lemmas.List.{take-append-drop}
-use Rattle.plan_types.specs.declared.levels.Level.{Level}
-use Rattle.plan_types.specs.declared.machine.Machine.{Machine}
-use Rattle.plan_types.specs.declared.clock.BoardClock.{BoardClock}
-use Rattle.plan_types.specs.Clock.{board_tick, clock_of}
-use Rattle.plan_types.specs.Machines.{IsValidMachine, board_at, stepper_at}
-use Rattle.wire_scene.specs.declared.scene.Entry.{Entry}
-use Rattle.wire_scene.specs.declared.scene.Switch.{Switch}
-use Rattle.msg_code.specs.declared.cmd.Cmd.{Cmd}
+use Rattle.laws_board.proofs.Names.{eq-eqb, eqb_tells, take-append-drop, Level, Machine, BoardClock, board_tick, clock_of, IsValidMachine, board_at, stepper_at, Entry, Switch, Cmd, Meant, commands_of, Rig, Slot, slot_at, takes, takes_all, AllSound, first_state, LinkState, Member, trigger_of, Came}
 use Rattle.msg_code.specs.declared.cmd.Cmd.TheVariants as cmd
-use Rattle.board_sim.specs.Fair.{Meant, commands_of}
-use Rattle.board_sim.specs.Rig.{Rig, Slot, slot_at, takes, takes_all}
-use Rattle.board_sim.specs.RigRuns.{AllSound, IsBehindSetUp}
+use Rattle.board_sim.specs.RigRuns.{IsBehindSetUp}
 use Rattle.board_sim.proofs.Sound.{takes_sound}
-use Rattle.link_work.specs.Stands.{first_state}
-use Rattle.link_work.specs.Turn.{LinkState}
-use Rattle.trigger_group.specs.declared.order.Member.{Member}
-use Rattle.board_asking.specs.Machine.{trigger_of}
-use Rattle.host_reactor.specs.Runs.{Came}
 use Rattle.laws_board.specs.turns.Turns.{AreBoardTurns, BoardTurn, stands_after}
 use Rattle.laws_board.specs.clocks.Runs.{IsInRun}
 use Rattle.laws_board.proofs.clocks.Lines.{as_long, run_before}
-use Rattle.laws_board.proofs.orders.Controlled.{few_on}
 use Rattle.laws_homing.specs.home_runs.Sections.{HomesFrom, queued_in_turns}
 use Rattle.laws_homing.specs.home_runs.Settled.{SendNoneIn, SetNoClockFrom}
 use Rattle.laws_homing.specs.home_runs.SetUps.{AreSetUpInOrder, IsBoundIn, IsInOrder, StopsAt, TookInTurn, far_by}
 use Rattle.laws_homing.specs.home_runs.Stages.{no_stage, stage_from}
 use Rattle.laws_homing.proofs.clear_boards.Standing.{sound_at}
 use Rattle.laws_homing.proofs.home_runs.Joining.{all_queued, small_by}
-use Rattle.laws_homing.proofs.home_runs.Ordering.{far_all, no_match, order_front, order_rest, taken_in_order}
+use Rattle.laws_homing.proofs.home_runs.Ordering.{far_all, order_front, order_rest, taken_in_order}
 use Rattle.laws_homing.proofs.home_runs.Staging.{commands_both, stage_append, staged_after, took_in}
 use Rattle.laws_homing.proofs.home_runs.Stopping.{EachBehind, HasWhereRuns, behind_parts, stops_in_turns}
 use Rattle.laws_homing.proofs.home_runs.Timing.{HasThen, ReadsAtMost, limits_in_turns, sound_along, staged_along_rig}
 use Rattle.laws_homing.proofs.home_runs.Whole.{Only, Ready, only_parts, queue_only, ready_on, run_only, run_ready}
 use Rattle.laws_homing.proofs.home_runs.Windows.{ordered_after}
+use Rattle.axis_homing.proofs.Room.{on-few}
+use Rattle.plan_types.proofs.Facts.{not_equal}
 
 -- once the trigger is started nothing sets the clock of the stepper or starts it
 max_late : (far : ℕ) → 2 ≤ max far 3
@@ -54,10 +38,10 @@ either_late false m n x y = y
 order_stays : (i j far : ℕ) (c : Cmd) → 2 ≤ far → IsInOrder i j far c → IsBehindSetUp i j c × (2 ≤ far_by i j far c)
 order_stays i j far (cmd.ResetStepClock oid clock) late o =
     let other : oid ≡ i → ⊥ = λ e. let l = o e in absurd (omega (arith, l, late)) in
-    let same : far_by i j far (cmd.ResetStepClock oid clock) ≡ far = ap (λ (b : Bool). cond b 1 far) (no_match oid i other) in (other, omega (arith, same, late))
+    let same : far_by i j far (cmd.ResetStepClock oid clock) ≡ far = ap (λ (b : Bool). cond b 1 far) (not_equal oid i other) in (other, omega (arith, same, late))
 order_stays i j far (cmd.TrsyncStart oid clock every reason) late o =
     let other : oid ≡ j → ⊥ = λ e. let l = o e in absurd (omega (arith, l, late)) in
-    let same : far_by i j far (cmd.TrsyncStart oid clock every reason) ≡ far = ap (λ (b : Bool). cond b 2 far) (no_match oid j other) in (other, omega (arith, same, late))
+    let same : far_by i j far (cmd.TrsyncStart oid clock every reason) ≡ far = ap (λ (b : Bool). cond b 2 far) (not_equal oid j other) in (other, omega (arith, same, late))
 order_stays i j far (cmd.TrsyncSetTimeout oid clock) late o = (tt, either_late (oid == j) (max far 3) far (max_late far) late)
 order_stays i j far (cmd.StepperStopOnTrigger oid other) late o = (tt, either_late ((oid == i) && (other == j)) 4 far (omega arith) late)
 order_stays i j far c late o = (tt, late)
@@ -190,7 +174,7 @@ module _ (m : Machine) (switches : List Switch) (pins : List (List Level)) (entr
   oid_few = let lengths = length-append Window early in let l = some in small_by m switches pins entries b came (Window ++ early) s from start ms v run x.homes (omega (arith, lengths, l, x.long)) x.there x.on
 
   few : J < 256
-  few = let q = v.steppers_few in omega (arith, few_on b m.steppers, q)
+  few = let q = v.steppers_few in omega (arith, on-few b m.steppers, q)
 
   ready_at : (front behind : List Meant) → x.front ++ x.bind ∷ x.behind ≡ front ++ behind → Ready (stage_from I J no_stage (commands_of (queued_in_turns early ++ front)))
   ready_at front behind e =

@@ -1,33 +1,21 @@
 -- A stepper that a board bound to its trigger in a turn stops with it, whatever the turns behind bring.
 use Rattle.std.proofs.Common.{◌≡◌, ℕ, ◌+◌, ◌≤◌, inl, inr, Bool, true, false, cond, List, [], ◌∷◌, ◌++◌, length, map, Some, refl, ap, sym, ◌∙◌, subst, arith, append_assoc, append-nil, length-append}
 use Rattle.std.specs.Prelude.{nat_le}
-use Rattle.std.proofs.lemmas.List.{map-append}
-use Rattle.plan_types.specs.declared.clock.BoardClock.{BoardClock}
-use Rattle.plan_types.specs.declared.plan.BoardState.TheVariants.{Running}
-use Rattle.plan_types.specs.declared.plan.Pulse.{Pulse}
-use Rattle.plan_types.specs.Clock.{board_tick}
-use Rattle.wire_scene.specs.declared.scene.Way.TheVariants.{Down, Up}
+use Rattle.laws_board.proofs.Names.{map-append, BoardClock, Running, Pulse, board_tick, Down, Up, Cmd, Meant, commands_of, Rig, Slot, all_left, pass, slot_at, takes, takes_all, Event, Core, Do, Step, Turn, does, after_event, in_turn, run_world, takes_in, orders, IsTurn, LinkState, Orders, after_board, after_host, come, run_append, turns_are_steps, cons_same}
 use Rattle.wire_scene.specs.declared.wire.Fate.{Fate}
 use Rattle.wire_scene.specs.declared.wire.Fate.TheVariants.{Garbled, Last, Lost, Stays}
-use Rattle.msg_code.specs.declared.cmd.Cmd.{Cmd}
 use Rattle.msg_code.specs.declared.cmd.Cmd.TheVariants as cmd
-use Rattle.board_sim.specs.Fair.{Meant, commands_of}
-use Rattle.board_sim.specs.Rig.{Rig, Slot, all_left, pass, slot_at, takes, takes_all}
 use Rattle.board_sim.specs.RigRuns.{AllBefore, AreBehindSetUp, IsBehindSetUp, Passes, RigStep, Takes, all_made, rig_after, rig_after_all}
-use Rattle.board_world.specs.declared.event.Event.{Event}
 use Rattle.board_world.specs.declared.event.Event.TheVariants as event
-use Rattle.board_world.specs.World.{Core, Do, Step, Turn, does, after_event, in_turn, run_world, takes_in}
-use Rattle.link_work.specs.Stands.{orders}
-use Rattle.link_work.specs.Turn.{IsTurn, LinkState, Orders, after_board, after_host, after_replies, come, comes, host_steps}
-use Rattle.link_work.proofs.Sending.{run_append}
+use Rattle.link_work.specs.Turn.{after_replies, comes, host_steps}
 use Rattle.link_work.proofs.Steps.{AllHold, AllOf, Holds, IsHeld, all_append, all_come, come_holds, host_holds}
-use Rattle.link_work.proofs.Turns.{turns_are_steps}
 use Rattle.laws_board.specs.turns.Turns.{AreBoardTurns, BoardTurn, stands_after}
 use Rattle.laws_board.specs.groups.Homing.{HasBoth}
 use Rattle.laws_board.proofs.groups.Grouped.{after_both, halts_there}
 use Rattle.laws_board.proofs.groups.Timed.{runs_or_shut, stays_shut}
 use Rattle.laws_homing.specs.home_runs.SetUps.{TookInTurn}
 use Rattle.laws_homing.proofs.home_runs.Staging.{commands_both}
+use Rattle.laws_homing.proofs.home_runs.Found.{later_steps}
 
 -- what an event is to the board, and what some steps are
 abbrev pub rig_in : Core → Event → List RigStep
@@ -194,25 +182,11 @@ parts_same clock turn o resent l =
 pub turn_parts : (clock : BoardClock) (turn : ℕ) (o : Orders) (l m : LinkState) → IsTurn clock turn o l m → TurnParts l m
 turn_parts clock turn o l m t = subst (λ (x : LinkState). TurnParts l x) (sym t.becomes) (parts_same clock turn o t.resent l)
 
--- turns behind some others, as steps
-pub later_steps : (clock : BoardClock) (first : LinkState) (later past : List BoardTurn) → AreBoardTurns clock first (later ++ past) → (steps : List Step) × ((stands_after first (later ++ past)).core ≡ run_world steps (stands_after first past).core)
-later_steps clock first [] past are = ([], refl)
-later_steps clock first (t ∷ later) past are =
-    let before = later ++ past in
-    let l = stands_after first before in
-    let rest = later_steps clock first later past are.1 in
-    let steps = turns_are_steps clock (length before) (orders t.control t.batch ∷ []) l t.after (t.after, are.0.0, refl) in
-    (rest.0 ++ steps.0, steps.1 ∙ ap (λ (h : Core). run_world steps.0 h) rest.1 ∙ sym (run_append rest.0 steps.0 (stands_after first past).core))
-
--- a list that begins with another
-cons_is : {A : Type 0} (x y : A) (xs ys : List A) → x ∷ xs ≡ y ∷ ys → (x ≡ y) × (xs ≡ ys)
-cons_is x y xs ys e = (cc, cc)
-
 pub fits : (xs new front rest : List Meant) → xs ++ new ≡ front ++ rest → length xs ≤ length front → (f : List Meant) × (front ≡ xs ++ f) × (new ≡ f ++ rest)
 fits [] new front rest e l = (front, refl, e)
 fits (x ∷ xs) new [] rest e l = absurd (omega (arith, l))
 fits (x ∷ xs) new (y ∷ front) rest e l =
-    let both = cons_is x y (xs ++ new) (front ++ rest) e in
+    let both = cons_same x y (xs ++ new) (front ++ rest) e in
     let more = fits xs new front rest both.1 (omega (arith, l)) in
     (more.0, ap (λ (z : Meant). z ∷ front) (sym both.0) ∙ ap (λ (zs : List Meant). x ∷ zs) more.1, more.2)
 

@@ -1,26 +1,12 @@
 -- A stepper that is bound behind its trigger's first timeout makes no pulse at or behind the tick up to which the timeouts are read.
 use Rattle.std.proofs.Common.{◌≡◌, ℕ, suc, ◌+◌, ◌<◌, ◌≤◌, Bool, true, false, cond, List, [], ◌∷◌, ◌++◌, length, map, refl, ap, sym, ◌∙◌, subst, arith, inl, inr, append_assoc, append-nil, length-append}
 use Rattle.std.specs.Prelude.{nat_le}
-use Rattle.std.proofs.lemmas.Bool.Decides.{leb_tells}
-use Rattle.plan_types.specs.declared.levels.Level.{Level}
-use Rattle.plan_types.specs.declared.machine.BoardDef.{BoardDef}
-use Rattle.plan_types.specs.declared.plan.BoardState.TheVariants.{Running}
-use Rattle.plan_types.specs.declared.plan.Pulse.{Pulse}
-use Rattle.plan_types.specs.Clock.{board_tick, clock_of}
-use Rattle.wire_scene.specs.declared.scene.Entry.{Entry}
-use Rattle.msg_code.specs.declared.cmd.Cmd.{Cmd}
+use Rattle.laws_board.proofs.Names.{leb_tells, Level, BoardDef, Running, Pulse, board_tick, clock_of, Entry, Cmd, Meant, commands_of, Rig, all_left, pass, passes, takes, AllSound, Event, Core, Do, Step, Turn, after_event, in_turn, run_world, takes_in, first_state, orders, LinkState, run_append}
 use Rattle.msg_code.specs.declared.cmd.Cmd.TheVariants as cmd
-use Rattle.board_sim.specs.Fair.{Meant, commands_of}
-use Rattle.board_sim.specs.Rig.{Rig, all_left, pass, passes, takes}
-use Rattle.board_sim.specs.RigRuns.{AllBefore, AllSound, AreBehindSetUp, AreTimely, IsBehindSetUp, IsTimely, Passes, RigStep, Takes, all_made, rig_after, rig_after_all}
+use Rattle.board_sim.specs.RigRuns.{AllBefore, AreBehindSetUp, AreTimely, IsBehindSetUp, IsTimely, Passes, RigStep, Takes, all_made, rig_after, rig_after_all}
 use Rattle.board_sim.proofs.RigStates.{all_tick}
 use Rattle.board_sim.proofs.Sound.{passes_sound, takes_sound}
-use Rattle.board_world.specs.declared.event.Event.{Event}
 use Rattle.board_world.specs.declared.event.Event.TheVariants as event
-use Rattle.board_world.specs.World.{Core, Do, Step, Turn, after_event, in_turn, run_world, takes_in}
-use Rattle.link_work.specs.Stands.{first_state, orders}
-use Rattle.link_work.specs.Turn.{LinkState}
-use Rattle.link_work.proofs.Sending.{run_append}
 use Rattle.link_work.proofs.Steps.{AllOf}
 use Rattle.laws_board.specs.turns.Turns.{AreBoardTurns, BoardTurn, stands_after}
 use Rattle.laws_board.specs.groups.Homing.{HasBoth, timed_and_bound}

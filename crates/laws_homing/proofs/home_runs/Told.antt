@@ -1,11 +1,7 @@
 -- Behind a turn in which the host was told of a trigger that it can't trigger, the trigger stands as told.
 use Rattle.std.proofs.Common.{ℕ, List, ◌∷◌, ◌++◌, sym, ◌∙◌, arith}
-use Rattle.plan_types.specs.declared.levels.Level.{Level}
-use Rattle.plan_types.specs.declared.machine.BoardDef.{BoardDef}
-use Rattle.plan_types.specs.Clock.{clock_of}
+use Rattle.laws_board.proofs.Names.{Level, BoardDef, clock_of, Entry, first_state}
 use Rattle.msg_code.specs.declared.cmd.Cmd.TheVariants as cmd
-use Rattle.wire_scene.specs.declared.scene.Entry.{Entry}
-use Rattle.link_work.specs.Stands.{first_state}
 use Rattle.laws_board.specs.turns.Turns.{AreBoardTurns, BoardTurn, stands_after}
 use Rattle.laws_homing.specs.home_runs.Guards.{ReasonFits, StandsFired}
 use Rattle.laws_homing.specs.home_runs.Windows.{BringCalm, HasAnswer, IsWatched}

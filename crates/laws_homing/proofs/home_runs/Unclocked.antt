@@ -1,14 +1,8 @@
 -- In the turns of a homing section no unit sets a clock.
 use Rattle.std.proofs.Common.{◌≡◌, ℕ, suc, ◌+◌, ◌<◌, ◌≤◌, ◌==◌, Bool, true, false, cond, List, [], ◌∷◌, ◌++◌, length, Option, None, refl, ap, sym, ◌∙◌, subst, arith}
-use Rattle.std.specs.List.{All, flat_map}
-use Rattle.std.proofs.lemmas.Bool.{eq-eqb}
-use Rattle.std.proofs.lemmas.List.Elements.{All-head, All-tail}
-use Rattle.plan_types.specs.Lines.{Clocks}
-use Rattle.msg_code.specs.declared.unit.Unit.{Unit as StepUnit}
-use Rattle.step_feed.specs.Pacing.{Release, batch_at, units_of}
-use Rattle.section_units.specs.Sections.{AreBegunBy, AreChained, base_of, of_stepper}
-use Rattle.link_work.specs.Stands.{orders}
-use Rattle.link_work.specs.Turn.{Orders}
+use Rattle.laws_board.proofs.Names.{flat_map, eq-eqb, All-head, All-tail, Clocks, Unit as StepUnit, Release, batch_at, units_of, base_of, of_stepper, orders, Orders}
+use Rattle.std.specs.List.{All}
+use Rattle.section_units.specs.Sections.{AreBegunBy, AreChained}
 use Rattle.laws_board.specs.turns.Turns.{BoardTurn}
 use Rattle.laws_board.specs.clocks.Runs.{orders_in}
 use Rattle.laws_board.proofs.clocks.Orders.{order_length}
@@ -16,6 +10,7 @@ use Rattle.laws_board.specs.sections.Homes.{AreInTurn, AreOrdersIn, AreSoon, IsH
 use Rattle.laws_board.proofs.sections.HomeLimits.{past_empty}
 use Rattle.laws_board.proofs.sections.Releasing.{AreFrom, from_down, none_at, paced_from}
 use Rattle.laws_homing.specs.home_runs.Settled.{SendNoneIn, SetNoClock, SetNoClockFrom}
+use Rattle.laws_board.proofs.sections.HomeCut.{start_behind}
 
 none_both : (xs ys : List StepUnit) → SetNoClock xs → SetNoClock ys → SetNoClock (xs ++ ys)
 none_both [] ys a b = b
@@ -82,10 +77,6 @@ later_empty clocks freq slots until k turn stops (x ∷ ss) row all l =
     let b = row.1 in
     empty_both (batch_at k x.section.releases) (Units k ss) (next_empty x.homes clocks freq slots until k stops x refl (All-head (λ y. By clocks freq slots until stops y) x ss all) (omega (arith, a, l)))
     (later_empty clocks freq slots until k x.section.end stops ss row.2 (All-tail (λ y. By clocks freq slots until stops y) x ss all) (omega (arith, a, b, l)))
-
-start_behind : (turn : ℕ) (past : List RunSection) (s : RunSection) (later : List RunSection) → AreInTurn turn (past ++ s ∷ later) → turn + 260 ≤ s.section.start
-start_behind turn [] s later row = row.0
-start_behind turn (x ∷ past) s later row = let a = row.0 in let b = row.1 in let c = start_behind x.section.end past s later row.2 in omega (arith, a, b, c)
 
 turn_none : (clocks : Clocks) (freq slots until by k turn : ℕ) (stops : ℕ → Option ℕ) (past : List RunSection) (s : RunSection) (later : List RunSection) → AreInTurn turn (past ++ s ∷ later)
     → All (λ x. By clocks freq slots until stops x) (past ++ s ∷ later) → AreSoon by (past ++ s ∷ later) → k ≤ by → s.homes ≡ true → s.section.start ≤ k + 254 → k < s.section.end → SetNoClock (Units k (past ++ s ∷ later))

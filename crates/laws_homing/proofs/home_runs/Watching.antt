@@ -1,29 +1,16 @@
 -- A link over turns from a moment on at which nothing is under way up, and no command is left that starts its board's trigger: what is told of
 -- the trigger that it can't trigger is so.
 use Rattle.std.proofs.Common.{◌≡◌, ℕ, ◌+◌, ◌≤◌, ◌⊎◌, inl, inr, Bool, List, [], ◌∷◌, ◌++◌, length, map, Option, Some, None, refl, ap, sym, subst, arith}
-use Rattle.plan_types.specs.declared.clock.BoardClock.{BoardClock}
-use Rattle.plan_types.specs.Clock.{board_tick}
-use Rattle.msg_dict.specs.Own.{own_formats}
-use Rattle.msg_code.specs.declared.cmd.Cmd.{Cmd}
+use Rattle.laws_board.proofs.Names.{BoardClock, board_tick, own_formats, Cmd, News, IsText, Down, Up, Reply, Meant, Rig, Event, plain, units_orders, IsOrdered, Core, Step, Do, Turn, does, after_event, in_turn, run_world, takes_in, queued_in, orders, LinkState, Orders, after_board, after_host, come}
 use Rattle.msg_code.specs.declared.cmd.Cmd.TheVariants as cmd
-use Rattle.msg_code.specs.declared.talk.News.{News}
-use Rattle.msg_code.specs.Text.{IsText}
-use Rattle.wire_scene.specs.declared.scene.Way.TheVariants.{Down, Up}
 use Rattle.wire_scene.specs.declared.wire.Fate.{Fate}
 use Rattle.wire_scene.specs.declared.wire.Fate.TheVariants.{Lost, Last, Stays, Garbled}
-use Rattle.link_core.specs.Core.{Reply}
-use Rattle.board_sim.specs.Fair.{Meant}
-use Rattle.board_sim.specs.Rig.{Rig}
-use Rattle.board_world.specs.declared.event.Event.{Event}
 use Rattle.board_world.specs.declared.event.Event.TheVariants as event
-use Rattle.board_world.specs.Orders.{plain, units_orders}
-use Rattle.board_world.specs.Stands.{IsAnswer, IsOrdered}
-use Rattle.board_world.specs.World.{Core, Step, Do, Turn, does, after_event, in_turn, orders_of, run_world, takes_in}
+use Rattle.board_world.specs.Stands.{IsAnswer}
+use Rattle.board_world.specs.World.{orders_of}
 use Rattle.board_world.proofs.Runs.{ordered_by, ordered_turn}
-use Rattle.link_work.specs.Runs.{queued_in}
-use Rattle.link_work.specs.Stands.{orders}
 use Rattle.link_work.specs.Told.{AreNews, before_replies, heard_in, news_of}
-use Rattle.link_work.specs.Turn.{LinkState, Orders, after_board, after_host, after_replies, board_steps, come, comes, host_steps, resends, sends}
+use Rattle.link_work.specs.Turn.{after_replies, board_steps, comes, host_steps, resends, sends}
 use Rattle.link_work.proofs.Steps.{AllOf, all_append, all_come, all_resent, all_sent}
 use Rattle.laws_board.specs.turns.Turns.{AreBoardTurns, BoardTurn, stands_after}
 use Rattle.laws_board.proofs.clocks.Links.{IsTurnAfter}

@@ -1,27 +1,12 @@
 -- What a board was sent by the turns of a homing section: the stepper that moves is bound to its trigger.
 use Rattle.std.proofs.Common.{◌≡◌, ℕ, ◌+◌, ◌<◌, ◌≤◌, ◌==◌, ◌&&◌, ◌⊎◌, inl, inr, Bool, true, false, cond, List, [], ◌∷◌, ◌++◌, length, map, Option, Some, None, refl, ap, sym, ◌∙◌, subst, arith}
-use Rattle.std.specs.List.{filter, flat_map}
-use Rattle.std.proofs.lemmas.Bool.{eq-eqb, eqb-true}
-use Rattle.std.proofs.lemmas.List.{map-append}
-use Rattle.plan_types.specs.declared.levels.Level.{Level}
-use Rattle.plan_types.specs.declared.machine.Machine.{Machine}
+use Rattle.laws_board.proofs.Names.{flat_map, eq-eqb, eqb-true, map-append, Level, Machine, IsValidMachine, stepper_at, dir_commands, reset_commands, step_command, Cmd, Unit as StepUnit, Entry, Switch, commands_of, plain, unit_orders, units_orders, queued_in, orders, Setup, configuration, trigger_of, Connecting, Came, known_by}
+use Rattle.std.specs.List.{filter}
 use Rattle.plan_types.specs.declared.machine.StepperDef.{StepperDef}
-use Rattle.plan_types.specs.Machines.{IsValidMachine, stepper_at}
-use Rattle.msg_code.specs.Units.{dir_commands, reset_commands, step_command}
-use Rattle.msg_code.specs.declared.cmd.Cmd.{Cmd}
 use Rattle.msg_code.specs.declared.cmd.Cmd.TheVariants as cmd
-use Rattle.msg_code.specs.declared.unit.Unit.{Unit as StepUnit}
-use Rattle.wire_scene.specs.declared.scene.Entry.{Entry}
-use Rattle.wire_scene.specs.declared.scene.Switch.{Switch}
-use Rattle.board_sim.specs.Fair.{commands_of}
-use Rattle.board_world.specs.Orders.{plain, unit_orders, unit_ticks, units_orders}
-use Rattle.link_work.specs.Runs.{queued_in}
-use Rattle.link_work.specs.Stands.{orders}
-use Rattle.board_asking.specs.declared.setup.Setup.{Setup}
+use Rattle.board_world.specs.Orders.{unit_ticks}
 use Rattle.board_asking.specs.declared.setup.Setup.TheVariants.{Finish, Stepper, Trsync}
-use Rattle.board_asking.specs.Machine.{configuration, endstop_pins, setup_command, setup_endstops, setup_stepper, trigger_of}
-use Rattle.host_reactor.specs.declared.ordered.Phase.TheVariants.{Connecting}
-use Rattle.host_reactor.specs.Runs.{Came, known_by}
+use Rattle.board_asking.specs.Machine.{endstop_pins, setup_command, setup_endstops, setup_stepper}
 use Rattle.laws_board.specs.turns.Turns.{BoardTurn}
 use Rattle.laws_board.specs.clocks.Ordered.{commands_in, configures, makes, times_made}
 use Rattle.laws_board.specs.clocks.Runs.{IsInRun}
@@ -34,6 +19,7 @@ use Rattle.laws_homing.proofs.home_runs.Firing.{calm_both, calm_each}
 use Rattle.laws_homing.proofs.home_runs.Saying.{EachCalm}
 use Rattle.laws_homing.proofs.home_runs.Setting.{Binds}
 use Rattle.laws_homing.proofs.home_runs.Staging.{commands_both, stage_append}
+use Rattle.laws_homing.proofs.clear_boards.Ordered.{plain_are}
 
 -- no other trigger is made
 abbrev pub OneOnly : ℕ → Cmd → Type 0
@@ -222,13 +208,8 @@ pub units_calm : (i j : ℕ) (us : List StepUnit) → SetNone i us → AreCalm i
 units_calm i j [] n = tt
 units_calm i j (u ∷ us) n = calm_both i j (unit_orders u) (units_orders us) (unit_calm i j u n.0) (units_calm i j us n.1)
 
--- what a turn brings
-plain_commands : (cs : List Cmd) → commands_of (map plain cs) ≡ cs
-plain_commands [] = refl
-plain_commands (c ∷ cs) = ap (λ (l : List Cmd). c ∷ l) (plain_commands cs)
-
 pub turn_commands : (t : BoardTurn) → commands_of (queued_in (orders t.control t.batch)) ≡ t.control.commands ++ commands_of (units_orders t.batch.units)
-turn_commands t = commands_both (map plain t.control.commands) (units_orders t.batch.units) ∙ ap (λ (l : List Cmd). l ++ commands_of (units_orders t.batch.units)) (plain_commands t.control.commands)
+turn_commands t = commands_both (map plain t.control.commands) (units_orders t.batch.units) ∙ ap (λ (l : List Cmd). l ++ commands_of (units_orders t.batch.units)) (plain_are t.control.commands)
 
 each_plain : (i j : ℕ) (cs : List Cmd) → EachCalm i j cs → AreCalm i j (map plain cs)
 each_plain i j [] k = tt

@@ -1,24 +1,10 @@
 -- Turns of a board behind the set-up of a homing section.
 use Rattle.std.proofs.Common.{◌≡◌, ℕ, ◌≤◌, List, [], ◌∷◌, ◌++◌, length, refl, ap, sym, ◌∙◌, subst, arith}
-use Rattle.plan_types.specs.declared.clock.BoardClock.{BoardClock}
-use Rattle.plan_types.specs.declared.levels.Level.{Level}
-use Rattle.plan_types.specs.declared.machine.BoardDef.{BoardDef}
-use Rattle.plan_types.specs.Clock.{clock_of}
-use Rattle.msg_code.specs.declared.cmd.Cmd.{Cmd}
-use Rattle.wire_scene.specs.declared.scene.Entry.{Entry}
-use Rattle.link_core.specs.Core.{Reply}
+use Rattle.laws_board.proofs.Names.{BoardClock, Level, BoardDef, clock_of, Cmd, Entry, Reply, commands_of, Rig, takes, takes_all, Event, IsOrdered, Core, Step, Do, Turn, does, after_event, in_turn, run_world, takes_in, first_state, orders, LinkState, turns_are_steps}
 use Rattle.board_sim.specs.Board.{stepper_at}
-use Rattle.board_sim.specs.Fair.{commands_of}
-use Rattle.board_sim.specs.Rig.{Rig, takes, takes_all}
 use Rattle.board_sim.specs.RigRuns.{IsHalted}
-use Rattle.board_world.specs.declared.event.Event.{Event}
 use Rattle.board_world.specs.declared.event.Event.TheVariants as event
-use Rattle.board_world.specs.Stands.{IsOrdered}
-use Rattle.board_world.specs.World.{Core, Step, Do, Turn, does, after_event, in_turn, run_world, takes_in}
 use Rattle.board_world.proofs.Runs.{ordered, start_ordered}
-use Rattle.link_work.specs.Stands.{first_state, orders}
-use Rattle.link_work.specs.Turn.{LinkState}
-use Rattle.link_work.proofs.Turns.{turns_are_steps}
 use Rattle.laws_board.specs.turns.Turns.{AreBoardTurns, BoardTurn, stands_after}
 use Rattle.laws_homing.proofs.clear_boards.Slots.{passes_beside, running_beside}
 use Rattle.laws_homing.specs.home_runs.Windows.{BringCalm, IsSetUp, IsWatched, TellFired}

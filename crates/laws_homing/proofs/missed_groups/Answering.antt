@@ -1,13 +1,9 @@
 -- A homing group that answers that no switch closed: none of its members is known to have expired in time, and no endstop's board to have read its switch.
 use Rattle.std.proofs.Common.{◌≡◌, ℕ, ◌≤◌, ◌==◌, Bool, true, false, cond, List, [], ◌∷◌, map, Option, Some, None, refl, ap, ◌∙◌, subst, arith, inl, inr}
 use Rattle.std.specs.Prelude.{◌&&◌, nat_le}
-use Rattle.std.proofs.lemmas.Bool.Decides.{eqb_tells, leb_tells}
-use Rattle.trigger_group.specs.declared.order.End.{End}
+use Rattle.laws_board.proofs.Names.{eqb_tells, leb_tells, End, Fired, Seen, GroupState, all_fired, answer_in, both_parts, and_from}
 use Rattle.trigger_group.specs.declared.order.End.TheVariants.{Endstop, Expired, NoSwitch}
-use Rattle.trigger_group.specs.declared.seen.Fired.{Fired}
-use Rattle.trigger_group.specs.declared.seen.Seen.{Seen}
-use Rattle.trigger_group.specs.Group.{GroupState, all_fired, answer, ended, expired, first_expired, first_switched, has_fired, or_else, or_none, switched}
-use Rattle.axis_homing.specs.Homing.{answer_in}
+use Rattle.trigger_group.specs.Group.{answer, ended, expired, first_expired, first_switched, has_fired, or_else, or_none, switched}
 use Rattle.laws_homing.specs.home_runs.Told.{IsMember}
 use Rattle.laws_homing.specs.missed_groups.Ticks.{IsReader}
 use Rattle.laws_homing.proofs.missed_groups.Told.{Each, KnownIn}
@@ -75,14 +71,6 @@ missed k start g e =
     let y = none_of (first_expired g.last g.members) (first_switched g.members) (all_expired_other g.last g.members) (all_switched_other g.members) x.1 in
     record { all = x.0; unexpired = y.0; unswitched = y.1 }
 
-pub both_parts : (a b : Bool) → (a && b) ≡ true → (a ≡ true) × (b ≡ true)
-both_parts true b e = (refl, e)
-both_parts false b e = cc
-
-both_true : (a b : Bool) → a ≡ true → b ≡ true → (a && b) ≡ true
-both_true true b e f = f
-both_true false b e f = cc
-
 pub rest_missed : (last : ℕ) (x : Seen) (xs : List Seen) → Missed last (x ∷ xs) → Missed last xs
 rest_missed last x xs k = record {
   all = (both_parts (has_fired x.fired) (all_fired xs) k.all).1;
@@ -102,7 +90,7 @@ none_expired last board (Some g) f e none two early =
     let reason : (g.reason == 2) ≡ true = (elim (eqb_tells g.reason 2) [ inl p ↦ p.0 | inr p ↦ absurd (p.1 (ap (λ (z : Fired). z.reason) same ∙ two)) ]) in
     let turn : nat_le g.turn last ≡ true = (elim (leb_tells g.turn last) [ inl p ↦ p.0 | inr p ↦ absurd (let l = p.1 in let s = ap (λ (z : Fired). z.turn) same in omega (arith, l, s, early)) ]) in
     let If : Bool → Type 0 = λ c. cond c (Some (Expired board g.turn)) None ≡ None in
-    let bad : Some (Expired board g.turn) ≡ None = subst If (both_true (g.reason == 2) (nat_le g.turn last) reason turn) none in
+    let bad : Some (Expired board g.turn) ≡ None = subst If (and_from (g.reason == 2) (nat_le g.turn last) reason turn) none in
     cc
 
 -- so one that is known to have triggered in time did so by its readings
@@ -121,7 +109,7 @@ none_switched e (Some g) f is_end is none one =
     let same : g ≡ f = cc in
     let reason : (g.reason == 1) ≡ true = (elim (eqb_tells g.reason 1) [ inl p ↦ p.0 | inr p ↦ absurd (p.1 (ap (λ (z : Fired). z.reason) same ∙ one)) ]) in
     let If : Bool → Type 0 = λ c. cond c (Some (Endstop g.tick)) None ≡ None in
-    let bad : Some (Endstop g.tick) ≡ None = subst If (both_true e (g.reason == 1) is_end reason) none in
+    let bad : Some (Endstop g.tick) ≡ None = subst If (and_from e (g.reason == 1) is_end reason) none in
     cc
 
 pub reader_fired : (last b : ℕ) (xs : List Seen) → Missed last xs → IsReader b (map (λ (x : Seen). x.member) xs) → (W : ℕ → Fired → Type 0) (own : ℕ) → Each W own xs → (f : Fired) × ((f.reason ≡ 1) → ⊥) × W b f

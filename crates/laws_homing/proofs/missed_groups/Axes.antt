@@ -1,36 +1,16 @@
 -- The member of a homing group with the endstop is the board of the section's axis.
 use Rattle.std.proofs.Common.{◌≡◌, ◌⊎◌, ℕ, ◌+◌, ◌<◌, ◌≤◌, ◌==◌, Bool, true, false, cond, List, [], ◌∷◌, ◌++◌, length, map, Option, Some, None, refl, ap, sym, ◌∙◌, subst, arith, inl, inr}
 use Rattle.std.specs.Prelude.{nat_lt, ◌||◌}
-use Rattle.std.proofs.lemmas.Bool.Decides.{eqb_tells}
-use Rattle.plan_types.specs.declared.machine.AxisDef.{AxisDef}
-use Rattle.plan_types.specs.declared.machine.BoardDef.{BoardDef}
-use Rattle.plan_types.specs.declared.machine.Machine.{Machine}
-use Rattle.plan_types.specs.declared.plan.SectionKind.{SectionKind}
-use Rattle.plan_types.specs.declared.plan.SectionKind.TheVariants.{Home, Moves}
-use Rattle.plan_types.specs.Lines.{Clocks}
-use Rattle.plan_types.specs.Machines.{axis_at}
-use Rattle.msg_code.specs.declared.talk.Note.{Note}
-use Rattle.msg_code.specs.declared.talk.NoteNews.{NoteNews}
+use Rattle.laws_board.proofs.Names.{eqb_tells, AxisDef, BoardDef, Machine, SectionKind, Home, Moves, Clocks, axis_at, Note, NoteNews, State, Switch, End, Member, Seen, unseen, Homing, answer_in, goes_on_homing, hears_all, homing_after, members_from, members_of, Known, noted, known_behind, told_all, Reacted, Came, GoesOn, known_by, states-kept}
 use Rattle.msg_code.specs.declared.talk.NoteNews.TheVariants as news
-use Rattle.msg_code.specs.declared.talk.State.{State}
-use Rattle.wire_scene.specs.declared.scene.Switch.{Switch}
-use Rattle.trigger_group.specs.declared.order.End.{End}
-use Rattle.trigger_group.specs.declared.order.Member.{Member}
-use Rattle.trigger_group.specs.declared.seen.Seen.{Seen}
-use Rattle.trigger_group.specs.Group.{new_group, unseen}
+use Rattle.trigger_group.specs.Group.{new_group}
 use Rattle.trigger_group.specs.Kept.{may_be}
 use Rattle.trigger_group.proofs.Knows.{after_members}
-use Rattle.axis_homing.specs.declared.homing.Homing.{Homing}
-use Rattle.axis_homing.specs.Homing.{answer_in, goes_on_homing, hears_all, homing_after, homing_of, homing_with, member_where, members_from, moving_on}
-use Rattle.axis_homing.specs.Rising.{members_of}
-use Rattle.host_reactor.specs.declared.ordered.Known.{Known}
-use Rattle.host_reactor.specs.Notes.{noted, known_behind, told_all}
-use Rattle.host_reactor.specs.Reactor.{Reacted}
-use Rattle.host_reactor.specs.Runs.{Came, GoesOn, known_by}
+use Rattle.axis_homing.specs.Homing.{homing_of, homing_with, member_where, moving_on}
 use Rattle.laws_board.proofs.clocks.Turning.{goes}
-use Rattle.laws_homing.proofs.home_runs.Grouped.{members_states}
-use Rattle.laws_homing.proofs.clear_groups.Beginning.{same_unseen}
 use Rattle.laws_homing.specs.missed_groups.Ticks.{IsReader}
+use Rattle.plan_types.proofs.Facts.{was_equal}
+use Rattle.axis_homing.proofs.Rises.{unseen-members}
 
 -- of some members
 abbrev pub OfBoard : ℕ → ℕ → List Member → Type 0
@@ -59,15 +39,12 @@ where_reads b k e true moving own is (inl x) = is x.1 ∙ x.0
 where_reads b k e true moving own is (inr x) = absurd x
 where_reads b k e false moving own is x = absurd x
 
-own_is : (own k : ℕ) → (own == k) ≡ true → own ≡ k
-own_is own k e = elim (eqb_tells own k) [ inl p ↦ p.1 | inr p ↦ absurd (let f : false ≡ true = sym p.0 ∙ e in cc) ]
-
 all_read : (m : Machine) (axis : AxisDef) (moving b k : ℕ) (boards : List BoardDef) → IsReader b (members_from m axis moving k boards) → axis.board ≡ b
 all_read m axis moving b k [] x = absurd x
 all_read m axis moving b k (d ∷ boards) x =
     let few = moving_on k moving m.steppers in
     elim (either_reader b (member_where k (axis.board == k) few) (members_from m axis moving (k + 1) boards) x) [
-      | inl one ↦ where_reads b k (axis.board == k) ((axis.board == k) || nat_lt 0 few) few axis.board (own_is axis.board k) one
+      | inl one ↦ where_reads b k (axis.board == k) ((axis.board == k) || nat_lt 0 few) few axis.board (was_equal axis.board k) one
       | inr more ↦ all_read m axis moving b (k + 1) boards more
     ]
 
@@ -95,7 +72,7 @@ one_reads m axis moving k (d ∷ boards) from low =
         lt_or a k = grind arith
 
 begun_if : (m : Machine) (c : Bool) (section axis turn last : ℕ) (ms : List Member) → OfBoard (axis_at m axis).board (length m.boards) ms → OfAxis m (homing_with section axis turn (cond c (Some (new_group ms turn last)) None))
-begun_if m true section axis turn last ms of = subst (OfBoard (axis_at m axis).board (length m.boards)) (sym (same_unseen ms)) of
+begun_if m true section axis turn last ms of = subst (OfBoard (axis_at m axis).board (length m.boards)) (sym (unseen-members ms)) of
 begun_if m false section axis turn last ms of = tt
 
 begun_of : (m : Machine) (section : ℕ) (kind : SectionKind) (turn last moving : ℕ) → OfAxis m (homing_of m section kind turn last moving)
@@ -127,7 +104,7 @@ after_of : (m : Machine) (clocks : List Clocks) (k : ℕ) (states : List State) 
 after_of m clocks k states None a = tt
 after_of m clocks k states (Some h) a =
     let g = hears_all clocks states h in
-    goes_of m k g (answer_in k g.start g.group) (subst (OfBoard (axis_at m h.axis).board (length m.boards)) (sym (members_states clocks 0 h.start states h.group)) a)
+    goes_of m k g (answer_in k g.start g.group) (subst (OfBoard (axis_at m h.axis).board (length m.boards)) (sym (states-kept clocks 0 h.start states h.group)) a)
 
 known_of : (m : Machine) (switches : List Switch) (came : List Came) → GoesOn m switches came → OfAxis m (known_by m switches came).homing
 known_of m switches [] g = tt

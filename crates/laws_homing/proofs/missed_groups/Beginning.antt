@@ -1,35 +1,15 @@
 -- A member's board takes the set-up of a homing section: its trigger minds the readings of the section.
 use Rattle.std.proofs.Common.{◌≡◌, ℕ, ◌*◌, ◌/◌, ◌==◌, ◌⊎◌, inl, inr, Bool, true, false, List, [], ◌∷◌, ◌++◌, get_or, set, map, take, Option, Some, None, refl, ap, sym, ◌∙◌, subst, arith}
 use Rattle.std.specs.Prelude.{if◌then◌else◌, slice_index_or}
-use Rattle.std.proofs.lemmas.List.{get_or-set_same}
-use Rattle.plan_types.specs.declared.levels.Level.{Level}
-use Rattle.plan_types.specs.declared.machine.AxisDef.{AxisDef}
-use Rattle.plan_types.specs.declared.machine.Machine.{Machine}
-use Rattle.plan_types.specs.declared.plan.BoardState.{BoardState}
-use Rattle.plan_types.specs.declared.plan.BoardState.TheVariants.{Running, Shut}
-use Rattle.plan_types.specs.Board.{nearest}
-use Rattle.plan_types.specs.Lines.{Clocks}
+use Rattle.laws_board.proofs.Names.{get_or-set_same, Level, AxisDef, Machine, BoardState, Running, Shut, nearest, Clocks, board_at, turn_tick, Cmd, trigger_of, Pending, Sampling, Trigger, Rig, Slot, acts, acts_running, becomes, expires_at_once, set_timeout, slot_at, takes, takes_all, slot_range, Ctl, Order, Starts, Seen, round_of, steppers, commands_to, low, order_command}
 use Rattle.plan_types.specs.Machines as machine
-use Rattle.plan_types.specs.Machines.{board_at}
-use Rattle.clock_line.specs.Early.{turn_tick}
-use Rattle.msg_code.specs.declared.cmd.Cmd.{Cmd}
 use Rattle.msg_code.specs.declared.cmd.Cmd.TheVariants as cmd
-use Rattle.board_asking.specs.Machine.{trigger_of}
-use Rattle.board_step.specs.Steps.{Pending}
-use Rattle.board_trig.specs.declared.sampling.Sampling.{Sampling}
-use Rattle.board_trig.specs.declared.trigger.Trigger.{Trigger}
 use Rattle.board_trig.specs.Kept.{MovesOn}
 use Rattle.board_trig.specs.Trigger as trig
 use Rattle.board_sim.specs.Board.{stepper_at}
-use Rattle.board_sim.specs.Rig.{Rig, Slot, acts, acts_running, becomes, bind, expires_at_once, set_timeout, slot_at, start_trigger, takes, takes_all}
-use Rattle.board_sim.proofs.Bound.{slot_range}
-use Rattle.trigger_group.specs.declared.order.Ctl.{Ctl}
-use Rattle.trigger_group.specs.declared.order.Order.{Order}
+use Rattle.board_sim.specs.Rig.{bind, start_trigger}
 use Rattle.trigger_group.specs.declared.order.Order.TheVariants as order
-use Rattle.trigger_group.specs.declared.round.Round.TheVariants.{Starts}
-use Rattle.trigger_group.specs.declared.seen.Seen.{Seen}
-use Rattle.trigger_group.specs.Group.{orders_to, round_of, steppers, stop}
-use Rattle.axis_homing.specs.Homing.{commands_to, low, order_command}
+use Rattle.trigger_group.specs.Group.{orders_to, stop}
 use Rattle.laws_homing.specs.clear_boards.Alive.{RelayNone}
 use Rattle.laws_homing.specs.clear_boards.Turned.{AreSentBehind, IsSentBehind, Relays}
 use Rattle.laws_homing.specs.missed_groups.Minds.{Hits, Minds}
@@ -178,7 +158,7 @@ module _ (oid : ℕ) (Q : Type 0) where
 -- the orders of the turn in which a section starts a board's trigger
 module _ (m : Machine) (clocks : Clocks) (b start : ℕ) (axis : AxisDef) (Q : Type 0) where
   abbrev Commands : List Ctl → List Cmd
-  Commands ctls = commands_to m clocks b start_trigger axis ctls
+  Commands ctls = commands_to m clocks b start axis ctls
 
   abbrev BlankAt : Rig → Type 0
   BlankAt r = Blank (trigger_of m b) Q r
@@ -206,18 +186,18 @@ module _ (m : Machine) (clocks : Clocks) (b start : ℕ) (axis : AxisDef) (Q : T
   starts_first timeout [] = tt
   starts_first timeout (x ∷ xs) = first_both (orders_to (Starts timeout) x) (round_of (Starts timeout) xs) (tt, (tt, stops_first x (take 8 (steppers x)))) (starts_first timeout xs)
 
-  first_one : (what : Order) (r : Rig) → IsFirst what → BlankAt r → BlankAt (acts r (order_command m clocks b start_trigger axis what)).rig
+  first_one : (what : Order) (r : Rig) → IsFirst what → BlankAt r → BlankAt (acts r (order_command m clocks b start axis what)).rig
   first_one (order.Stop i) r k (inl h) = inl (binds_rests (trigger_of m b) Q r (machine.stepper_at m i).oid h)
   first_one (order.Stop i) r k (inr h) = inr (binds_minded (trigger_of m b) Q Never r (machine.stepper_at m i).oid h)
-  first_one order.Start r k h = starts (trigger_of m b) Q r (low (turn_tick clocks start_trigger)) ((board_at m b).freq * 5 / 1_000) h
+  first_one order.Start r k h = starts (trigger_of m b) Q r (low (turn_tick clocks start)) ((board_at m b).freq * 5 / 1_000) h
   first_one (order.Timeout turn) r k h = times (trigger_of m b) Q r (low (turn_tick clocks turn)) h
   first_one order.Home r k h = absurd k
   first_one (order.Reset i) r k h = absurd k
   first_one order.Trigger r k h = absurd k
 
-  first_to : (here : Bool) (what : Order) (rest : List Cmd) (r : Rig) → IsFirst what → ((q : Rig) → BlankAt q → BlankAt (takes_all q rest).rig) → BlankAt r → BlankAt (takes_all r ((if here then order_command m clocks b start_trigger axis what ∷ [] else []) ++ rest)).rig
+  first_to : (here : Bool) (what : Order) (rest : List Cmd) (r : Rig) → IsFirst what → ((q : Rig) → BlankAt q → BlankAt (takes_all q rest).rig) → BlankAt r → BlankAt (takes_all r ((if here then order_command m clocks b start axis what ∷ [] else []) ++ rest)).rig
   first_to true what rest r k more h =
-      let c = order_command m clocks b start_trigger axis what in
+      let c = order_command m clocks b start axis what in
       more (takes r c).rig (taken (trigger_of m b) Q BlankAt r c (first_one what r k h) (λ reason tick first. same_blank (trigger_of m b) Q r c reason tick first h))
   first_to false what rest r k more h = more r h
 

@@ -1,18 +1,8 @@
 -- In a scene without entries the endstop of an axis stands on its board past connecting, with its pin.
 use Rattle.std.proofs.Common.{◌≡◌, ℕ, ◌+◌, ◌<◌, List, [], length, Some, None, ap, sym, ◌∙◌, subst, inl, inr}
 use Rattle.std.specs.Prelude.{slice_index_or}
-use Rattle.plan_types.specs.declared.levels.Level.{Level}
-use Rattle.plan_types.specs.declared.machine.Machine.{Machine}
-use Rattle.plan_types.specs.declared.plan.BoardState.TheVariants.{Running}
-use Rattle.plan_types.specs.Machines.{IsValidMachine, axis_at, board_at}
-use Rattle.wire_scene.specs.declared.scene.Entry.{Entry}
-use Rattle.wire_scene.specs.declared.scene.Switch.{Switch}
-use Rattle.board_sim.specs.Fair.{Meant, commands_of}
-use Rattle.link_work.specs.Limits.{AllKeepLimits}
-use Rattle.link_work.specs.Stands.{first_state}
-use Rattle.board_asking.specs.Machine.{endstop_pins, trigger_of}
-use Rattle.host_reactor.specs.declared.ordered.Phase.TheVariants.{Connecting}
-use Rattle.host_reactor.specs.Runs.{Came, known_by}
+use Rattle.laws_board.proofs.Names.{Level, Machine, Running, IsValidMachine, axis_at, board_at, Entry, Switch, Meant, commands_of, AllKeepLimits, first_state, trigger_of, Connecting, Came, known_by}
+use Rattle.board_asking.specs.Machine.{endstop_pins}
 use Rattle.laws_board.specs.turns.Turns.{BoardTurn, stands_after}
 use Rattle.laws_board.specs.clocks.Runs.{IsInRun, orders_in}
 use Rattle.laws_homing.specs.switch_runs.Made.{MakesEndstop}

@@ -1,47 +1,20 @@
 -- A homing group and its members' boards over a turn of a section: a trigger that can't trigger triggered lately, since the start, and the group knows of it.
 use Rattle.std.proofs.Common.{◌≡◌, ℕ, ◌+◌, ◌-◌, ◌*◌, ◌%◌, ◌^◌, ◌<◌, ◌≤◌, ◌⊎◌, inl, inr, Bool, true, false, List, [], ◌∷◌, ◌++◌, length, map, max, Option, Some, None, refl, ap, sym, ◌∙◌, subst, arith}
 use Rattle.std.specs.Prelude.{◌&&◌, ◌||◌, nat_le, slice_index_or}
-use Rattle.std.proofs.lemmas.Bool.Decides.{leb_tells}
-use Rattle.plan_types.specs.declared.levels.Level.{Level}
-use Rattle.plan_types.specs.declared.machine.Machine.{Machine}
-use Rattle.plan_types.specs.Board.{nearest}
-use Rattle.plan_types.specs.Clock.{board_tick, clock_of, turn_ns, run_turns}
-use Rattle.plan_types.specs.Lines.{Clocks, lines_tick}
-use Rattle.plan_types.specs.Machines.{IsValidMachine, board_at}
-use Rattle.plan_types.specs.Sections.{clocks_at}
-use Rattle.clock_line.specs.Early.{turn_in_run, turn_tick}
-use Rattle.wire_scene.specs.declared.scene.Entry.{Entry}
-use Rattle.wire_scene.specs.declared.scene.Switch.{Switch}
-use Rattle.msg_code.specs.declared.cmd.Cmd.{Cmd}
+use Rattle.laws_board.proofs.Names.{leb_tells, Level, Machine, nearest, board_tick, clock_of, turn_ns, Clocks, lines_tick, IsValidMachine, board_at, clocks_at, turn_in_run, turn_tick, Entry, Switch, Cmd, News, State, trigger_of, Sampling, commands_of, Rig, Slot, passes, slot_at, takes_all, one_slot, says, queued_in, orders, Member, Fired, Seen, GroupState, turned_group, all_fired, phase, Homing, hears_all, Connecting, noted, Came, known_by, both_parts, no_both}
+use Rattle.plan_types.specs.Clock.{run_turns}
 use Rattle.msg_code.specs.declared.cmd.Cmd.TheVariants as cmd
-use Rattle.msg_code.specs.declared.talk.News.{News}
-use Rattle.msg_code.specs.declared.talk.State.{State}
-use Rattle.board_asking.specs.Machine.{trigger_of}
-use Rattle.board_trig.specs.declared.sampling.Sampling.{Sampling}
 use Rattle.board_trig.specs.Sampling.{IsTriggerTick}
-use Rattle.board_sim.specs.Fair.{commands_of}
-use Rattle.board_sim.specs.Rig.{Rig, Slot, passes, slot_at, takes_all}
-use Rattle.board_sim.proofs.Bound.{one_slot}
 use Rattle.board_sim.specs.Turn.{says_shut}
-use Rattle.board_world.specs.World.{says, shut_before}
-use Rattle.link_work.specs.Runs.{queued_in}
-use Rattle.link_work.specs.Stands.{orders}
+use Rattle.board_world.specs.World.{shut_before}
 use Rattle.laws_board.specs.turns.Turns.{BoardTurn}
 use Rattle.laws_board.specs.sections.Parts.{AreTracked}
 use Rattle.laws_board.proofs.sections.Clocks.{ticks_rise}
-use Rattle.trigger_group.specs.declared.order.Member.{Member}
-use Rattle.trigger_group.specs.declared.seen.Fired.{Fired}
-use Rattle.trigger_group.specs.declared.seen.Seen.{Seen}
-use Rattle.trigger_group.specs.Group.{GroupState, turned_group, all_fired, any_fired_by, fired_by, has_fired, phase, relay_begins}
-use Rattle.axis_homing.specs.declared.homing.Homing.{Homing}
-use Rattle.axis_homing.specs.Homing.{hears_all}
-use Rattle.host_reactor.specs.declared.ordered.Phase.TheVariants.{Connecting}
-use Rattle.host_reactor.specs.Notes.{noted}
-use Rattle.host_reactor.specs.Runs.{Came, known_by}
+use Rattle.trigger_group.specs.Group.{any_fired_by, fired_by, has_fired, relay_begins}
 use Rattle.laws_homing.specs.home_runs.Guards.{HasFired, StandsFired}
 use Rattle.laws_homing.specs.home_runs.Told.{IsMember}
 use Rattle.laws_homing.specs.home_runs.Windows.{HasAnswer, IsFired, SayFired}
-use Rattle.laws_homing.proofs.home_runs.Guarding.{Next, passes_next, true_or_false}
+use Rattle.laws_homing.proofs.home_runs.Guarding.{Next, passes_next}
 use Rattle.laws_homing.proofs.home_runs.Spelled.{own_state}
 use Rattle.laws_homing.proofs.home_runs.Told.{told_stands}
 use Rattle.laws_homing.specs.clear_boards.Clocking.{IsCounted}
@@ -70,12 +43,15 @@ use Rattle.laws_homing.proofs.clear_groups.Beginning as beginning
 use Rattle.laws_homing.proofs.clear_groups.Beginning.{none_new}
 use Rattle.laws_homing.proofs.clear_groups.Boards as boards
 use Rattle.laws_homing.proofs.clear_groups.Groups as groups
-use Rattle.laws_homing.proofs.clear_groups.Groups.{none_at}
+use Rattle.laws_homing.proofs.clear_groups.Groups.{none_at, either_part}
 use Rattle.laws_homing.proofs.clear_groups.Known.{behind_turn, member_seen}
 use Rattle.laws_homing.proofs.clear_groups.Orders.{IsSent}
 use Rattle.laws_homing.proofs.missed_groups.Stepping as stepping
-use Rattle.laws_homing.proofs.missed_groups.Stepping.{both_parts, either_part, le_so, none_relay, relay_after}
-use Rattle.laws_homing.proofs.clear_boards.Slots.{no_both}
+use Rattle.laws_homing.proofs.missed_groups.Stepping.{none_relay, relay_after, still_fired}
+use Rattle.plan_types.proofs.Facts.{is_le, true_or_false, was_le}
+use Rattle.std.proofs.lemmas.Bool.{or_parts}
+use Rattle.laws_homing.proofs.fired_runs.Reported.{sole_state}
+use Rattle.board_trig.proofs.TriggerTicks.{second_by}
 
 -- the triggers of a group's boards, and what it knows of them, as a turn begins
 module _ (m : Machine) (lines : ℕ → Clocks) (start last : ℕ) (members : List Member) where
@@ -145,17 +121,6 @@ all_known (x ∷ xs) f =
     both true b e f = f
     both false b e f = cc
 
-second_false : (a b : Bool) → a ≡ true → (a && b) ≡ false → b ≡ false
-second_false true b e f = f
-second_false false b e f = cc
-
-both_false : (a b : Bool) → (a || b) ≡ false → (a ≡ false) × (b ≡ false)
-both_false true b e = cc
-both_false false b e = (refl, e)
-
-le_true : (a b : ℕ) → a ≤ b → nat_le a b ≡ true
-le_true a b l = elim (leb_tells a b) [ inl p ↦ p.0 | inr p ↦ absurd (omega (arith, p.1, l)) ]
-
 any_on : (b last : ℕ) (xs : List Seen) → IsMember b (map (λ (x : Seen). x.member) xs) → FiredOn b last xs → any_fired_by last xs ≡ true
 any_on b last [] k f = absurd k
 any_on b last (x ∷ xs) (inl e) f = left (fired_by last x.fired) (any_fired_by last xs) (f.0 e)
@@ -212,18 +177,11 @@ record Still (oid tick : ℕ) (r : Rig) : Type 0 where
   idle : slot.trigger.timeout ≡ None
   same : slot.trigger.tick ≡ tick
 
-still_fired : (could can : Bool) → (can ≡ true → could ≡ true) → could ≡ false → can ≡ false
-still_fired could true f off = absurd (no_both could (f refl) off)
-still_fired could false f off = refl
-
 still_on : (i oid tick : ℕ) (r q : Rig) → Next i oid r q → Still oid tick r → Still oid tick q
 still_on i oid tick r q x z =
     let b = x.slots z.slot z.is in
     let fell = still_fired z.slot.trigger.can b.slot.trigger.can b.stays.can z.fired in
     record { slot = b.slot; is = b.is; fired = fell; idle = b.stays.quiet (λ e. z.idle) fell; same = (b.stays.same z.fired z.idle).1 ∙ z.same }
-
-pub one_state : (x y : State) → x ∷ [] ≡ y ∷ [] → x ≡ y
-one_state x y e = cc
 
 -- over a turn
 module _ (m : Machine) (v : IsValidMachine m) (switches : List Switch) (pins : ℕ → List (List Level)) (entries : List Entry) (none : entries ≡ []) (lines : ℕ → Clocks) (ready from start last till : ℕ) (members : List Member)
@@ -592,7 +550,7 @@ module _ (m : Machine) (v : IsValidMachine m) (switches : List Switch) (pins : �
             where
               low_relay : (z : Bool) → relay_begins G K ≡ z → RelaysOne (Commands b) → Low ≤ Now
               low_relay true e relays =
-                  let late = le_so (G.start + 4) K (both_parts (nat_le (G.start + 4) K) (any_fired_by G.last G.members || nat_le (G.last + 5) K) e).0 in
+                  let late = was_le (G.start + 4) K (both_parts (nat_le (G.start + 4) K) (any_fired_by G.last G.members || nat_le (G.last + 5) K) e).0 in
                   let begins = safe.begins in
                   let size = long in
                   let up = rises (start + 4) Turn (omega (arith, late, begins, size)) in
@@ -609,7 +567,7 @@ module _ (m : Machine) (v : IsValidMachine m) (switches : List Switch) (pins : �
                   no_both u.trigger.can k.can (ap (λ (y : Slot). y.trigger.can) (sym same) ∙ z.fired))) in
                   record {
                     can = k.can;
-                    none = hears_none b All c.states Behind (λ z at. subst (λ (y : State). FiringNone y.news) (one_state (j b).state z (sym (s.states b on) ∙ at)) silent) before;
+                    none = hears_none b All c.states Behind (λ z at. subst (λ (y : State). FiringNone y.news) (sole_state (j b).state z (sym (s.states b on) ∙ at)) silent) before;
                     sampled = λ y e z hit. (let l = k.sampled y e z hit in omega (arith, l));
                   }
 
@@ -624,7 +582,7 @@ module _ (m : Machine) (v : IsValidMachine m) (switches : List Switch) (pins : �
           by (inr off) = (let z = stays x.slot x.is off.fired off.idle in record { slot = z.slot; is = z.is; fired = z.fired })
           by (inl able) =
               let both = both_parts (nat_le (G.start + 4) K) (any_fired_by G.last G.members || nat_le (G.last + 5) K) e in
-              let late = le_so (G.start + 4) K both.0 in
+              let late = was_le (G.start + 4) K both.0 in
               let begins = safe.begins in
               let ends = safe.ends in
               elim (either_part (any_fired_by G.last G.members) (nat_le (G.last + 5) K) both.1) [
@@ -635,7 +593,7 @@ module _ (m : Machine) (v : IsValidMachine m) (switches : List Switch) (pins : �
                     let relays = sent_relays m lines_now b h K G (Commands b) ordered (omega (arith, late)) (unended (omega (arith, late, begins))) y.0 y.1 y.2 (none_at b y.0 G.members y.1 y.2 able.none) late calm_now some in
                     groups.relay_on m switches pins entries lines ready from start last till members followed c d past j js Rested early low_so far reach h is b on safe.begins x.slot x.is relays
                 | inr far_so ↦
-                    let over = le_so (G.last + 5) K far_so in
+                    let over = was_le (G.last + 5) K far_so in
                     absurd (stepping.off_late m v switches pins entries none lines ready from start last till members followed 0 0 c d past j js s early low_so far reach h is b on safe (omega (arith, over, ends)) x.slot x.is able.can)
               ]
 
@@ -660,7 +618,7 @@ module _ (m : Machine) (v : IsValidMachine m) (switches : List Switch) (pins : �
             absurd (elim (relay_after (phase G.start G.last K) G K k (sym hears.relay ∙ e)) [
               | inl old ↦ (let bad : None ≡ Some k = sym calm_now ∙ old in cc)
               | inr new ↦
-                  let late = le_so (G.start + 4) K (both_parts (nat_le (G.start + 4) K) (any_fired_by G.last G.members || nat_le (G.last + 5) K) new.1).0 in
+                  let late = was_le (G.start + 4) K (both_parts (nat_le (G.start + 4) K) (any_fired_by G.last G.members || nat_le (G.last + 5) K) new.1).0 in
                   let begins = safe.begins in
                   no_both (all_fired N.members) (relays_all new.1) (going (omega (arith, late, begins)))
             ])
@@ -676,7 +634,7 @@ module _ (m : Machine) (v : IsValidMachine m) (switches : List Switch) (pins : �
             let till_so = t.1 in
             let order = (followed b on).goes in
             let first_begins = (followed b on).begins in
-            let none_so = both_false (any_fired_by G.last G.members) (nat_le (G.last + 5) K) (second_false (nat_le (G.start + 4) K) (any_fired_by G.last G.members || nat_le (G.last + 5) K) (le_true (G.start + 4) K (omega (arith, far_so, begins))) e) in
+            let none_so = or_parts (any_fired_by G.last G.members) (nat_le (G.last + 5) K) (second_by (nat_le (G.start + 4) K) (any_fired_by G.last G.members || nat_le (G.last + 5) K) (is_le (G.start + 4) K (omega (arith, far_so, begins))) e) in
             let soon : K < last + 5 = elim (leb_tells (G.last + 5) K) [ inl p ↦ absurd (no_both (nat_le (G.last + 5) K) p.0 none_so.1) | inr p ↦ (let l = p.1 in omega (arith, l, ends)) ] in
             let past_end : lines_tick (lines b) ((last + 1) * turn_ns) ≤ u.trigger.tick = elim (leb_tells (u.trigger.tick + 1) (lines_tick (lines b) ((last + 1) * turn_ns))) [
               | inl p ↦ absurd (no_both (any_fired_by last G.members) (late (let l = p.1 in omega (arith, l))) (subst (λ (n : ℕ). any_fired_by n G.members ≡ false) ends none_so.0))

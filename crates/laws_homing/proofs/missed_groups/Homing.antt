@@ -1,40 +1,20 @@
 -- In the turn in which a member's board is told to read its switch, its trigger minds these readings from the section's start on.
 use Rattle.std.proofs.Common.{◌≡◌, ℕ, ◌*◌, ◌/◌, ◌<◌, ◌≤◌, ◌==◌, ◌⊎◌, inl, inr, Bool, true, false, List, [], ◌∷◌, ◌++◌, get_or, set, map, drop, Option, Some, None, refl, ap, sym, ◌∙◌, subst, arith}
 use Rattle.std.specs.Prelude.{if◌then◌else◌, slice_index_or}
-use Rattle.std.proofs.lemmas.Bool.Decides.{eqb_tells}
-use Rattle.std.proofs.lemmas.List.{get_or-set_same}
+use Rattle.laws_board.proofs.Names.{eqb_tells, get_or-set_same, Level, AxisDef, Machine, Running, nearest, Clocks, board_at, turn_tick, Cmd, trigger_of, Pending, Sampling, Rig, Slot, acts, slot_at, takes, takes_all, slot_range, Ctl, Member, Order, Homes, Seen, round_of, steppers, commands_to, low, order_command}
 use Rattle.msg_code.specs.Units.{bit}
-use Rattle.plan_types.specs.declared.levels.Level.{Level}
-use Rattle.plan_types.specs.declared.machine.AxisDef.{AxisDef}
-use Rattle.plan_types.specs.declared.machine.Machine.{Machine}
-use Rattle.plan_types.specs.declared.plan.BoardState.TheVariants.{Running}
-use Rattle.plan_types.specs.Board.{nearest}
-use Rattle.plan_types.specs.Lines.{Clocks}
 use Rattle.plan_types.specs.Machines as machine
-use Rattle.plan_types.specs.Machines.{board_at}
-use Rattle.clock_line.specs.Early.{turn_tick}
-use Rattle.msg_code.specs.declared.cmd.Cmd.{Cmd}
 use Rattle.msg_code.specs.declared.cmd.Cmd.TheVariants as cmd
-use Rattle.board_asking.specs.Machine.{trigger_of}
-use Rattle.board_step.specs.Steps.{Pending}
 use Rattle.board_trig.specs.declared.sampling.Homing.{Homing as Reading}
-use Rattle.board_trig.specs.declared.sampling.Sampling.{Sampling}
 use Rattle.board_trig.specs.Sampling.{IsTriggerTick}
 use Rattle.board_trig.specs.Trigger as trig
 use Rattle.board_sim.specs.Board.{stepper_at}
-use Rattle.board_sim.specs.Rig.{Rig, Slot, acts, bind, home, slot_at, takes, takes_all}
-use Rattle.board_sim.proofs.Bound.{slot_range}
+use Rattle.board_sim.specs.Rig.{bind, home}
 use Rattle.board_sim.proofs.Halting.{sampling_moves}
 use Rattle.board_sim.proofs.RigTicks.{acts_rig_tick}
 use Rattle.laws_homing.specs.switch_runs.Runs.{readings}
-use Rattle.trigger_group.specs.declared.order.Ctl.{Ctl}
-use Rattle.trigger_group.specs.declared.order.Member.{Member}
-use Rattle.trigger_group.specs.declared.order.Order.{Order}
 use Rattle.trigger_group.specs.declared.order.Order.TheVariants as order
-use Rattle.trigger_group.specs.declared.round.Round.TheVariants.{Homes}
-use Rattle.trigger_group.specs.declared.seen.Seen.{Seen}
-use Rattle.trigger_group.specs.Group.{orders_to, round_of, steppers, stop, to_board}
-use Rattle.axis_homing.specs.Homing.{commands_to, low, order_command}
+use Rattle.trigger_group.specs.Group.{orders_to, stop, to_board}
 use Rattle.laws_homing.specs.missed_groups.Minds.{Hits, Minds}
 use Rattle.laws_homing.specs.missed_groups.Ticks.{IsReader, IsSwitchTick, readings_from}
 use Rattle.laws_homing.proofs.clear_groups.SetUp.{AllSetting, IsSetting, first_at, homes_setting, running}
@@ -42,6 +22,7 @@ use Rattle.laws_homing.proofs.clear_boards.Turned.{ran}
 use Rattle.laws_homing.proofs.switch_runs.Made.{acts_ends}
 use Rattle.laws_homing.proofs.switch_runs.Homes.{endstop_of}
 use Rattle.laws_homing.proofs.missed_groups.Beginning.{Never}
+use Rattle.laws_board.proofs.sections.Units.{dir_is}
 
 -- what it minds may be said otherwise
 pub minds_map : (T U : ℕ → Type 0) (Q R : Type 0) (pins : List (List Level)) (s : Slot) → ((x : ℕ) → T x → U x) → ((x : ℕ) → U x → T x) → (Q → R) → Minds T Q pins s → Minds U R pins s
@@ -65,11 +46,6 @@ pub record Able (oid : ℕ) (T : ℕ → Type 0) (Q : Type 0) (r : Rig) : Type 0
   pub slot : Slot
   pub is : slot_at r oid ≡ Some slot
   pub minds : slot.trigger.can ≡ true → Minds T Q r.pins slot
-
--- the readings
-flag_is : (b : Bool) → (bit b == 1) ≡ b
-flag_is true = refl
-flag_is false = refl
 
 rest_is : (n : ℕ) → 0 < n → (if n == 0 then 1 else n) ≡ n
 rest_is n some = elim (eqb_tells n 0) [ inl p ↦ absurd (let e = p.1 in omega (arith, e, some)) | inr p ↦ rw p.0 refl ]
@@ -100,7 +76,7 @@ module _ (m : Machine) (clocks : Clocks) (b start : ℕ) (axis : AxisDef) (Q : T
       let at : trig.first_from now (nearest now (low (turn_tick clocks start))) (trig.least_rest G) ≡ base =
       ap (λ (n : ℕ). trig.first_from now n (trig.least_rest G)) at_base ∙ first_at now base (trig.least_rest G) low_base (omega (arith, rest, some)) in
       let Made : ℕ → ℕ → Bool → Sampling = λ a r v. (record { at = a; sample = (board_at m b).freq * 15 / 1_000_000; count = 4; rest = r; value = v; reason = 1 }) in
-      ap (λ (a : ℕ). Made a (trig.least_rest G) (G.pin_value == 1)) at ∙ ap (λ (r : ℕ). Made base r (G.pin_value == 1)) rest ∙ ap (λ (v : Bool). Made base ((board_at m b).freq / 10_000) v) (flag_is axis.pressed)
+      ap (λ (a : ℕ). Made a (trig.least_rest G) (G.pin_value == 1)) at ∙ ap (λ (r : ℕ). Made base r (G.pin_value == 1)) rest ∙ ap (λ (v : Bool). Made base ((board_at m b).freq / 10_000) v) (dir_is axis.pressed)
 
   -- an endstop that stands
   abbrev Stands : Rig → Type 0

@@ -1,24 +1,16 @@
 -- A trigger triggers at the first tick at which its readings are complete, or not after it, as time passes and commands come.
 use Rattle.std.proofs.Common.{◌≡◌, ℕ, ◌≤◌, Bool, true, false, List, [], ◌∷◌, Option, Some, None, refl, ap, sym, ◌∙◌, subst, arith, ◌⊎◌, inl, inr}
 use Rattle.std.specs.Prelude.{slice_index_or}
-use Rattle.plan_types.specs.declared.levels.Level.{Level}
-use Rattle.plan_types.specs.declared.plan.BoardState.TheVariants.{Running}
-use Rattle.board_trig.specs.declared.sampling.Sampling.{Sampling}
-use Rattle.board_trig.specs.declared.trigger.Trigger.{Trigger}
-use Rattle.board_trig.specs.declared.trigger.Happening.{Happening}
-use Rattle.board_trig.specs.declared.trigger.Happening.TheVariants.{Nothing, Expires, Switches, Reports}
+use Rattle.laws_board.proofs.Names.{Level, Running, Sampling, Trigger, Happening, Nothing, Expires, Switches, Reports, Cmd, Rig, Slot, acts, passes, slot_at, takes_all, one_slot, no_both}
 use Rattle.board_trig.specs.Trigger as trig
 use Rattle.board_trig.specs.Sampling.{IsTriggerTick, completes, sampled_to}
 use Rattle.board_trig.specs.Nexts.{IsNextOf, SwitchesAt}
 use Rattle.board_trig.proofs.TriggerTicks.{read_back, read_on, triggers}
-use Rattle.msg_code.specs.declared.cmd.Cmd.{Cmd}
 use Rattle.msg_code.specs.declared.cmd.Cmd.TheVariants as cmd
-use Rattle.board_sim.specs.Rig.{Rig, Slot, acts, passes, slot_at, takes_all}
-use Rattle.board_sim.proofs.Bound.{one_slot}
 use Rattle.board_sim.proofs.Halting.{quiet_moves}
 use Rattle.laws_homing.specs.clear_boards.Turned.{AreSentBehind, IsSentBehind, Relays, RelaysOne}
 use Rattle.laws_board.proofs.clocks.Answers.{Each}
-use Rattle.laws_homing.proofs.clear_boards.Slots.{Beside, Follows, Lasts, MakesNone, OfEach, all_beside, no_both, passes_beside, passes_each, running_beside, running_each, takes_each, with_trigger}
+use Rattle.laws_homing.proofs.clear_boards.Slots.{Beside, Follows, Lasts, MakesNone, OfEach, all_beside, passes_beside, passes_each, running_beside, running_each, takes_each, with_trigger}
 use Rattle.laws_homing.specs.missed_groups.Minds.{Hits, Minds}
 use Rattle.laws_homing.proofs.clear_boards.Firing.{read_reason}
 

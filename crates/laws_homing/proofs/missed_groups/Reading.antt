@@ -1,32 +1,12 @@
 -- In a clear run what a board tells of its trigger is read as the tick since which it can't trigger.
 use Rattle.std.proofs.Common.{◌≡◌, ℕ, ◌+◌, ◌%◌, ◌^◌, ◌<◌, ◌≤◌, inl, inr, List, [], ◌∷◌, length, Some, ap, sym, ◌∙◌, subst, arith}
-use Rattle.std.proofs.lemmas.Bool.Decides.{leb_tells}
-use Rattle.plan_types.specs.declared.levels.Level.{Level}
-use Rattle.plan_types.specs.declared.machine.Machine.{Machine}
-use Rattle.plan_types.specs.Board.{nearest}
-use Rattle.plan_types.specs.Clock.{board_tick, clock_of, run_turns}
-use Rattle.plan_types.specs.Lines.{Clocks}
-use Rattle.plan_types.specs.Machines.{IsValidMachine, board_at}
-use Rattle.plan_types.specs.Sections.{clocks_at}
-use Rattle.clock_line.specs.Early.{turn_tick}
-use Rattle.wire_scene.specs.declared.scene.Entry.{Entry}
-use Rattle.wire_scene.specs.declared.scene.Switch.{Switch}
+use Rattle.laws_board.proofs.Names.{leb_tells, Level, Machine, nearest, board_tick, clock_of, Clocks, IsValidMachine, board_at, clocks_at, turn_tick, Entry, Switch, State, trigger_of, Slot, slot_at, one_slot, Member, Fired, Homing, hears_all, members_of, noted, Came, known_by, no_both}
+use Rattle.plan_types.specs.Clock.{run_turns}
 use Rattle.msg_code.specs.declared.cmd.Cmd.TheVariants as cmd
-use Rattle.msg_code.specs.declared.talk.State.{State}
-use Rattle.board_asking.specs.Machine.{trigger_of}
-use Rattle.board_sim.specs.Rig.{Slot, slot_at}
-use Rattle.board_sim.proofs.Bound.{one_slot}
 use Rattle.laws_board.specs.turns.Turns.{BoardTurn}
 use Rattle.laws_board.specs.sections.Parts.{AreTracked}
 use Rattle.laws_board.proofs.clocks.Lines.{as_long}
 use Rattle.laws_board.proofs.sections.Clocks.{ticks_rise}
-use Rattle.trigger_group.specs.declared.order.Member.{Member}
-use Rattle.trigger_group.specs.declared.seen.Fired.{Fired}
-use Rattle.axis_homing.specs.declared.homing.Homing.{Homing}
-use Rattle.axis_homing.specs.Homing.{hears_all}
-use Rattle.axis_homing.specs.Rising.{members_of}
-use Rattle.host_reactor.specs.Notes.{noted}
-use Rattle.host_reactor.specs.Runs.{Came, known_by}
 use Rattle.laws_homing.specs.home_runs.Told.{IsMember}
 use Rattle.laws_homing.specs.home_runs.Windows.{HasAnswer}
 use Rattle.laws_homing.specs.missed_groups.Ticks.{IsReader}
@@ -46,10 +26,8 @@ use Rattle.laws_homing.proofs.clear_groups.Sections.{rests_section}
 use Rattle.laws_homing.proofs.missed_groups.Fresh as freshness
 use Rattle.laws_homing.proofs.missed_groups.Fresh.{IsFresh, Off, begins_fresh, step_fresh, told_so}
 use Rattle.laws_homing.proofs.missed_groups.Stepping as stepping
-use Rattle.laws_homing.proofs.clear_boards.Slots.{no_both, some_same}
-
-one_state : (x y : State) → x ∷ [] ≡ y ∷ [] → x ≡ y
-one_state x y e = cc
+use Rattle.laws_homing.proofs.fired_runs.Reported.{sole_state}
+use Rattle.plan_types.proofs.Facts.{some_same}
 
 reader_member : (b : ℕ) (ms : List Member) → IsReader b ms → IsMember b ms
 reader_member b [] k = absurd k
@@ -194,7 +172,7 @@ module _ (m : Machine) (v : IsValidMachine m) (switches : List Switch) (pins : �
       by (d ∷ past) (j ∷ js) r reach is report =
           let y = begun.began_in m v switches pins entries none lines ready till c (d ∷ past) (j ∷ js) r h is in
           let s = begun.section_in m v switches pins entries none lines ready till c (d ∷ past) (j ∷ js) r h y in
-          let same : (j b).state ≡ report.state = one_state (j b).state report.state (sym (r.states b low) ∙ report.came) in
+          let same : (j b).state ≡ report.state = sole_state (j b).state report.state (sym (r.states b low) ∙ report.came) in
           let turn : report.state.turn ≡ length (turns_of b js) = ap (λ (z : State). z.turn) (sym same) ∙ (r.plain b low).run.turns_are.0.1.turn in
           let size = as_long m switches b past (turns_of b js) (r.plain b low).run.both.2 in
           let counts = report.counts in

@@ -1,28 +1,10 @@
 -- A homing group answers that no switch closed only where the section's readings are complete at no tick before that behind its last turn.
 use Rattle.std.proofs.Common.{◌≡◌, ℕ, ◌+◌, ◌-◌, ◌*◌, ◌<◌, ◌≤◌, false, List, [], ◌∷◌, length, Some, refl, ap, sym, ◌∙◌, subst, arith, inl, inr}
-use Rattle.std.proofs.lemmas.Bool.Decides.{leb_tells}
-use Rattle.plan_types.specs.declared.levels.Level.{Level}
-use Rattle.plan_types.specs.declared.machine.Machine.{Machine}
-use Rattle.plan_types.specs.Clock.{board_tick, clock_of, turn_ns}
-use Rattle.plan_types.specs.Lines.{Clocks, lines_tick}
-use Rattle.plan_types.specs.Machines.{IsValidAxis, IsValidMachine, axis_at, board_at}
-use Rattle.wire_scene.specs.declared.scene.Entry.{Entry}
-use Rattle.wire_scene.specs.declared.scene.Switch.{Switch}
-use Rattle.board_asking.specs.Machine.{trigger_of}
-use Rattle.board_sim.specs.Rig.{Rig, Slot, slot_at}
-use Rattle.board_sim.proofs.Bound.{one_slot}
+use Rattle.laws_board.proofs.Names.{leb_tells, Level, Machine, board_tick, clock_of, turn_ns, Clocks, lines_tick, IsValidMachine, axis_at, board_at, Entry, Switch, trigger_of, Rig, Slot, slot_at, one_slot, End, Member, GroupState, Homing, answer_in, hears_all, members_of, noted, Came, known_by, states-kept}
+use Rattle.plan_types.specs.Machines.{IsValidAxis}
 use Rattle.laws_board.specs.turns.Turns.{BoardTurn}
-use Rattle.trigger_group.specs.declared.order.End.{End}
 use Rattle.trigger_group.specs.declared.order.End.TheVariants as end
-use Rattle.trigger_group.specs.declared.order.Member.{Member}
-use Rattle.trigger_group.specs.Group.{GroupState}
-use Rattle.axis_homing.specs.declared.homing.Homing.{Homing}
-use Rattle.axis_homing.specs.Homing.{answer_in, hears_all}
-use Rattle.axis_homing.specs.Rising.{members_of}
-use Rattle.host_reactor.specs.Notes.{noted}
-use Rattle.host_reactor.specs.Runs.{Came, known_by}
 use Rattle.laws_homing.specs.home_runs.Told.{IsMember}
-use Rattle.laws_homing.proofs.home_runs.Grouped.{members_states}
 use Rattle.laws_homing.specs.clear_boards.Firing.{AllSmall}
 use Rattle.laws_homing.proofs.clear_boards.Keeping.{hears_keep}
 use Rattle.laws_homing.proofs.clear_boards.Standing.{sound_at}
@@ -34,7 +16,7 @@ use Rattle.laws_homing.specs.clear_groups.Sections.{IsClearSection, IsFollowed, 
 use Rattle.laws_homing.specs.clear_groups.SetUp.{HoldsOf, IsPrepared}
 use Rattle.laws_homing.proofs.clear_groups.Beginning as beginning
 use Rattle.laws_homing.proofs.clear_groups.Begun as begun
-use Rattle.laws_homing.proofs.clear_groups.Known.{answered_late, behind_turn, of_known, some_known}
+use Rattle.laws_homing.proofs.clear_groups.Known.{behind_turn, of_known, some_known}
 use Rattle.laws_homing.proofs.clear_groups.Owning.{one_trigger}
 use Rattle.laws_homing.proofs.clear_groups.Plain.{turn_before}
 use Rattle.laws_homing.proofs.clear_groups.Resting.{board_runs, off_at}
@@ -47,7 +29,8 @@ use Rattle.laws_homing.proofs.missed_groups.Axes.{OfBoard, of_axis}
 use Rattle.laws_homing.proofs.missed_groups.Beginning.{RestsOf}
 use Rattle.laws_homing.proofs.missed_groups.Setting.{begins_known, begins_mindful}
 use Rattle.laws_homing.proofs.missed_groups.Stepping.{IsMindful, Stood, step_known, step_mindful}
-use Rattle.laws_homing.proofs.clear_boards.Slots.{some_same}
+use Rattle.laws_homing.proofs.home_parts.Known.{answer_late}
+use Rattle.plan_types.proofs.Facts.{some_same}
 
 -- the group of the homing section that is known in a turn, and its boards; and so as the turn with this number began
 abbrev MindsIn : (m : Machine) (switches : List Switch) (pins : ℕ → List (List Level)) (entries : List Entry) (lines : ℕ → Clocks) (start last : ℕ) (members : List Member) → Came → List Came → List (ℕ → BoardTurn) → Type 0
@@ -137,7 +120,7 @@ module _ (m : Machine) (v : IsValidMachine m) (switches : List Switch) (pins : �
       let safe : Safe h = subst Safe same_x x.2 in
       let mind : Mind h = subst Mind same_y y.2 in
       let of = of_known start members (noted m c.note (known_by m switches before)).homing h (s.homes.0 (omega (arith, early, l))).1 is in
-      let members_are : members_of g ≡ members = members_states clocks 0 h.start c.states h.group ∙ of.2 in
+      let members_are : members_of g ≡ members = states-kept clocks 0 h.start c.states h.group ∙ of.2 in
       let ends = safe.ends in
       let miss = subst (λ (n : ℕ). Missed n g.members) ends (missed (length before) h.start g answers) in
       let W = Stood m pins lines start last members h.axis b rigs in
@@ -274,7 +257,7 @@ module _ (m : Machine) (v : IsValidMachine m) (switches : List Switch) (pins : �
       let start = h.start in
       let members = members_of h.group in
       let b = (axis_at m h.axis).board in
-      let late = answered_late (length before) h.start (hears_all (noted m c.note (known_by m switches before)).clocks c.states h).group end.NoSwitch answers in
+      let late = answer_late (length before) h.start (hears_all (noted m c.note (known_by m switches before)).clocks c.states h).group end.NoSwitch answers in
       let x = find from start members soon c before all s (begun.well_alone m switches lines ready till before r.begins.1) (begun.set_up_all m v switches pins entries none lines ready till c before all r) low reach (omega (arith, late)) in
       let low_so = x.low_so in
       let of = of_axis m switches c before r.goes_on h is in

@@ -1,34 +1,9 @@
 -- A homing section whose boards take its set-up: each trigger minds the readings of the section from then on.
 use Rattle.std.proofs.Common.{◌≡◌, ℕ, ◌+◌, ◌*◌, ◌/◌, ◌<◌, ◌≤◌, ◌⊎◌, inl, inr, Bool, true, false, List, [], ◌∷◌, ◌++◌, length, map, Some, None, refl, ap, sym, ◌∙◌, subst, arith}
-use Rattle.std.proofs.lemmas.Bool.Decides.{eqb_tells}
-use Rattle.plan_types.specs.declared.levels.Level.{Level}
-use Rattle.plan_types.specs.declared.machine.AxisDef.{AxisDef}
-use Rattle.plan_types.specs.declared.machine.Machine.{Machine}
-use Rattle.plan_types.specs.declared.plan.BoardState.TheVariants.{Running}
-use Rattle.plan_types.specs.Clock.{board_tick, clock_of, turn_ns}
-use Rattle.plan_types.specs.Lines.{Clocks, lines_tick}
-use Rattle.plan_types.specs.Machines.{IsValidBoard, IsValidMachine, axis_at, board_at}
-use Rattle.wire_scene.specs.declared.scene.Entry.{Entry}
-use Rattle.wire_scene.specs.declared.scene.Switch.{Switch}
-use Rattle.msg_code.specs.declared.cmd.Cmd.{Cmd}
-use Rattle.board_asking.specs.Machine.{trigger_of}
-use Rattle.board_sim.specs.Fair.{commands_of}
-use Rattle.board_sim.specs.Rig.{Rig, Slot, passes, slot_at, takes_all}
-use Rattle.board_sim.proofs.Bound.{one_slot}
-use Rattle.link_work.specs.Runs.{queued_in}
-use Rattle.link_work.specs.Stands.{orders as taken_orders}
+use Rattle.laws_board.proofs.Names.{eqb_tells, Level, AxisDef, Machine, Running, board_tick, clock_of, turn_ns, Clocks, lines_tick, IsValidMachine, axis_at, board_at, Entry, Switch, Cmd, trigger_of, commands_of, Rig, Slot, passes, slot_at, takes_all, one_slot, queued_in, orders as taken_orders, Ctl, Member, Homes, Starts, Fired, GroupState, first_timeout, round_of, unseen, Homing, commands_to, hears_all, members_of, Connecting, noted, Came, known_by, no_both}
+use Rattle.plan_types.specs.Machines.{IsValidBoard}
 use Rattle.laws_board.specs.turns.Turns.{BoardTurn}
-use Rattle.trigger_group.specs.declared.order.Ctl.{Ctl}
-use Rattle.trigger_group.specs.declared.order.Member.{Member}
-use Rattle.trigger_group.specs.declared.round.Round.TheVariants.{Homes, Starts}
-use Rattle.trigger_group.specs.declared.seen.Fired.{Fired}
-use Rattle.trigger_group.specs.Group.{GroupState, first_timeout, orders, round_of, unseen}
-use Rattle.axis_homing.specs.declared.homing.Homing.{Homing}
-use Rattle.axis_homing.specs.Homing.{commands_to, hears_all}
-use Rattle.axis_homing.specs.Rising.{members_of}
-use Rattle.host_reactor.specs.declared.ordered.Phase.TheVariants.{Connecting}
-use Rattle.host_reactor.specs.Notes.{noted}
-use Rattle.host_reactor.specs.Runs.{Came, known_by}
+use Rattle.trigger_group.specs.Group.{orders}
 use Rattle.laws_homing.specs.home_runs.Guards.{HasFired}
 use Rattle.laws_homing.specs.home_runs.Told.{IsMember}
 use Rattle.laws_homing.proofs.home_runs.Guarding.{fired_next, passes_next}
@@ -44,7 +19,6 @@ use Rattle.laws_homing.proofs.clear_groups.Beginning as beginning
 use Rattle.laws_homing.proofs.clear_groups.Plain.{turn_before}
 use Rattle.laws_homing.proofs.clear_groups.Sections.{rests_section}
 use Rattle.laws_homing.proofs.clear_groups.Resting.{board_runs}
-use Rattle.laws_homing.proofs.clear_groups.SetUp.{takes_both}
 use Rattle.laws_homing.specs.missed_groups.Ticks.{IsReader, IsSwitchTick}
 use Rattle.laws_homing.proofs.missed_groups.Axes.{OfBoard}
 use Rattle.laws_homing.proofs.missed_groups.Beginning.{Blank, Never, RestsOf, begun_blank, others_blank, others_minded}
@@ -53,21 +27,12 @@ use Rattle.laws_homing.proofs.missed_groups.Homing.{Able, homes_able, homes_neve
 use Rattle.laws_homing.proofs.missed_groups.Minding.{Minded, passes_minded}
 use Rattle.laws_homing.proofs.missed_groups.Stepping.{IsMindful, Reads, Stood}
 use Rattle.laws_homing.proofs.missed_groups.Told.{Each, KnownIn}
-use Rattle.laws_homing.proofs.clear_boards.Slots.{no_both}
+use Rattle.laws_homing.proofs.fired_runs.Sight.{reader_or_not}
+use Rattle.board_sim.proofs.Heeding.{all_append}
 
 true_or_not : (b : Bool) → (b ≡ true) ⊎ (b ≡ true → ⊥)
 true_or_not true = inl refl
 true_or_not false = inr (λ e. cc)
-
-pub reader_or_not : (b : ℕ) (ms : List Member) → IsReader b ms ⊎ (IsReader b ms → ⊥)
-reader_or_not b [] = inr (λ k. k)
-reader_or_not b (x ∷ ms) = elim (reader_or_not b ms) [
-  | inl k ↦ inl (inr k)
-  | inr n ↦ elim (eqb_tells x.board b) [
-    | inl p ↦ elim (true_or_not x.endstop) [ inl e ↦ inl (inl (p.1, e)) | inr other ↦ inr (λ k. elim k [ inl a ↦ other a.1 | inr more ↦ n more ]) ]
-    | inr p ↦ inr (λ k. elim k [ inl a ↦ p.1 a.0 | inr more ↦ n more ])
-  ]
-]
 
 -- members of which nothing was heard
 each_unseen : (W : ℕ → Fired → Type 0) (own : ℕ) (ms : List Member) → ((b : ℕ) → IsReader b ms → own ≡ b) → Each W own (map unseen ms)
@@ -151,7 +116,7 @@ module _ (m : Machine) (v : IsValidMachine m) (switches : List Switch) (pins : �
         let cut : Cs_first ≡ A ++ o.tail = o.are ∙ ap (λ (n : ℕ). commands_to m (lines b) b n Axis (orders g (length past)) ++ o.tail) begins ∙ ap (λ (cs : List Ctl). commands_to m (lines b) b start Axis cs ++ o.tail) sends in
         let q = (takes_all r A).rig in
         let until = Own (length (turns_of b js) + 1) in
-        let rigs : (takes_all r Cs_first).rig ≡ (takes_all q o.tail).rig = ap (λ (cs : List Cmd). (takes_all r cs).rig) cut ∙ takes_both r A o.tail in
+        let rigs : (takes_all r Cs_first).rig ≡ (takes_all q o.tail).rig = ap (λ (cs : List Cmd). (takes_all r cs).rig) cut ∙ all_append r A o.tail in
         let blank : Blank Oid Q (takes_all q o.tail).rig = others_blank Oid Q q o.tail (λ clock. o.behind Oid clock) o.none (begun_blank m (lines b) b start Axis Q Earliest g.members r (inl rests)) in
         let taken = takes_in_turn (board_at m b) (pins b) b entries (j b) (turns_of b js) none plain_mid.run.turns_are plain_mid.limits in
         let now : rig_at m pins entries (j ∷ js) b ≡ (passes (takes_all q o.tail).rig until).rig = taken ∙ ap (λ (z : Rig). (passes z until).rig) rigs in
@@ -189,7 +154,7 @@ module _ (m : Machine) (v : IsValidMachine m) (switches : List Switch) (pins : �
           let r = rig_at m pins entries (j ∷ js) b in
           let q = (takes_all r A).rig in
           let until = Own (length (turns_of b (j ∷ js)) + 1) in
-          let rigs : (takes_all r Cs_second).rig ≡ (takes_all q tail).rig = ap (λ (cs : List Cmd). (takes_all r cs).rig) cut ∙ takes_both r A tail in
+          let rigs : (takes_all r Cs_second).rig ≡ (takes_all q tail).rig = ap (λ (cs : List Cmd). (takes_all r cs).rig) cut ∙ all_append r A tail in
           let runs = runs_through (board_at m b) (pins b) b entries (i b) (turns_of b (j ∷ js)) none plain_last.run.turns_are plain_last.limits plain_last.none_shut.0 in
           let runs_tail : (takes_all q tail).rig.controller.state ≡ Running = ap (λ (z : Rig). z.controller.state) (sym rigs) ∙ runs in
           let taken = takes_in_turn (board_at m b) (pins b) b entries (i b) (turns_of b (j ∷ js)) none plain_last.run.turns_are plain_last.limits in

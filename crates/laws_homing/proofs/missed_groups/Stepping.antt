@@ -1,25 +1,8 @@
 -- A homing group and its members' boards over a turn of a section: each trigger minds its readings, and a relay has its cause.
 use Rattle.std.proofs.Common.{◌≡◌, ℕ, ◌+◌, ◌*◌, ◌<◌, ◌≤◌, ◌⊎◌, inl, inr, Bool, true, false, cond, List, [], ◌∷◌, length, map, Option, Some, None, refl, ap, sym, ◌∙◌, subst, arith, append-nil}
 use Rattle.std.specs.Prelude.{◌&&◌, ◌||◌, nat_le}
-use Rattle.std.proofs.lemmas.Bool.Decides.{leb_tells}
-use Rattle.plan_types.specs.declared.levels.Level.{Level}
-use Rattle.plan_types.specs.declared.machine.Machine.{Machine}
-use Rattle.plan_types.specs.Clock.{board_tick, clock_of, turn_ns}
-use Rattle.plan_types.specs.Lines.{Clocks, lines_tick}
-use Rattle.plan_types.specs.Machines.{IsValidMachine, axis_at, board_at}
-use Rattle.clock_line.specs.Early.{turn_tick}
-use Rattle.wire_scene.specs.declared.scene.Entry.{Entry}
-use Rattle.wire_scene.specs.declared.scene.Switch.{Switch}
-use Rattle.msg_code.specs.declared.cmd.Cmd.{Cmd}
+use Rattle.laws_board.proofs.Names.{leb_tells, Level, Machine, board_tick, clock_of, turn_ns, Clocks, lines_tick, IsValidMachine, axis_at, board_at, turn_tick, Entry, Switch, Cmd, State, trigger_of, Meant, commands_of, Rig, Slot, passes, slot_at, takes_all, AllSound, one_slot, queued_in, first_state, orders, clocks_at, Member, Goes, Rests, Sends, Fired, Seen, GroupState, turned_group, all_fired, phase, relay_in, Homing, answer_in, hears_all, low, members_of, Connecting, noted, Came, known_by, both_parts, no_both}
 use Rattle.msg_code.specs.declared.cmd.Cmd.TheVariants as cmd
-use Rattle.msg_code.specs.declared.talk.State.{State}
-use Rattle.board_asking.specs.Machine.{trigger_of}
-use Rattle.board_sim.specs.Fair.{Meant, commands_of}
-use Rattle.board_sim.specs.Rig.{Rig, Slot, passes, slot_at, takes_all}
-use Rattle.board_sim.specs.RigRuns.{AllSound}
-use Rattle.board_sim.proofs.Bound.{one_slot}
-use Rattle.link_work.specs.Runs.{queued_in}
-use Rattle.link_work.specs.Stands.{first_state, orders}
 use Rattle.laws_board.specs.turns.Turns.{BoardTurn, stands_after}
 use Rattle.laws_board.proofs.clocks.Lines.{as_long, noted_phase}
 use Rattle.laws_board.proofs.sections.Clocks.{ticks_rise}
@@ -27,23 +10,12 @@ use Rattle.laws_homing.specs.home_runs.Guards.{AreCalm}
 use Rattle.laws_homing.specs.home_runs.Told.{IsMember}
 use Rattle.laws_homing.specs.home_runs.Windows.{HasAnswer, IsWatched}
 use Rattle.laws_homing.proofs.home_runs.Guarding.{Next, passes_next}
-use Rattle.plan_types.specs.Sections.{clocks_at}
 use Rattle.laws_homing.proofs.home_runs.Joining.{all_queued}
 use Rattle.laws_homing.proofs.home_runs.Resting.{rests_up}
 use Rattle.laws_homing.proofs.home_runs.Told.{told_stands}
-use Rattle.trigger_group.specs.declared.order.Member.{Member}
 use Rattle.trigger_group.specs.declared.round.Phase.{Phase}
-use Rattle.trigger_group.specs.declared.round.Phase.TheVariants.{Goes, Rests, Sends}
-use Rattle.trigger_group.specs.declared.seen.Fired.{Fired}
-use Rattle.trigger_group.specs.declared.seen.Seen.{Seen}
-use Rattle.trigger_group.specs.Group.{GroupState, turned_group, after_in, all_fired, any_fired_by, fired_by, phase, relay_begins, relay_from, relay_in}
+use Rattle.trigger_group.specs.Group.{after_in, any_fired_by, fired_by, relay_begins, relay_from}
 use Rattle.trigger_group.proofs.Knows.{after_members}
-use Rattle.axis_homing.specs.declared.homing.Homing.{Homing}
-use Rattle.axis_homing.specs.Homing.{answer_in, hears_all, low}
-use Rattle.axis_homing.specs.Rising.{members_of}
-use Rattle.host_reactor.specs.declared.ordered.Phase.TheVariants.{Connecting}
-use Rattle.host_reactor.specs.Notes.{noted}
-use Rattle.host_reactor.specs.Runs.{Came, known_by}
 use Rattle.laws_homing.specs.clear_boards.Alive.{RelayNone}
 use Rattle.laws_homing.specs.clear_boards.Firing.{AllSmall}
 use Rattle.laws_homing.specs.clear_boards.Limited.{limit_of}
@@ -66,7 +38,8 @@ use Rattle.laws_homing.specs.missed_groups.Ticks.{IsReader, IsSwitchTick}
 use Rattle.laws_homing.proofs.missed_groups.Homing.{minds_map}
 use Rattle.laws_homing.proofs.missed_groups.Minding.{From, Minded, turn_minded}
 use Rattle.laws_homing.proofs.missed_groups.Told.{Each, KnownIn, Telling, all_each, each_more, states_stay}
-use Rattle.laws_homing.proofs.clear_boards.Slots.{no_both}
+use Rattle.plan_types.proofs.Facts.{was_le}
+use Rattle.laws_homing.proofs.clear_groups.Groups.{either_part}
 
 -- a trigger of a board stands as one that can't trigger, for this reason
 pub record FiredSo (oid reason : ℕ) (r : Rig) : Type 0 where
@@ -77,7 +50,7 @@ pub record FiredSo (oid reason : ℕ) (r : Rig) : Type 0 where
   pub reason_is : slot.trigger.reason ≡ reason
 
 -- so it stands behind commands and time
-still_fired : (could can : Bool) → (can ≡ true → could ≡ true) → could ≡ false → can ≡ false
+pub still_fired : (could can : Bool) → (can ≡ true → could ≡ true) → could ≡ false → can ≡ false
 still_fired could true f off = absurd (let e = f refl in let bad : true ≡ false = sym e ∙ off in cc)
 still_fired could false f off = refl
 
@@ -86,17 +59,6 @@ fired_on i oid reason r q x z =
     let b = x.slots z.slot z.is in
     let fell = still_fired z.slot.trigger.can b.slot.trigger.can b.stays.can z.fired in
     record { slot = b.slot; is = b.is; fired = fell; none = b.stays.quiet (λ e. z.none) fell; reason_is = (b.stays.same z.fired z.none).0 ∙ z.reason_is }
-
-pub both_parts : (a b : Bool) → (a && b) ≡ true → (a ≡ true) × (b ≡ true)
-both_parts true b e = (refl, e)
-both_parts false b e = cc
-
-pub either_part : (a b : Bool) → (a || b) ≡ true → (a ≡ true) ⊎ (b ≡ true)
-either_part true b e = inl refl
-either_part false b e = inr e
-
-pub le_so : (a b : ℕ) → nat_le a b ≡ true → a ≤ b
-le_so a b e = elim (leb_tells a b) [ inl p ↦ p.1 | inr p ↦ absurd (let bad : false ≡ true = sym p.0 ∙ e in cc) ]
 
 pub none_relay : (cs : List Cmd) → RelayNone cs → RelaysOne cs → ⊥
 none_relay [] n o = o
@@ -316,7 +278,7 @@ module _ (m : Machine) (v : IsValidMachine m) (switches : List Switch) (pins : �
         by None is here = absurd (cc)
         by (Some f) is here =
             let on = within x.member.board (inl refl) in
-            elim (cause_of x.member.board on f (each.0.0 f is on)) [ inl k ↦ inl (inl (f, is, le_so f.turn last here, k)) | inr k ↦ inr k ]
+            elim (cause_of x.member.board on f (each.0.0 f is on)) [ inl k ↦ inl (inl (f, is, was_le f.turn last here, k)) | inr k ↦ inr k ]
 
     begun_known : relay_begins G K ≡ true → (last + 5 ≤ K) ⊎ KnownIn last G.members
     begun_known e =
@@ -326,7 +288,7 @@ module _ (m : Machine) (v : IsValidMachine m) (switches : List Switch) (pins : �
           | inl some ↦
               let some_so : any_fired_by last G.members ≡ true = subst (λ (n : ℕ). any_fired_by n G.members ≡ true) ends some in
               inr (elim (any_known G.members some_so mind.told (λ b k. subst (IsMember b) are_members k)) [ inl k ↦ k | inr k ↦ k ])
-          | inr late ↦ (let l = le_so (G.last + 5) K late in inl (omega (arith, l, ends)))
+          | inr late ↦ (let l = was_le (G.last + 5) K late in inl (omega (arith, l, ends)))
         ]
 
     relay_known : (o : Option ℕ) (z : Bool) → G.relay ≡ o → relay_begins G K ≡ z → (b : ℕ) (on : IsMember b members) → RelaysOne (Commands b) → (u : Slot) → slot_at (Rigs b) (trigger_of m b) ≡ Some u → u.trigger.can ≡ true → KnownIn last G.members

@@ -1,26 +1,17 @@
 -- What a homing group knows of its members' triggers was told by states that came.
 use Rattle.std.proofs.Common.{◌≡◌, ℕ, zero, suc, ◌+◌, ◌≤◌, ◌⊎◌, ◌==◌, Bool, true, false, not, cond, List, [], ◌∷◌, map, Option, Some, None, refl, ap, sym, ◌∙◌, subst, arith, inl, inr}
 use Rattle.std.specs.Prelude.{nat_le, nat_lt}
-use Rattle.std.proofs.lemmas.Bool.Decides.{eqb_tells, leb_tells}
+use Rattle.laws_board.proofs.Names.{eqb_tells, leb_tells, nearest, Clocks, clocks_at, turn_in_run, turn_tick, Cmd, News, State, Fired, Seen, GroupState, state_at, item}
 use Rattle.plan_types.specs.declared.plan.TrigState.{TrigState}
-use Rattle.plan_types.specs.Board.{nearest}
-use Rattle.plan_types.specs.Lines.{Clocks}
-use Rattle.plan_types.specs.Sections.{clocks_at}
-use Rattle.clock_line.specs.Early.{turn_in_run, turn_tick}
-use Rattle.msg_code.specs.declared.cmd.Cmd.{Cmd}
 use Rattle.msg_code.specs.declared.cmd.Cmd.TheVariants as cmd
-use Rattle.msg_code.specs.declared.talk.News.{News}
-use Rattle.msg_code.specs.declared.talk.State.{State}
-use Rattle.trigger_group.specs.declared.seen.Fired.{Fired}
-use Rattle.trigger_group.specs.declared.seen.Seen.{Seen}
-use Rattle.trigger_group.specs.Group.{GroupState, came, first_fired, member_hears, hears_from, later}
+use Rattle.trigger_group.specs.Group.{came, first_fired, member_hears, hears_from, later}
 use Rattle.axis_homing.specs.Homing.{came_at, hears_answer, hears_news, hears_state, hears_states}
-use Rattle.host_reactor.specs.Runs.{state_at}
-use Rattle.session_work.specs.Rows.{item}
 use Rattle.laws_board.proofs.clocks.Controls.{states_start}
 use Rattle.laws_homing.specs.home_runs.Windows.{HasAnswer}
+use Rattle.axis_homing.proofs.Starts.{came_start, answer_start}
+use Rattle.laws_homing.proofs.clear_boards.Knowing.{no_can}
 
-same_state : (b : ℕ) (states : List State) → state_at b states ≡ item b states
+pub same_state : (b : ℕ) (states : List State) → state_at b states ≡ item b states
 same_state b [] = refl
 same_state zero (s ∷ states) = refl
 same_state (suc b) (s ∷ states) = same_state b states
@@ -75,20 +66,6 @@ at_each : (W : ℕ → Fired → Type 0) (own b : ℕ) (s : TrigState) (at : ℕ
 at_each W own b s at None g new given = given
 at_each W own b s at (Some when) g new given = came_each W own b s at when g (new when refl) given
 
--- a report of a trigger that can't trigger any more says so
-can_none : (can : ℕ) → not (can == 0) ≡ false → can ≡ 0
-can_none can e = elim (eqb_tells can 0) [ inl p ↦ p.1 | inr p ↦ absurd (let f : true ≡ false = ap not (sym p.0) ∙ e in cc) ]
-
-came_start : (b : ℕ) (s : TrigState) (at : ℕ) (o : Option ℕ) (g : GroupState) → (came_at b s at o g).start ≡ g.start
-came_start b s at None g = refl
-came_start b s at (Some when) g = refl
-
-answer_start : (lines : Clocks) (b turn : ℕ) (c : Cmd) (g : GroupState) → (hears_answer lines b turn c g).start ≡ g.start
-answer_start lines b turn (cmd.TrsyncState oid can reason clock) g =
-    let at = nearest (turn_tick lines turn) clock in
-    came_start b (record { can = not (can == 0); reason = reason; clock = clock }) at (turn_in_run lines at) g
-answer_start lines b turn c g = refl
-
 -- what a state of a turn tells of a board's trigger, that counts for a homing section with this start
 pub record Telling (clocks : List Clocks) (states : List State) (start board : ℕ) (f : Fired) : Type 0 where
   pub state : State
@@ -101,7 +78,7 @@ pub record Telling (clocks : List Clocks) (states : List State) (start board : �
   pub turn_is : turn_in_run (clocks_at clocks board) f.tick ≡ Some f.turn
   pub late : start ≤ f.turn
 
-item_lines : (b : ℕ) (clocks : List Clocks) (lines : Clocks) → item b clocks ≡ lines ∷ [] → lines ≡ clocks_at clocks b
+pub item_lines : (b : ℕ) (clocks : List Clocks) (lines : Clocks) → item b clocks ≡ lines ∷ [] → lines ≡ clocks_at clocks b
 item_lines b [] lines e = cc
 item_lines zero (x ∷ clocks) lines e = cc
 item_lines (suc b) (x ∷ clocks) lines e = item_lines b clocks lines e
@@ -121,7 +98,7 @@ module _ (clocks : List Clocks) (states : List State) (start own : ℕ) (W : ℕ
         counts = counts;
         oid = oid;
         clock = clock;
-        told = subst (λ (n : ℕ). HasAnswer (cmd.TrsyncState oid n reason clock) s.news) (can_none can off) told;
+        told = subst (λ (n : ℕ). HasAnswer (cmd.TrsyncState oid n reason clock) s.news) (no_can can off) told;
         tick_is = ap (λ (l : Clocks). nearest (turn_tick l s.turn) clock) same;
         turn_is = ap (λ (l : Clocks). turn_in_run l tick) (sym same) ∙ is;
         late = omega (arith, late, at);

@@ -1,24 +1,15 @@
 -- What a turn makes of a board: it takes commands, each as the turn begins, and then time passes.
 use Rattle.std.proofs.Common.{◌≡◌, ◌+◌, List, [], ◌∷◌, ◌++◌, length, refl, ap, sym, ◌∙◌, append-nil}
-use Rattle.plan_types.specs.declared.clock.BoardClock.{BoardClock}
-use Rattle.plan_types.specs.Clock.{board_tick}
-use Rattle.wire_scene.specs.declared.scene.Way.TheVariants.{Down, Up}
+use Rattle.laws_board.proofs.Names.{BoardClock, board_tick, Down, Up, Cmd, Meant, commands_of, Rig, passes, takes_all, Event, Core, Step, Do, Turn, does, after_event, in_turn, run_world, takes_in, orders, LinkState, after_board, after_host, come, run_append}
 use Rattle.wire_scene.specs.declared.wire.Fate.{Fate}
 use Rattle.wire_scene.specs.declared.wire.Fate.TheVariants.{Lost, Last, Stays, Garbled}
-use Rattle.msg_code.specs.declared.cmd.Cmd.{Cmd}
-use Rattle.board_sim.specs.Fair.{Meant, commands_of}
-use Rattle.board_sim.specs.Rig.{Rig, passes, takes_all}
-use Rattle.board_world.specs.declared.event.Event.{Event}
 use Rattle.board_world.specs.declared.event.Event.TheVariants as event
-use Rattle.board_world.specs.World.{Core, Step, Do, Turn, does, after_event, in_turn, run_world, takes_in}
-use Rattle.link_work.specs.Stands.{orders}
-use Rattle.link_work.specs.Turn.{LinkState, after_board, after_host, come, comes, host_steps}
-use Rattle.link_work.proofs.Sending.{run_append}
+use Rattle.link_work.specs.Turn.{comes, host_steps}
 use Rattle.link_work.proofs.Steps.{AllHold, AllOf, Holds, IsHeld, all_append, all_come, come_holds, host_holds}
 use Rattle.laws_board.specs.turns.Turns.{AreBoardTurns, BoardTurn, stands_after}
-use Rattle.laws_homing.proofs.clear_boards.Taking.{takes_both}
 use Rattle.laws_homing.proofs.home_runs.Staging.{commands_both}
-use Rattle.laws_homing.proofs.home_runs.Staying.{steps_take}
+use Rattle.board_sim.proofs.Heeding.{all_append as takes_both}
+use Rattle.laws_board.proofs.sections.Naming.{taken_more}
 
 -- while no time passes a board is as the commands that it takes make it
 held_one : (h : Core) (e : Event) → IsHeld e → (does h e).board ≡ (takes_all h.board (commands_of (takes_in h e))).rig
@@ -34,12 +25,12 @@ held_one h event.Repeat k = refl
 held_one h event.Reply k = refl
 held_one h event.LoseReply k = refl
 
-held_board : (steps : List Step) (h : Core) → AllHold steps → (run_world steps h).board ≡ (takes_all h.board (commands_of (steps_take steps h).0)).rig
-unfolding steps_take
+held_board : (steps : List Step) (h : Core) → AllHold steps → (run_world steps h).board ≡ (takes_all h.board (commands_of (taken_more steps h).0)).rig
+unfolding taken_more
 held_board [] h k = refl
 held_board (Do e ∷ steps) h k =
     let first = takes_in h e in
-    let rest = (steps_take steps (after_event h e)).0 in
+    let rest = (taken_more steps (after_event h e)).0 in
     held_board steps (after_event h e) k.1 ∙ ap (λ (r : Rig). (takes_all r (commands_of rest)).rig) (held_one h e k.0)
     ∙ sym (takes_both h.board (commands_of first) (commands_of rest)) ∙ ap (λ (cs : List Cmd). (takes_all h.board cs).rig) (sym (commands_both first rest))
 held_board (Turn turn ∷ steps) h k = held_board steps (in_turn h turn) k.1
@@ -84,7 +75,7 @@ turned clock first t before are =
     let mid = run_world front l.core in
     let core : t.after.core ≡ run_world up (run_world pass mid) =
     ap (λ (x : LinkState). x.core) is.becomes ∙ ap (λ (h : Core). run_world up h) (run_append down pass l1.core) ∙ ap (λ (h : Core). run_world up (run_world pass h)) (sym (run_append host down l.core)) in
-    let took = steps_take front l.core in
+    let took = taken_more front l.core in
     let replies = replied up (run_world pass mid) (all_come Replies Up up_replies turn l2.up.copies) in
     let held = held_board front l.core (all_append Holds host down (host_holds turn o is.resent) (come_holds Down turn l1.down.copies)) in
     record {

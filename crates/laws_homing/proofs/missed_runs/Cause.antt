@@ -1,29 +1,7 @@
 -- Why a member's trigger can't trigger any more, as long as the group of its section relays nothing before five turns behind the section's last one.
 use Rattle.std.proofs.Common.{◌≡◌, ℕ, ◌+◌, ◌-◌, ◌<◌, ◌≤◌, ◌⊎◌, inl, inr, List, [], ◌∷◌, ◌++◌, length, Option, Some, None, refl, ap, sym, ◌∙◌, subst, arith, append_assoc, length-append}
-use Rattle.std.proofs.lemmas.List.{append_cancel_left}
-use Rattle.std.proofs.lemmas.Bool.Decides.{leb_tells}
-use Rattle.plan_types.specs.declared.levels.Level.{Level}
-use Rattle.plan_types.specs.declared.machine.Machine.{Machine}
-use Rattle.plan_types.specs.Clock.{board_tick, clock_of}
-use Rattle.plan_types.specs.Machines.{IsValidMachine, board_at}
-use Rattle.plan_types.specs.Sections.{clocks_at}
-use Rattle.board_trig.specs.declared.sampling.Sampling.{Sampling}
-use Rattle.msg_code.specs.declared.cmd.Cmd.{Cmd}
+use Rattle.laws_board.proofs.Names.{append_cancel_left, leb_tells, Level, Machine, board_tick, clock_of, IsValidMachine, board_at, clocks_at, Sampling, Cmd, Entry, Switch, Meant, commands_of, Rig, Slot, slot_at, queued_in, first_state, orders, LinkState, trigger_of, Member, Homing, members_of, Connecting, noted, Came, known_by, no_both}
 use Rattle.msg_code.specs.declared.cmd.Cmd.TheVariants as cmd
-use Rattle.wire_scene.specs.declared.scene.Entry.{Entry}
-use Rattle.wire_scene.specs.declared.scene.Switch.{Switch}
-use Rattle.board_sim.specs.Fair.{Meant, commands_of}
-use Rattle.board_sim.specs.Rig.{Rig, Slot, slot_at}
-use Rattle.link_work.specs.Runs.{queued_in}
-use Rattle.link_work.specs.Stands.{first_state, orders}
-use Rattle.link_work.specs.Turn.{LinkState}
-use Rattle.board_asking.specs.Machine.{trigger_of}
-use Rattle.trigger_group.specs.declared.order.Member.{Member}
-use Rattle.axis_homing.specs.declared.homing.Homing.{Homing}
-use Rattle.axis_homing.specs.Rising.{members_of}
-use Rattle.host_reactor.specs.declared.ordered.Phase.TheVariants.{Connecting}
-use Rattle.host_reactor.specs.Notes.{noted}
-use Rattle.host_reactor.specs.Runs.{Came, known_by}
 use Rattle.laws_board.specs.turns.Turns.{AreBoardTurns, BoardTurn, stands_after}
 use Rattle.laws_board.specs.clocks.Runs.{IsInRun}
 use Rattle.laws_board.proofs.clocks.Lines.{as_long, noted_phase, run_before}
@@ -39,7 +17,7 @@ use Rattle.laws_homing.specs.switch_runs.Taken.{AreBlind}
 use Rattle.laws_homing.proofs.switch_runs.Exact.{front_part}
 use Rattle.laws_homing.specs.fired_runs.Since.{AreNotAhead, AreSoInTurns, AreReadTrue, BeginsApart, IsAtRest, IsFiredAt, ReadsSwitchTrue, ReadsTrue}
 use Rattle.laws_homing.proofs.fired_runs.Blind.{blind_parts}
-use Rattle.laws_homing.proofs.fired_runs.Old.{OldAt, clash, tame_both}
+use Rattle.laws_homing.proofs.fired_runs.Old.{OldAt, tame_both}
 use Rattle.laws_homing.proofs.fired_runs.Once.{Split, turn_split}
 use Rattle.laws_homing.proofs.fired_runs.Rested.{earlier_reads, grows, left_of, old_of, queue_later, rest_before, rest_of, rises, run_at}
 use Rattle.laws_homing.proofs.fired_runs.Seeing.{unread_before}
@@ -277,7 +255,7 @@ module _ (m : Machine) (v : IsValidMachine m) (switches : List Switch) (pins : L
         let here = subst (λ (i : ℕ). slot_at (Board Early) i ≡ Some s) own at in
         record {
           fired = λ off. inl old.before;
-          expire = λ can. absurd (clash s.trigger.can can old.off);
+          expire = λ can. absurd (no_both s.trigger.can can old.off);
           reads = λ y reads_y. absurd (none_some s.trigger.sampling y (unread.0 s here) reads_y);
           idle = λ off. old.idle;
         }

@@ -1,21 +1,6 @@
 -- A homing section that is known has been known since it was begun.
 use Rattle.std.proofs.Common.{◌≡◌, ℕ, ◌+◌, ◌-◌, ◌<◌, ◌≤◌, inl, inr, List, [], ◌∷◌, length, Option, Some, None, refl, ap, sym, ◌∙◌, subst, arith}
-use Rattle.std.proofs.lemmas.Bool.Decides.{eqb_tells, leb_tells}
-use Rattle.plan_types.specs.declared.levels.Level.{Level}
-use Rattle.plan_types.specs.declared.machine.Machine.{Machine}
-use Rattle.plan_types.specs.Lines.{Clocks}
-use Rattle.plan_types.specs.Machines.{IsValidMachine}
-use Rattle.plan_types.specs.Sections.{clocks_at}
-use Rattle.wire_scene.specs.declared.scene.Entry.{Entry}
-use Rattle.wire_scene.specs.declared.scene.Switch.{Switch}
-use Rattle.trigger_group.specs.declared.order.End.{End}
-use Rattle.trigger_group.specs.declared.order.Member.{Member}
-use Rattle.axis_homing.specs.declared.homing.Homing.{Homing}
-use Rattle.axis_homing.specs.Homing.{answer_in, hears_all}
-use Rattle.axis_homing.specs.Rising.{members_of}
-use Rattle.host_reactor.specs.declared.ordered.Phase.TheVariants.{Connecting}
-use Rattle.host_reactor.specs.Notes.{news_of, noted}
-use Rattle.host_reactor.specs.Runs.{Came, known_by}
+use Rattle.laws_board.proofs.Names.{eqb_tells, leb_tells, Level, Machine, Clocks, IsValidMachine, clocks_at, Entry, Switch, End, Member, Homing, answer_in, hears_all, members_of, Connecting, news_of, noted, Came, known_by}
 use Rattle.laws_board.specs.turns.Turns.{BoardTurn}
 use Rattle.laws_board.specs.clocks.Runs.{IsInRun}
 use Rattle.laws_board.proofs.clocks.Lines.{noted_phase, run_before}

@@ -1,38 +1,25 @@
 -- Why a board's trigger can't trigger in a homing section: its timeout passed, its readings triggered it, or the host told it to.
 use Rattle.std.proofs.Common.{◌≡◌, ℕ, ◌+◌, ◌<◌, ◌≤◌, Bool, true, false, List, [], ◌∷◌, ◌++◌, length, Some, None, refl, ap, sym, ◌∙◌, subst, arith, append_assoc, append-nil, length-append, ◌⊎◌, inl, inr}
 use Rattle.std.specs.Prelude.{◌==◌}
-use Rattle.std.proofs.lemmas.List.{append_cancel_left}
-use Rattle.plan_types.specs.declared.clock.BoardClock.{BoardClock}
-use Rattle.plan_types.specs.declared.levels.Level.{Level}
-use Rattle.plan_types.specs.Clock.{board_tick}
-use Rattle.board_trig.specs.declared.sampling.Sampling.{Sampling}
-use Rattle.board_trig.specs.declared.trigger.Trigger.{Trigger}
-use Rattle.board_trig.specs.declared.trigger.Happening.{Happening}
-use Rattle.board_trig.specs.declared.trigger.Happening.TheVariants.{Nothing, Expires, Switches, Reports}
+use Rattle.laws_board.proofs.Names.{append_cancel_left, BoardClock, Level, board_tick, Sampling, Trigger, Happening, Nothing, Expires, Switches, Reports, Cmd, Meant, commands_of, Rig, Slot, passes, slot_at, takes, takes_all, queued_in, orders, LinkState, no_both}
 use Rattle.board_trig.specs.Trigger as trig
-use Rattle.msg_code.specs.declared.cmd.Cmd.{Cmd}
 use Rattle.msg_code.specs.declared.cmd.Cmd.TheVariants as cmd
-use Rattle.board_sim.specs.Fair.{Meant, commands_of}
-use Rattle.board_sim.specs.Rig.{Rig, Slot, passes, slot_at, takes, takes_all}
 use Rattle.board_sim.proofs.RigTicks.{takes_rig_tick}
-use Rattle.link_work.specs.Runs.{queued_in}
-use Rattle.link_work.specs.Stands.{orders}
-use Rattle.link_work.specs.Turn.{LinkState}
 use Rattle.laws_board.specs.turns.Turns.{AreBoardTurns, BoardTurn, stands_after}
 use Rattle.laws_board.proofs.sections.Lists.{cuts}
 use Rattle.laws_board.proofs.clocks.Answers.{Each}
 use Rattle.laws_homing.proofs.clear_boards.Held.{switch_reason}
 use Rattle.laws_homing.proofs.clear_boards.Slots.{Follows, Next, levels_at, passes_each, takes_each}
-use Rattle.laws_homing.proofs.clear_boards.Taking.{takes_both}
 use Rattle.laws_homing.proofs.home_runs.Staging.{commands_both}
 use Rattle.laws_homing.proofs.home_runs.Staying.{taken_later}
 use Rattle.laws_homing.specs.clear_groups.Resting.{EachTame, IsTame}
 use Rattle.laws_homing.specs.switch_runs.Taken.{AreBlind, IsBlind}
 use Rattle.laws_homing.proofs.switch_runs.Firing.{begun_reason, read_true}
 use Rattle.laws_homing.proofs.fired_runs.Blind.{blind_parts}
-use Rattle.laws_homing.proofs.fired_runs.Old.{OldAt, clash, passes_old, takes_old, tame_parts}
+use Rattle.laws_homing.proofs.fired_runs.Old.{OldAt, passes_old, takes_old, tame_parts}
 use Rattle.laws_homing.proofs.fired_runs.Rested.{queue_later}
 use Rattle.laws_homing.proofs.missed_runs.Boarded.{turned}
+use Rattle.board_sim.proofs.Heeding.{all_append}
 
 -- It triggered before a tick; or as its timeout passed (2); or by its readings (1), where Z is so; or from another tick on. While it can trigger, its timeout
 -- does so for the reason 2, and its readings for the reason 1, where there are any and Z is so.
@@ -150,7 +137,7 @@ module _ (Z : Type 0) (n late j : ℕ) (some : 0 < n) where
   follows_meek = record {
     made = λ pins now oid fit own. new_meek;
     starts = λ pins now oid s clock every reason fit k own. (record { fired = λ off. absurd (cc); expire = λ can. fit; reads = (k own).reads; idle = λ off. absurd (cc) });
-    limits = λ pins now oid s clock fit can ahead k own. (let x = k own in record { fired = x.fired; expire = x.expire; reads = x.reads; idle = λ off. absurd (clash s.trigger.can can off) });
+    limits = λ pins now oid s clock fit can ahead k own. (let x = k own in record { fired = x.fired; expire = x.expire; reads = x.reads; idle = λ off. absurd (no_both s.trigger.can can off) });
     expires = λ pins now oid s clock fit can past k own. (record { fired = λ off. inr (inl ((k own).expire can)); expire = λ on. absurd (cc); reads = λ y is. absurd (cc); idle = λ off. refl });
     says = λ pins oid s n e k own. told_meek s.trigger (k own);
     fires = λ pins now oid s reason fit can k own. (record { fired = λ off. inr (inr (inr fit)); expire = λ on. absurd (cc); reads = λ y is. absurd (cc); idle = λ off. refl });
@@ -189,10 +176,10 @@ module _ (Z : Type 0) (n late j : ℕ) (some : 0 < n) where
   follows_idle = record {
     made = λ pins now oid fit own. (refl, new_meek);
     starts = λ pins now oid s clock every reason fit k. absurd fit.0;
-    limits = λ pins now oid s clock fit can ahead k own. absurd (clash s.trigger.can can (k own).0);
-    expires = λ pins now oid s clock fit can past k own. absurd (clash s.trigger.can can (k own).0);
+    limits = λ pins now oid s clock fit can ahead k own. absurd (no_both s.trigger.can can (k own).0);
+    expires = λ pins now oid s clock fit can past k own. absurd (no_both s.trigger.can can (k own).0);
     says = λ pins oid s n e k own. ((k own).0, told_meek s.trigger (k own).1);
-    fires = λ pins now oid s reason fit can k own. absurd (clash s.trigger.can can (k own).0);
+    fires = λ pins now oid s reason fit can k own. absurd (no_both s.trigger.can can (k own).0);
     binds = λ pins now oid s i fit k own. k own;
     homes = λ pins now oid s i pin g fit k. absurd fit.1;
   }
@@ -258,7 +245,7 @@ module _ (Z : Type 0) (n late j : ℕ) (some : 0 < n) where
         let tick = ticks r w.front in
         let now : (late ≤ mid.controller.tick) ⊎ AllSo (IsMeek Z) tail = elim own.1 [ inl l ↦ inl (omega (arith, l, tick)) | inr x ↦ inr x ] in
         let rig : (takes_all r (commands_of ms)).rig ≡ (takes_all mid (commands_of tail)).rig =
-        ap (λ (cs : List Cmd). (takes_all r cs).rig) (ap commands_of p.2 ∙ commands_both w.front tail) ∙ takes_both r (commands_of w.front) (commands_of tail) in
+        ap (λ (cs : List Cmd). (takes_all r cs).rig) (ap commands_of p.2 ∙ commands_both w.front tail) ∙ all_append r (commands_of w.front) (commands_of tail) in
         inr (parts.1, subst MeekAt (sym rig) (takes_meek mid tail own.0 now was))
   ]
     where

@@ -1,49 +1,23 @@
 -- Since a homing section's board took the command that reads its endstop, its trigger can't trigger from behind the section's trigger tick on.
 use Rattle.std.proofs.Common.{◌≡◌, ℕ, ◌+◌, ◌-◌, ◌<◌, ◌≤◌, inl, inr, List, [], ◌∷◌, ◌++◌, length, Option, Some, None, refl, ap, sym, ◌∙◌, subst, arith, append_assoc, length-append}
 use Rattle.std.specs.Prelude.{slice_index_or, ◌==◌}
-use Rattle.std.proofs.lemmas.List.{append_cancel_left}
-use Rattle.std.proofs.lemmas.Bool.Decides.{leb_tells}
-use Rattle.plan_types.specs.declared.levels.Level.{Level}
-use Rattle.plan_types.specs.declared.machine.Machine.{Machine}
-use Rattle.plan_types.specs.declared.plan.BoardState.{BoardState}
-use Rattle.plan_types.specs.declared.plan.BoardState.TheVariants.{Running}
-use Rattle.plan_types.specs.Clock.{board_tick, clock_of}
-use Rattle.plan_types.specs.Lines.{Clocks}
-use Rattle.plan_types.specs.Machines.{IsValidMachine, axis_at, board_at}
-use Rattle.plan_types.specs.Sections.{clocks_at}
-use Rattle.clock_line.specs.Early.{turn_tick}
+use Rattle.laws_board.proofs.Names.{append_cancel_left, leb_tells, Level, Machine, BoardState, Running, board_tick, clock_of, Clocks, IsValidMachine, axis_at, board_at, clocks_at, turn_tick, Cmd, Entry, Switch, Meant, commands_of, Rig, Slot, acts_running, passes, slot_at, takes, takes_all, AllSound, one_slot, queued_in, first_state, orders, LinkState, trigger_of, Member, Homing, low, Connecting, noted, Came, known_by, cons_same, no_both}
 use Rattle.board_trig.specs.declared.sampling.Homing.{Homing as Reading}
-use Rattle.msg_code.specs.declared.cmd.Cmd.{Cmd}
-use Rattle.wire_scene.specs.declared.scene.Entry.{Entry}
-use Rattle.wire_scene.specs.declared.scene.Switch.{Switch}
-use Rattle.board_sim.specs.Fair.{Meant, commands_of}
-use Rattle.board_sim.specs.Rig.{Rig, Slot, acts_running, home, passes, slot_at, takes, takes_all}
-use Rattle.board_sim.specs.RigRuns.{AllSound}
-use Rattle.board_sim.proofs.Bound.{one_slot}
+use Rattle.board_sim.specs.Rig.{home}
 use Rattle.board_sim.proofs.Halting.{sampling_from}
 use Rattle.board_sim.proofs.RigStates.{all_tick, passes_state}
 use Rattle.board_sim.proofs.Sound.{takes_sound}
-use Rattle.link_work.specs.Runs.{queued_in}
-use Rattle.link_work.specs.Stands.{first_state, orders}
-use Rattle.link_work.specs.Turn.{LinkState}
-use Rattle.board_asking.specs.Machine.{endstop_pins, trigger_of}
-use Rattle.trigger_group.specs.declared.order.Member.{Member}
-use Rattle.axis_homing.specs.declared.homing.Homing.{Homing}
-use Rattle.axis_homing.specs.Homing.{low}
-use Rattle.host_reactor.specs.declared.ordered.Phase.TheVariants.{Connecting}
-use Rattle.host_reactor.specs.Notes.{noted}
-use Rattle.host_reactor.specs.Runs.{Came, known_by}
+use Rattle.board_asking.specs.Machine.{endstop_pins}
 use Rattle.laws_board.specs.turns.Turns.{AreBoardTurns, BoardTurn, stands_after}
 use Rattle.laws_board.specs.clocks.Runs.{IsInRun}
 use Rattle.laws_board.proofs.clocks.Lines.{as_long, run_before}
-use Rattle.laws_board.proofs.sections.Lists.{cons_same, cuts}
+use Rattle.laws_board.proofs.sections.Lists.{cuts}
 use Rattle.laws_homing.specs.home_runs.Sections.{HomesFrom, IsOf, queued_in_turns}
 use Rattle.laws_homing.proofs.home_runs.Staging.{commands_both, ran_turns}
 use Rattle.laws_homing.proofs.home_runs.Staying.{taken_later}
 use Rattle.laws_homing.proofs.home_runs.Whole.{Only, queue_only, run_only}
 use Rattle.laws_homing.proofs.clear_boards.Member.{all_sound}
 use Rattle.laws_homing.proofs.clear_boards.Standing.{sound_at, tick_is}
-use Rattle.laws_homing.proofs.clear_boards.Taking.{takes_both}
 use Rattle.laws_homing.proofs.clear_boards.Turned.{ran}
 use Rattle.laws_homing.specs.switch_runs.Made.{MakesEndstop}
 use Rattle.laws_homing.specs.switch_runs.Reading.{AreFit, IsComplete}
@@ -60,13 +34,14 @@ use Rattle.laws_homing.proofs.clear_groups.Resting.{some_same, taken_tame}
 use Rattle.laws_homing.proofs.clear_groups.Starting.{starts_either}
 use Rattle.laws_homing.specs.fired_runs.Since.{AreNotAhead, AreSoInTurns, BeginsApart, IsFiredAt, ReadsSwitchTrue, ReadsTrue}
 use Rattle.laws_homing.proofs.fired_runs.Blind.{blind_parts}
-use Rattle.laws_homing.proofs.fired_runs.Old.{clash, tame_both, tame_parts}
+use Rattle.laws_homing.proofs.fired_runs.Old.{tame_both, tame_parts}
 use Rattle.laws_homing.proofs.fired_runs.Rested.{earlier_reads, grows, left_of, queue_later, rest_of, run_at}
 use Rattle.laws_homing.proofs.fired_runs.Seeing.{queued_fit}
 use Rattle.laws_homing.proofs.fired_runs.Under.{takes_under, under_after}
 use Rattle.laws_homing.proofs.missed_runs.Boarded.{turned}
 use Rattle.laws_homing.proofs.missed_runs.Only.{HomeOf, home_is}
 use Rattle.laws_homing.proofs.missed_runs.Waits.{Ends, home_ends, takes_ends, time_ends, turns_ends}
+use Rattle.board_sim.proofs.Heeding.{all_append}
 
 -- readings are complete no earlier than they begin
 pub complete_late : (levels : List Level) (g : Reading) (now tick : ℕ) → IsComplete levels g now tick → now ≤ tick
@@ -290,7 +265,7 @@ module _ (m : Machine) (v : IsValidMachine m) (switches : List Switch) (pins : L
     behind_it : (takes_all (Board Mid) (commands_of Took)).rig ≡ (takes_all (takes R T.home.command).rig (commands_of parts.rest)).rig
     behind_it =
         let tail = T.home ∷ parts.rest in
-        ap (λ (cs : List Cmd). (takes_all (Board Mid) cs).rig) (ap commands_of parts.took ∙ commands_both parts.front tail) ∙ takes_both (Board Mid) (commands_of parts.front) (commands_of tail)
+        ap (λ (cs : List Cmd). (takes_all (Board Mid) cs).rig) (ap commands_of parts.took ∙ commands_both parts.front tail) ∙ all_append (Board Mid) (commands_of parts.front) (commands_of tail)
 
     board_is : Board (T.took ∷ Mid) ≡ (passes (takes_all (takes R T.home.command).rig (commands_of parts.rest)).rig (Own (length Mid + 1))).rig
     board_is = (turned (clock_of (board_at m b)) First T.took Mid run_took.1.turns_are).board ∙ ap (λ (z : Rig). (passes z (Own (length Mid + 1))).rig) behind_it
@@ -393,6 +368,6 @@ module _ (m : Machine) (v : IsValidMachine m) (switches : List Switch) (pins : L
           let since_is = f.at in
           elim (subst Here (sym d.1) (ends_behind d.0 l (cut ∙ ap (λ (z : List BoardTurn). l ++ z) d.1))) [
             | inl old ↦ (let low_tick = (old Oid f.slot refl f.is).before in omega (arith, low_tick, since_is))
-            | inr w ↦ absurd (clash w.slot.trigger.can w.still.0 (ap (λ (s : Slot). s.trigger.can) (one_slot (slot_at (Board x) Oid) w.slot f.slot w.is f.is) ∙ f.fired))
+            | inr w ↦ absurd (no_both w.slot.trigger.can w.still.0 (ap (λ (s : Slot). s.trigger.can) (one_slot (slot_at (Board x) Oid) w.slot f.slot w.is f.is) ∙ f.fired))
           ]
     ]

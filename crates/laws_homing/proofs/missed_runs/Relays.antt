@@ -1,31 +1,12 @@
 -- Where a group answers that no switch closed it relayed nothing before five turns behind the section's last one, and none of its members triggered in time.
 use Rattle.std.proofs.Common.{◌≡◌, ℕ, ◌+◌, ◌-◌, ◌*◌, ◌<◌, ◌≤◌, ◌⊎◌, inl, inr, Bool, true, false, List, [], ◌∷◌, ◌++◌, length, Option, Some, None, refl, ap, sym, ◌∙◌, subst, arith}
 use Rattle.std.specs.Prelude.{nat_le, ◌||◌}
-use Rattle.plan_types.specs.declared.levels.Level.{Level}
-use Rattle.plan_types.specs.declared.machine.Machine.{Machine}
-use Rattle.plan_types.specs.Clock.{board_tick, clock_of, turn_ns}
-use Rattle.plan_types.specs.Lines.{Clocks, lines_tick}
-use Rattle.plan_types.specs.Machines.{IsValidMachine, axis_at, board_at}
-use Rattle.plan_types.specs.Sections.{clocks_at}
-use Rattle.clock_line.specs.Kept.{AreKept}
-use Rattle.wire_scene.specs.declared.scene.Entry.{Entry}
-use Rattle.wire_scene.specs.declared.scene.Switch.{Switch}
-use Rattle.link_work.specs.Stands.{first_state}
-use Rattle.board_asking.specs.Machine.{trigger_of}
-use Rattle.trigger_group.specs.declared.order.End.{End}
+use Rattle.laws_board.proofs.Names.{Level, Machine, board_tick, clock_of, turn_ns, Clocks, lines_tick, IsValidMachine, axis_at, board_at, clocks_at, AreKept, Entry, Switch, first_state, trigger_of, End, Member, Fired, Seen, GroupState, turned_group, phase, relay_in, relays_in, Homing, answer_in, hears_all, members_of, Connecting, news_of, noted, Came, GoesOn, known_by, state_at, states-kept, both_parts}
 use Rattle.trigger_group.specs.declared.order.End.TheVariants as end
-use Rattle.trigger_group.specs.declared.order.Member.{Member}
-use Rattle.trigger_group.specs.declared.seen.Fired.{Fired}
-use Rattle.trigger_group.specs.declared.seen.Seen.{Seen}
-use Rattle.trigger_group.specs.Group.{GroupState, turned_group, any_fired_by, phase, relay_begins, relay_from, relay_in, relays_in}
+use Rattle.trigger_group.specs.Group.{any_fired_by, relay_begins, relay_from}
 use Rattle.trigger_group.specs.Kept.{BoardsRise}
 use Rattle.trigger_group.proofs.Knows.{after_last, after_members}
-use Rattle.axis_homing.specs.declared.homing.Homing.{Homing}
-use Rattle.axis_homing.specs.Homing.{answer_in, hears_all}
-use Rattle.axis_homing.specs.Rising.{HomingRises, members_of}
-use Rattle.host_reactor.specs.declared.ordered.Phase.TheVariants.{Connecting}
-use Rattle.host_reactor.specs.Notes.{news_of, noted}
-use Rattle.host_reactor.specs.Runs.{Came, GoesOn, known_by, state_at}
+use Rattle.axis_homing.specs.Rising.{HomingRises}
 use Rattle.laws_board.specs.turns.Turns.{BoardTurn, latest_state}
 use Rattle.laws_board.specs.clocks.Near.{LinesKeepUp}
 use Rattle.laws_board.specs.clocks.Runs.{IsInRun}
@@ -34,7 +15,6 @@ use Rattle.laws_homing.specs.home_runs.Sections.{HomesFrom}
 use Rattle.laws_homing.specs.home_runs.Told.{IsMember}
 use Rattle.laws_homing.specs.home_parts.Answers.{ArePastConnecting}
 use Rattle.laws_homing.specs.home_parts.Known.{KnowsLately}
-use Rattle.laws_homing.proofs.home_runs.Grouped.{members_states}
 use Rattle.laws_homing.proofs.home_runs.Joining.{homes_later, known_rises, noted_rises}
 use Rattle.laws_homing.proofs.home_runs.Knowing.{noted_none}
 use Rattle.laws_homing.proofs.clear_boards.Keeping.{hears_keep}
@@ -43,9 +23,9 @@ use Rattle.laws_homing.proofs.clear_groups.Noted.{IsNewly, noted_newly, some_or_
 use Rattle.laws_homing.proofs.clear_groups.Resting.{clash, some_same}
 use Rattle.laws_homing.proofs.clear_groups.Starting.{MembersOf}
 use Rattle.laws_homing.specs.missed_groups.Ticks.{IsReader}
-use Rattle.laws_homing.proofs.missed_groups.Answering.{both_parts, missed}
+use Rattle.laws_homing.proofs.missed_groups.Answering.{missed}
 use Rattle.laws_homing.proofs.missed_groups.Axes.{of_axis}
-use Rattle.laws_homing.proofs.missed_groups.Stepping.{either_part, le_so, relay_after}
+use Rattle.laws_homing.proofs.missed_groups.Stepping.{relay_after}
 use Rattle.laws_homing.specs.switch_runs.Reports.{WasReported}
 use Rattle.laws_homing.specs.fired_runs.Since.{AreNotAhead, AreSoInTurns, BeginsApart, ReadsAsTold, ReadsSwitchTrue, ReadsTrue, WasFiredAt}
 use Rattle.laws_homing.proofs.fired_runs.Reported.{Each, all_told}
@@ -58,6 +38,8 @@ use Rattle.laws_homing.proofs.missed_runs.Missing.{fired_by}
 use Rattle.laws_homing.proofs.missed_runs.Orders.{turn_is}
 use Rattle.laws_homing.proofs.missed_runs.Stays.{Has, IsCause, has_none, has_or_none, reader_is, reader_late, states_stay}
 use Rattle.laws_homing.proofs.missed_runs.Truth.{Truth, told_true}
+use Rattle.plan_types.proofs.Facts.{was_le}
+use Rattle.laws_homing.proofs.clear_groups.Groups.{either_part}
 
 -- what is read wholly true is read true, and of the endstop's board by readings
 wholly_true : (m : Machine) (switches : List Switch) (b : ℕ) (came : List Came) (turns : List BoardTurn) → AreSoInTurns (ReadsAsTold m switches b) came turns → AreSoInTurns (ReadsTrue m switches b) came turns
@@ -180,13 +162,13 @@ module _ (m : Machine) (v : IsValidMachine m) (switches : List Switch) (pins : �
     now = known_since m v switches (pins 0) entries 0 d past (turns 0) (ready_all 0 some).run apart h is
 
     members : members_of G ≡ ms
-    members = members_states (noted m d.note (known_by m switches past)).clocks 0 h.start d.states h.group ∙ own.2
+    members = states-kept (noted m d.note (known_by m switches past)).clocks 0 h.start d.states h.group ∙ own.2
 
     rise : BoardsRise (members_of G)
     rise =
         let known = known_by m switches past in
         let up : HomingRises (Some h) = subst HomingRises is (noted_rises m d.note known (known_rises m switches past goes)) in
-        subst BoardsRise (sym (members_states (noted m d.note known).clocks 0 h.start d.states h.group)) up
+        subst BoardsRise (sym (states-kept (noted m d.note known).clocks 0 h.start d.states h.group)) up
 
     abbrev W : ℕ → Fired → Type 0
     W b f = WasReported m switches b start f (d ∷ past)
@@ -262,7 +244,7 @@ module _ (m : Machine) (v : IsValidMachine m) (switches : List Switch) (pins : �
         let both = both_parts (nat_le (G.start + 4) K) (any_fired_by G.last G.members || nat_le (G.last + 5) K) e in
         elim (either_part (any_fired_by G.last G.members) (nat_le (G.last + 5) K) both.1) [
           | inl fired ↦ absurd (let bad : true ≡ false = sym (subst (λ (n : ℕ). any_fired_by n G.members ≡ true) last_is fired) ∙ none in cc)
-          | inr late ↦ (let l = le_so (G.last + 5) K late in let same = last_is in omega (arith, l, same))
+          | inr late ↦ (let l = was_le (G.last + 5) K late in let same = last_is in omega (arith, l, same))
         ]
 
     no_relays : any_fired_by last G.members ≡ false → Calm past h.group turns → K < last + 5 → relays_in (relay_in G K) K ≡ true → ⊥
@@ -376,7 +358,7 @@ group_missed m v switches pins entries clocks ready c before turns h is after ap
       | inr x ↦ x.0
     ] in
     let reader : IsReader b ms = (of_axis m switches c before (all b there).run.goes_on h is).1 there in
-    let reads : IsReader b (MembersOf group.members) = subst (IsReader b) (sym (members_states n.clocks 0 h.start c.states h.group)) reader in
+    let reads : IsReader b (MembersOf group.members) = subst (IsReader b) (sym (states-kept n.clocks 0 h.start c.states h.group)) reader in
     let f = reader_late group.last b group.members parts (subst (λ (i : ℕ). any_fired_by i group.members ≡ false) (sym last_so) none) reads (λ i g. WasReported m switches i start g (c ∷ before)) b (all_told m switches c before h (all b there).run.goes_on is) in
     let far = f.2 in
     let y = truth m v switches pins entries clocks ready start last (length before) ms after some c before turns (omega arith) ready_all (λ i low. (all i low).latest) (λ i low. (all i low).reads) (λ i low. (all i low).behind) apart knows connected h is own k b (is_member b ms reader) f.0 f.3 in

@@ -1,29 +1,21 @@
 -- What is known of a member of a homing group that has triggered stays known; and what it is where the group answers that no switch closed.
 use Rattle.std.proofs.Common.{◌≡◌, ℕ, ◌+◌, ◌<◌, ◌≤◌, ◌⊎◌, ◌==◌, inl, inr, Bool, true, false, not, cond, List, [], ◌∷◌, ◌++◌, map, Option, Some, None, refl, ap, sym, ◌∙◌, subst, arith, append_assoc}
 use Rattle.std.specs.Prelude.{nat_le, nat_lt, ◌||◌}
-use Rattle.std.proofs.lemmas.Bool.Decides.{leb_tells}
+use Rattle.laws_board.proofs.Names.{leb_tells, nearest, Clocks, turn_in_run, turn_tick, Cmd, News, State, Member, Fired, Seen, GroupState, all_fired, both_parts}
 use Rattle.plan_types.specs.declared.plan.TrigState.{TrigState}
-use Rattle.plan_types.specs.Board.{nearest}
-use Rattle.plan_types.specs.Lines.{Clocks}
-use Rattle.clock_line.specs.Early.{turn_in_run, turn_tick}
-use Rattle.msg_code.specs.declared.cmd.Cmd.{Cmd}
 use Rattle.msg_code.specs.declared.cmd.Cmd.TheVariants as cmd
-use Rattle.msg_code.specs.declared.talk.News.{News}
-use Rattle.msg_code.specs.declared.talk.State.{State}
-use Rattle.trigger_group.specs.declared.order.Member.{Member}
-use Rattle.trigger_group.specs.declared.seen.Fired.{Fired}
-use Rattle.trigger_group.specs.declared.seen.Seen.{Seen}
-use Rattle.trigger_group.specs.Group.{GroupState, any_fired_by, came, expired, fired_by, first_fired, first_expired, first_switched, has_fired, all_fired, member_hears, hears_from, later, switched}
+use Rattle.trigger_group.specs.Group.{any_fired_by, came, expired, fired_by, first_fired, first_expired, first_switched, has_fired, member_hears, hears_from, later, switched}
 use Rattle.trigger_group.specs.Kept.{BoardsRise}
 use Rattle.axis_homing.specs.Homing.{came_at, hears_answer, hears_news, hears_state, hears_states}
 use Rattle.laws_homing.specs.home_runs.Told.{IsMember}
 use Rattle.laws_homing.proofs.home_runs.Setting.{rise_behind}
 use Rattle.laws_homing.proofs.clear_groups.Starting.{MembersOf}
 use Rattle.laws_homing.specs.missed_groups.Ticks.{IsReader}
-use Rattle.laws_homing.proofs.missed_groups.Answering.{Missed, both_parts, else_none, fired_some, none_expired, none_switched, rest_missed}
+use Rattle.laws_homing.proofs.missed_groups.Answering.{Missed, else_none, fired_some, none_expired, none_switched, rest_missed}
 use Rattle.laws_homing.proofs.fired_runs.Once.{rise_first}
 use Rattle.laws_homing.proofs.fired_runs.Reported.{Each}
 use Rattle.laws_homing.proofs.fired_runs.Sight.{is_member}
+use Rattle.std.proofs.lemmas.Bool.{or_parts}
 
 module _ (P : Member → Fired → Type 0) where
   -- so one of some members is known to have triggered
@@ -126,11 +118,6 @@ reader_is (y ∷ ahead) x behind rise (inl here) =
     there (z ∷ xs) = inr (there xs)
 reader_is (y ∷ ahead) x behind rise (inr more) = reader_is ahead x behind (rise_behind y.member (MembersOf (ahead ++ x ∷ behind)) rise) more
 
--- what the member with the endstop told, where none triggered in a turn up to the last one
-or_false : (a b : Bool) → (a || b) ≡ false → (a ≡ false) × (b ≡ false)
-or_false true b e = cc
-or_false false b e = (refl, e)
-
 late_one : (last : ℕ) (o : Option Fired) (f : Fired) → o ≡ Some f → fired_by last o ≡ false → last < f.turn
 late_one last None f e none = cc
 late_one last (Some g) f e none =
@@ -144,7 +131,7 @@ reader_late last b (x ∷ xs) k none (inl here) W own each =
     let some = fired_some x.fired (both_parts (has_fired x.fired) (all_fired xs) k.all).0 in (
       some.0,
       (λ one. none_switched x.member.endstop x.fired some.0 here.1 some.1 (else_none (switched x.member.endstop x.fired) (first_switched xs) k.unswitched).0 one),
-      late_one last x.fired some.0 some.1 (or_false (fired_by last x.fired) (any_fired_by last xs) none).0,
+      late_one last x.fired some.0 some.1 (or_parts (fired_by last x.fired) (any_fired_by last xs) none).0,
       subst (λ (n : ℕ). W n some.0) here.0 (each.0.0 some.0 some.1),
     )
-reader_late last b (x ∷ xs) k none (inr more) W own each = reader_late last b xs (rest_missed last x xs k) (or_false (fired_by last x.fired) (any_fired_by last xs) none).1 more W own each.1
+reader_late last b (x ∷ xs) k none (inr more) W own each = reader_late last b xs (rest_missed last x xs k) (or_parts (fired_by last x.fired) (any_fired_by last xs) none).1 more W own each.1

@@ -1,26 +1,10 @@
 -- What a report that is read wholly true tells of a board's trigger, and how its tick stands to the section's last turn.
 use Rattle.std.proofs.Common.{◌≡◌, ℕ, ◌+◌, ◌-◌, ◌*◌, ◌<◌, ◌≤◌, inl, inr, List, [], ◌∷◌, length, map, ap, sym, ◌∙◌, subst, arith, length-append}
-use Rattle.std.proofs.lemmas.Bool.Decides.{leb_tells}
-use Rattle.plan_types.specs.declared.levels.Level.{Level}
-use Rattle.plan_types.specs.declared.machine.Machine.{Machine}
-use Rattle.plan_types.specs.Clock.{board_tick, clock_of, turn_ns}
-use Rattle.plan_types.specs.Lines.{Clocks, lines_tick, lines_turn}
-use Rattle.plan_types.specs.Machines.{IsValidMachine, board_at}
-use Rattle.plan_types.specs.Sections.{clocks_at}
+use Rattle.laws_board.proofs.Names.{leb_tells, Level, Machine, board_tick, clock_of, turn_ns, Clocks, lines_tick, IsValidMachine, board_at, clocks_at, AreKept, State, Entry, Switch, first_state, LinkState, trigger_of, Member, Fired, noted, Came, known_by, state_at}
+use Rattle.plan_types.specs.Lines.{lines_turn}
 use Rattle.clock_line.specs.Early.{is_in_run}
-use Rattle.clock_line.specs.Kept.{AreKept}
 use Rattle.clock_line.proofs.Turns.{turn-after, turn-below}
-use Rattle.msg_code.specs.declared.talk.State.{State}
 use Rattle.motion_work.specs.Known.{lines_by}
-use Rattle.wire_scene.specs.declared.scene.Entry.{Entry}
-use Rattle.wire_scene.specs.declared.scene.Switch.{Switch}
-use Rattle.link_work.specs.Stands.{first_state}
-use Rattle.link_work.specs.Turn.{LinkState}
-use Rattle.board_asking.specs.Machine.{trigger_of}
-use Rattle.trigger_group.specs.declared.order.Member.{Member}
-use Rattle.trigger_group.specs.declared.seen.Fired.{Fired}
-use Rattle.host_reactor.specs.Notes.{noted}
-use Rattle.host_reactor.specs.Runs.{Came, known_by, state_at}
 use Rattle.laws_board.specs.turns.Turns.{BoardTurn, latest_state}
 use Rattle.laws_board.specs.clocks.Near.{LinesKeepUp}
 use Rattle.laws_board.specs.clocks.Runs.{IsInRun}
@@ -32,9 +16,10 @@ use Rattle.laws_homing.specs.home_parts.Known.{KnowsLately}
 use Rattle.laws_homing.proofs.home_parts.Held.{clocks_by, kept_by, tick_known}
 use Rattle.laws_homing.specs.switch_runs.Reports.{IsReport, WasReported}
 use Rattle.laws_homing.specs.fired_runs.Since.{AreNotAhead, AreSoInTurns, ReadsAsTold, WasFiredAt}
-use Rattle.laws_homing.proofs.fired_runs.Reported.{sole_state, turn_if}
+use Rattle.laws_homing.proofs.fired_runs.Reported.{sole_state}
 use Rattle.laws_homing.proofs.fired_runs.Rested.{Read, grows, read_now, rises, run_at, was_at}
 use Rattle.laws_homing.proofs.fired_runs.Under.{under_after}
+use Rattle.laws_homing.proofs.clear_boards.Ending.{when_if}
 
 module _ (m : Machine) (v : IsValidMachine m) (switches : List Switch) (pins : List (List Level)) (entries : List Entry) (b : ℕ) (clocks : List Clocks) (ready start last top : ℕ) (kept : AreKept (clocks_at clocks b))
     (keeps_up : (turn : ℕ) → start ≤ turn → turn ≤ top + 275 → LinesKeepUp (clock_of (board_at m b)) (clocks_at clocks b) turn) where
@@ -74,7 +59,7 @@ module _ (m : Machine) (v : IsValidMachine m) (switches : List Switch) (pins : L
         let Ln = clocks_at n b in
         let kept_now : AreKept Ln = subst AreKept (sym (ap (λ (z : List Clocks). clocks_at z b) known ∙ clocks_by (length before + 276) clocks b)) (kept_by (length before + 276) (clocks_at clocks b) kept) in
         let at : (k : ℕ) → k ≤ length before + 276 → lines_tick Ln (k * turn_ns) ≡ lines_tick (clocks_at clocks b) (k * turn_ns) = λ k low_k. tick_known n clocks (length before + 276) b k known kept low_k in
-        let turn_is : lines_turn Ln f.tick ≡ f.turn = turn_if (is_in_run Ln f.tick) (lines_turn Ln f.tick) f.turn x.turn_is in
+        let turn_is : lines_turn Ln f.tick ≡ f.turn = when_if (is_in_run Ln f.tick) (lines_turn Ln f.tick) f.turn x.turn_is in
         let fired = was_at First Oid f.reason f.tick turns read.was in
         let run_x = run_at m switches pins entries b before fired.0 fired.1 (subst (λ (z : List BoardTurn). IsInRun m switches pins entries b before z) fired.2 r) in
         let under = under_after m switches pins entries b run_x.0 fired.1 run_x.1 Oid fired.3.slot fired.3.is in

@@ -1,25 +1,13 @@
 -- A trigger that is to read what is complete at a tick can't trigger from behind this tick on.
 use Rattle.std.proofs.Common.{◌≡◌, ℕ, suc, ◌+◌, ◌≤◌, Bool, true, false, List, [], ◌∷◌, ◌++◌, length, Option, Some, None, refl, ap, sym, ◌∙◌, subst, arith, append_assoc, ◌⊎◌, inl, inr}
 use Rattle.std.specs.Prelude.{slice_index_or}
-use Rattle.std.proofs.lemmas.List.{append_cancel_left, get_or-set_same}
-use Rattle.plan_types.specs.declared.clock.BoardClock.{BoardClock}
-use Rattle.plan_types.specs.declared.levels.Level.{Level}
-use Rattle.plan_types.specs.Board.{nearest}
-use Rattle.plan_types.specs.Clock.{board_tick}
+use Rattle.laws_board.proofs.Names.{append_cancel_left, get_or-set_same, BoardClock, Level, nearest, board_tick, Trigger, Happening, Nothing, Expires, Switches, Reports, Cmd, Meant, commands_of, Rig, Slot, passes, slot_at, takes_all, AllSound, one_slot, slot_range, LinkState, no_both}
 use Rattle.board_trig.specs.declared.sampling.Homing.{Homing as Reading}
-use Rattle.board_trig.specs.declared.trigger.Trigger.{Trigger}
-use Rattle.board_trig.specs.declared.trigger.Happening.{Happening}
-use Rattle.board_trig.specs.declared.trigger.Happening.TheVariants.{Nothing, Expires, Switches, Reports}
 use Rattle.board_trig.specs.Kept.{MovesOn}
 use Rattle.board_trig.specs.Trigger as trig
 use Rattle.board_trig.proofs.Nexts.{same_tick}
-use Rattle.msg_code.specs.declared.cmd.Cmd.{Cmd}
-use Rattle.board_sim.specs.Fair.{Meant, commands_of}
-use Rattle.board_sim.specs.Rig.{Rig, Slot, home, passes, slot_at, takes_all}
-use Rattle.board_sim.specs.RigRuns.{AllSound}
-use Rattle.board_sim.proofs.Bound.{one_slot, slot_range}
+use Rattle.board_sim.specs.Rig.{home}
 use Rattle.board_sim.proofs.Halting.{quiet_moves}
-use Rattle.link_work.specs.Turn.{LinkState}
 use Rattle.laws_board.specs.turns.Turns.{AreBoardTurns, BoardTurn, stands_after}
 use Rattle.laws_homing.specs.clear_groups.Resting.{EachTame, IsTame}
 use Rattle.laws_homing.specs.missed_groups.Minds.{Hits}
@@ -29,7 +17,7 @@ use Rattle.laws_homing.proofs.home_runs.Staying.{taken_later}
 use Rattle.laws_homing.proofs.fired_runs.Blind.{blind_parts}
 use Rattle.laws_board.proofs.clocks.Answers.{Each}
 use Rattle.laws_homing.proofs.clear_boards.Slots.{Follows, Lasts, Next, OfEach, levels_at, passes_each, takes_each, with_trigger}
-use Rattle.laws_homing.proofs.fired_runs.Old.{Old, OldAt, clash, happened_old, tame_parts}
+use Rattle.laws_homing.proofs.fired_runs.Old.{Old, OldAt, happened_old, tame_parts}
 use Rattle.laws_homing.proofs.missed_groups.Minding.{read_hits}
 use Rattle.laws_homing.proofs.missed_runs.Boarded.{turned}
 
@@ -99,12 +87,12 @@ module _ (x j : ℕ) where
 
   ended_one : (T : Type 0) (now tick : ℕ) (pins : List (List Level)) (s : Slot) (u : Trigger) → u.can ≡ false → u.timeout ≡ None → u.tick ≡ now → now ≡ tick → s.trigger.can ≡ true
       → Old (suc x) s.trigger ⊎ (Still pins s × (tick ≤ x)) → Old (suc x) u ⊎ T
-  ended_one T now tick pins s u off idle at same can (inl old) = absurd (clash s.trigger.can can old.off)
+  ended_one T now tick pins s u off idle at same can (inl old) = absurd (no_both s.trigger.can can old.off)
   ended_one T now tick pins s u off idle at same can (inr k) = let low = k.1 in inl (record { off = off; idle = idle; before = omega (arith, low, at, same) })
 
   limited_one : (pins : List (List Level)) (s : Slot) (at tick : ℕ) → s.trigger.can ≡ true → Old (suc x) s.trigger ⊎ (Still pins s × (tick ≤ x))
       → let u = with_trigger s (record s.trigger { timeout = Some at }) in Old (suc x) u.trigger ⊎ (Still pins u × (tick ≤ x))
-  limited_one pins s at tick can (inl old) = absurd (clash s.trigger.can can old.off)
+  limited_one pins s at tick can (inl old) = absurd (no_both s.trigger.can can old.off)
   limited_one pins s at tick can (inr k) = inr ((k.0.0, k.0.1, k.0.2), k.1)
 
   bound_one : (pins : List (List Level)) (s : Slot) (i tick : ℕ) → Old (suc x) s.trigger ⊎ (Still pins s × (tick ≤ x)) → Old (suc x) s.trigger ⊎ (Still pins (record s { bound = i ∷ s.bound }) × (tick ≤ x))

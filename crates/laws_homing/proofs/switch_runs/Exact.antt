@@ -1,25 +1,9 @@
 -- Where a board takes the homing command in time, a section's readings begin exactly at the tick at which it starts.
 use Rattle.std.proofs.Common.{◌≡◌, ℕ, ◌+◌, ◌*◌, ◌/◌, ◌^◌, ◌<◌, ◌≤◌, List, [], ◌∷◌, ◌++◌, length, Some, refl, ap, sym, ◌∙◌, subst, arith, inl, inr, append_assoc, length-append}
 use Rattle.std.specs.Prelude.{slice_index_or}
-use Rattle.std.proofs.lemmas.Bool.Decides.{leb_tells}
-use Rattle.plan_types.specs.declared.levels.Level.{Level}
-use Rattle.plan_types.specs.declared.clock.BoardClock.{BoardClock}
-use Rattle.plan_types.specs.declared.machine.AxisDef.{AxisDef}
-use Rattle.plan_types.specs.declared.machine.Machine.{Machine}
-use Rattle.plan_types.specs.Board.{nearest}
-use Rattle.plan_types.specs.Clock.{turn_ns}
-use Rattle.plan_types.specs.Lines.{Clocks, lines_tick}
-use Rattle.plan_types.specs.Machines.{board_at}
-use Rattle.plan_types.specs.Sections.{clocks_at}
-use Rattle.clock_line.specs.Early.{turn_tick}
-use Rattle.clock_line.specs.Kept.{AreKept}
+use Rattle.laws_board.proofs.Names.{leb_tells, Level, BoardClock, AxisDef, Machine, nearest, turn_ns, Clocks, lines_tick, board_at, clocks_at, turn_tick, AreKept, Sampling, Switch, low, noted, Came, known_by, LinkState}
 use Rattle.board_step.proofs.Whole.{nearest_is}
-use Rattle.board_trig.specs.declared.sampling.Sampling.{Sampling}
 use Rattle.board_trig.specs.Sampling.{IsTriggerTick}
-use Rattle.wire_scene.specs.declared.scene.Switch.{Switch}
-use Rattle.axis_homing.specs.Homing.{low}
-use Rattle.host_reactor.specs.Notes.{noted}
-use Rattle.host_reactor.specs.Runs.{Came, known_by}
 use Rattle.laws_homing.specs.home_parts.Answers.{ArePastConnecting}
 use Rattle.laws_homing.specs.home_parts.Known.{KnowsLately}
 use Rattle.laws_homing.proofs.home_parts.Held.{tick_known}
@@ -31,7 +15,6 @@ use Rattle.laws_homing.specs.home_runs.Sections.{TakesSetUp, queued_in_turns}
 use Rattle.laws_homing.proofs.home_runs.Staying.{taken_later}
 use Rattle.laws_homing.proofs.home_runs.Windows.{begun}
 use Rattle.laws_homing.proofs.fired_runs.Rested.{queue_later}
-use Rattle.link_work.specs.Turn.{LinkState}
 use Rattle.laws_board.specs.turns.Turns.{AreBoardTurns, BoardTurn, stands_after}
 use Rattle.laws_board.proofs.sections.Lists.{cuts}
 use Rattle.laws_homing.specs.switch_runs.Runs.{KnewSo, readings}

@@ -1,33 +1,24 @@
 -- What a board tells of its triggers: where it tells that readings triggered one, it tells of a tick at which these are complete.
 use Rattle.std.proofs.Common.{◌≡◌, ◌≢◌, ℕ, zero, suc, ◌%◌, ◌^◌, ◌<◌, ◌≤◌, ◌==◌, Bool, true, false, List, [], ◌∷◌, length, get_or, set, Option, Some, None, refl, sym, ap, ◌∙◌, subst, arith, ◌⊎◌, inl, inr}
 use Rattle.std.specs.Prelude.{if◌then◌else◌, slice_index_or}
-use Rattle.std.proofs.lemmas.List.{get_or-set_same, get_or-set_other}
-use Rattle.plan_types.specs.declared.levels.Level.{Level}
-use Rattle.plan_types.specs.declared.machine.BoardDef.{BoardDef}
-use Rattle.plan_types.specs.declared.plan.BoardState.{BoardState}
-use Rattle.plan_types.specs.declared.plan.BoardState.TheVariants.{Running, Shut}
-use Rattle.plan_types.specs.Board.{nearest}
+use Rattle.laws_board.proofs.Names.{get_or-set_same, Level, BoardDef, BoardState, Running, Shut, nearest, Sampling, Trigger, Happening, Nothing, Expires, Switches, Reports, Cmd, Rig, Slot, acts_running, passes, slot_at, takes, takes_all, says}
+use Rattle.std.proofs.lemmas.List.{get_or-set_other}
 use Rattle.board_trig.specs.declared.sampling.Homing.{Homing}
-use Rattle.board_trig.specs.declared.sampling.Sampling.{Sampling}
-use Rattle.board_trig.specs.declared.trigger.Trigger.{Trigger}
-use Rattle.board_trig.specs.declared.trigger.Happening.{Happening}
-use Rattle.board_trig.specs.declared.trigger.Happening.TheVariants.{Nothing, Expires, Switches, Reports}
 use Rattle.board_trig.specs.Sampling.{IsTriggerTick, completes, sampled_to}
 use Rattle.board_trig.specs.Trigger as trig
 use Rattle.board_trig.proofs.TriggerTicks.{read_on}
-use Rattle.msg_code.specs.declared.cmd.Cmd.{Cmd}
 use Rattle.msg_code.specs.declared.cmd.Cmd.TheVariants as cmd
 use Rattle.board_sim.specs.Board.{takes as board_takes}
-use Rattle.board_sim.specs.Rig.{Rig, Slot, acts_running, home, make_endstop, new_rig, no_objects, passes, slot_at, takes, takes_all, tell}
+use Rattle.board_sim.specs.Rig.{home, make_endstop, new_rig, no_objects, tell}
 use Rattle.board_sim.proofs.Bound.{same_or_not}
 use Rattle.board_sim.proofs.RigTicks.{takes_rig_tick}
-use Rattle.board_world.specs.World.{says}
 use Rattle.laws_board.proofs.clocks.Answers.{Each, each_both}
 use Rattle.laws_homing.proofs.clear_boards.Held.{ended_reason, sampled_reason, switch_reason}
 use Rattle.laws_homing.proofs.clear_boards.Slots.{Beside, Follows, Lasts, MakesNone, Next, OfEach, Tells, clock_small, levels_at, running_both, says_both, set_beside, set_each, with_trigger}
 use Rattle.laws_homing.specs.switch_runs.Taken.{IsBlind}
 use Rattle.laws_homing.specs.switch_runs.Reading.{IsComplete, IsFitReading, TellsOf}
 use Rattle.laws_homing.proofs.home_runs.Saying.{IsOther, bit_none, bit_small, board_tells}
+use Rattle.plan_types.proofs.Facts.{less_or_from}
 
 -- an answer's numbers fit, and where it tells that readings triggered a trigger it tells of such a tick
 abbrev pub Says : (ℕ → Type 0) → Cmd → Type 0
@@ -193,9 +184,6 @@ past_made [] k pin n past e = e
 past_made (x ∷ xs) zero pin n past e = absurd (omega (arith, past))
 past_made (x ∷ xs) (suc k) pin n past e = past_made xs k pin n (omega (arith, past)) e
 
-in_or_past : (k n : ℕ) → (k < n) ⊎ (n ≤ k)
-in_or_past k n = grind arith
-
 here_made : (xs : List (Option ℕ)) (k pin n : ℕ) → get_or (set xs k (Some pin)) k None ≡ Some n → (k < length xs) ⊎ (length xs ≤ k) → (pin ≡ n) ⊎ (get_or xs k None ≡ Some n)
 here_made xs k pin n e (inl within) = let f : Some pin ≡ Some n = sym (get_or-set_same xs k (Some pin) None within) ∙ e in inl (cc)
 here_made xs k pin n e (inr past) = inr (past_made xs k pin n past e)
@@ -207,7 +195,7 @@ one_end E oid pin n before here others (inr e) = others e
 end_set : (E : ℕ → (ℕ → Type 0)) (xs : List (Option ℕ)) (k pin oid n : ℕ) → E k pin → ((i j : ℕ) → get_or xs i None ≡ Some j → E i j) → get_or (set xs k (Some pin)) oid None ≡ Some n → (oid ≡ k) ⊎ (oid ≢ k) → E oid n
 end_set E xs k pin oid n here all e (inl same) =
     let there : get_or (set xs k (Some pin)) k None ≡ Some n = subst (λ (i : ℕ). get_or (set xs k (Some pin)) i None ≡ Some n) same e in
-    subst (λ (i : ℕ). E i n) (sym same) (one_end E k pin n (get_or xs k None) here (all k n) (here_made xs k pin n there (in_or_past k (length xs))))
+    subst (λ (i : ℕ). E i n) (sym same) (one_end E k pin n (get_or xs k None) here (all k n) (here_made xs k pin n there (less_or_from k (length xs))))
 end_set E xs k pin oid n here all e (inr d) = all oid n (sym (get_or-set_other xs k oid (Some pin) None d) ∙ e)
 
 endstop_true : (E : ℕ → (ℕ → Type 0)) (F G : ℕ → Type 0) (pins : List (List Level)) (r : Rig) (oid pin : ℕ) (o : Option ℕ) → E oid pin → AllTrue E F G pins r → AllTrue E F G pins (make_endstop r oid pin o)

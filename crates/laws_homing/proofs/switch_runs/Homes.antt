@@ -1,37 +1,22 @@
 -- Past connecting the endstop of each axis was made on its board.
 use Rattle.std.proofs.Common.{◌≡◌, ℕ, zero, suc, ◌+◌, ◌<◌, ◌≤◌, ◌==◌, ◌&&◌, ◌⊎◌, inl, inr, Bool, true, false, not, cond, List, [], ◌∷◌, ◌++◌, length, map, refl, sym, subst, arith}
 use Rattle.std.specs.Prelude.{slice_index_or}
-use Rattle.std.specs.List.{filter, flat_map}
-use Rattle.std.proofs.lemmas.Bool.{eq-eqb}
-use Rattle.std.proofs.lemmas.Bool.Decides.{eqb_tells}
-use Rattle.std.proofs.lemmas.List.{map-append}
-use Rattle.plan_types.specs.declared.levels.Level.{Level}
-use Rattle.plan_types.specs.declared.machine.AxisDef.{AxisDef}
-use Rattle.plan_types.specs.declared.machine.Machine.{Machine}
-use Rattle.plan_types.specs.Machines.{IsValidMachine, axis_at}
-use Rattle.msg_code.specs.declared.cmd.Cmd.{Cmd}
+use Rattle.laws_board.proofs.Names.{flat_map, eq-eqb, eqb_tells, map-append, Level, AxisDef, Machine, IsValidMachine, axis_at, Cmd, Entry, Switch, commands_of, units_orders, queued_in, orders, configuration, trigger_of, Connecting, Came, known_by}
+use Rattle.std.specs.List.{filter}
 use Rattle.msg_code.specs.declared.cmd.Cmd.TheVariants as cmd
-use Rattle.wire_scene.specs.declared.scene.Entry.{Entry}
-use Rattle.wire_scene.specs.declared.scene.Switch.{Switch}
-use Rattle.board_sim.specs.Fair.{commands_of}
-use Rattle.board_world.specs.Orders.{units_orders}
-use Rattle.link_work.specs.Runs.{queued_in}
-use Rattle.link_work.specs.Stands.{orders}
 use Rattle.board_asking.specs.declared.setup.Setup.TheVariants.{Finish, Trsync}
-use Rattle.board_asking.specs.Machine.{configuration, endstop_pins, is_among, pins_of, setup_command, setup_endstops, setup_stepper, trigger_of}
+use Rattle.board_asking.specs.Machine.{endstop_pins, is_among, pins_of, setup_command, setup_endstops, setup_stepper}
 use Rattle.axis_homing.specs.Homing.{place_from}
-use Rattle.host_reactor.specs.declared.ordered.Phase.TheVariants.{Connecting}
-use Rattle.host_reactor.specs.Runs.{Came, known_by}
 use Rattle.laws_board.specs.turns.Turns.{BoardTurn}
 use Rattle.laws_board.specs.clocks.Ordered.{commands_in, configures}
 use Rattle.laws_board.specs.clocks.Runs.{IsInRun}
 use Rattle.laws_board.specs.clocks.Samples.{IsAmong}
-use Rattle.laws_board.proofs.clocks.Configured.{all_configured, pins_few}
-use Rattle.laws_board.proofs.orders.Controlled.{few_on}
+use Rattle.laws_board.proofs.clocks.Configured.{all_configured}
 use Rattle.laws_homing.specs.home_runs.Sections.{queued_in_turns}
 use Rattle.laws_homing.proofs.home_runs.Staging as staging
 use Rattle.laws_homing.proofs.home_runs.Whole.{turn_commands}
 use Rattle.laws_homing.specs.switch_runs.Made.{MakesEndstop}
+use Rattle.axis_homing.proofs.Room.{place-few, pins-few, on-few}
 
 -- the object id of an axis's endstop on a board
 abbrev pub endstop_of : Machine → ℕ → AxisDef → ℕ
@@ -116,7 +101,7 @@ filter_makes e (cmd.ConfigEndstop oid pin pull ∷ cs) (inr k) = inr (filter_mak
 filter_makes e (cmd.FinalizeConfig crc ∷ cs) k = filter_makes e cs k
 filter_makes e (c ∷ cs) k = filter_makes e cs k
 
-makes_either : (e : ℕ) (xs ys : List Cmd) → MakesEndstop e (xs ++ ys) → MakesEndstop e xs ⊎ MakesEndstop e ys
+pub makes_either : (e : ℕ) (xs ys : List Cmd) → MakesEndstop e (xs ++ ys) → MakesEndstop e xs ⊎ MakesEndstop e ys
 makes_either e [] ys k = inr k
 makes_either e (cmd.ConfigEndstop oid pin pull ∷ xs) ys (inl k) = inl (inl k)
 makes_either e (cmd.ConfigEndstop oid pin pull ∷ xs) ys (inr k) = elim (makes_either e xs ys k) [ inl a ↦ inl (inr a) | inr a ↦ inr a ]
@@ -139,17 +124,8 @@ run_makes m switches pins entries b axis came turns v r n low on =
     let e = endstop_of m b (axis_at m axis) in
     queue_makes e turns (filter_makes e (commands_in turns) (subst (λ (l : List Cmd). MakesEndstop e l) (sym (all_configured m switches pins entries b came turns v r n)) (config_makes m b axis low on)))
 
--- and its object id is small
-place_few : (place pin : ℕ) (pins : List ℕ) → place_from place pin pins ≤ place + length pins
-place_few place pin [] = omega arith
-place_few place pin (p ∷ pins) = one (p == pin) (place_few (place + 1) pin pins)
-  where
-    one : (t : Bool) → place_from (place + 1) pin pins ≤ place + 1 + length pins → cond t place (place_from (place + 1) pin pins) ≤ place + length (p ∷ pins)
-    one true l = omega arith
-    one false l = omega (arith, l)
-
 pub endstop_small : (m : Machine) (b : ℕ) (axis : AxisDef) → IsValidMachine m → endstop_of m b axis < 256
 endstop_small m b axis v =
     let q = v.steppers_few in
     let three = v.axes_three in
-    omega (arith, q, three, few_on b m.steppers, pins_few b m.axes [], place_few (trigger_of m b + 1) axis.pin (endstop_pins m b))
+    omega (arith, q, three, on-few b m.steppers, pins-few b m.axes [], place-few (trigger_of m b + 1) axis.pin (endstop_pins m b))

@@ -1,23 +1,13 @@
 -- What stands on a board by the commands that it took: no other trigger, and the endstops that they make.
 use Rattle.std.proofs.Common.{◌≡◌, ℕ, ◌<◌, ◌⊎◌, inl, inr, List, [], ◌∷◌, ◌++◌, length, Option, Some, None, refl, ap, sym, ◌∙◌, subst, arith, append-nil}
 use Rattle.std.specs.Prelude.{slice_index_or}
-use Rattle.std.proofs.lemmas.List.{get_or-set_same, get_or-set_other, length-set}
-use Rattle.plan_types.specs.declared.levels.Level.{Level}
-use Rattle.plan_types.specs.declared.machine.BoardDef.{BoardDef}
-use Rattle.plan_types.specs.declared.plan.BoardState.{BoardState}
-use Rattle.plan_types.specs.declared.plan.BoardState.TheVariants.{Running}
-use Rattle.plan_types.specs.Clock.{clock_of}
-use Rattle.msg_code.specs.declared.cmd.Cmd.{Cmd}
+use Rattle.laws_board.proofs.Names.{get_or-set_same, Level, BoardDef, BoardState, Running, clock_of, Cmd, Entry, Meant, commands_of, Rig, acts, acts_running, passes, takes, takes_all, Event, Core, Step, Do, Turn, world_after, after_event, takes_in, first_state}
+use Rattle.std.proofs.lemmas.List.{get_or-set_other, length-set}
 use Rattle.msg_code.specs.declared.cmd.Cmd.TheVariants as cmd
-use Rattle.wire_scene.specs.declared.scene.Entry.{Entry}
-use Rattle.board_sim.specs.Fair.{Meant, commands_of}
-use Rattle.board_sim.specs.Rig.{Rig, acts, acts_running, make_endstop, new_rig, passes, takes, takes_all, trigger}
+use Rattle.board_sim.specs.Rig.{make_endstop, new_rig, trigger}
 use Rattle.board_sim.proofs.Enough.{none_at}
 use Rattle.board_sim.proofs.RigStates.{passes_state}
-use Rattle.board_world.specs.declared.event.Event.{Event}
 use Rattle.board_world.specs.declared.event.Event.TheVariants as event
-use Rattle.board_world.specs.World.{Core, Step, Do, Turn, world_after, after_event, takes_in}
-use Rattle.link_work.specs.Stands.{first_state}
 use Rattle.laws_board.specs.turns.Turns.{AreBoardTurns, BoardTurn, stands_after}
 use Rattle.laws_homing.specs.home_runs.Guards.{IsSole}
 use Rattle.laws_homing.proofs.clear_boards.Slots.{MakesNone, MakesOnly, passes_beside, running_beside, running_sole}
@@ -28,6 +18,7 @@ use Rattle.laws_homing.proofs.clear_boards.Turned.{ran}
 use Rattle.laws_homing.specs.switch_runs.Reading.{BringFit}
 use Rattle.laws_homing.specs.switch_runs.Made.{MakesEndstop}
 use Rattle.laws_homing.proofs.switch_runs.Telling.{Brings, Keeps, keeps_by, keeps_turn, start_keeps, turn_keeps}
+use Rattle.laws_homing.proofs.switch_runs.Homes.{makes_either}
 
 -- any tick
 abbrev pub AnyTick : ℕ → Type 0
@@ -111,12 +102,6 @@ pub only_parts : (j : ℕ) (xs ys : List Meant) → Only j (commands_of (xs ++ y
 only_parts j [] ys a = (tt, a)
 only_parts j (x ∷ xs) ys a = let p = only_parts j xs ys a.1 in ((a.0, p.0), p.1)
 
-made_parts : (e : ℕ) (xs ys : List Cmd) → MakesEndstop e (xs ++ ys) → MakesEndstop e xs ⊎ MakesEndstop e ys
-made_parts e [] ys m = inr m
-made_parts e (cmd.ConfigEndstop oid pin pull ∷ xs) ys (inl same) = inl (inl same)
-made_parts e (cmd.ConfigEndstop oid pin pull ∷ xs) ys (inr m) = elim (made_parts e xs ys m) [ inl a ↦ inl (inr a) | inr b ↦ inr b ]
-made_parts e (c ∷ xs) ys m = made_parts e xs ys m
-
 -- so on a board that runs and took these commands, which make no other trigger
 abbrev pub IsStanding : ℕ → ℕ → List Meant → Rig → Type 0
 IsStanding endstop trigger taken r = r.controller.state ≡ Running → Only trigger (commands_of taken) → Stood endstop trigger (MakesEndstop endstop (commands_of taken)) [] r
@@ -125,7 +110,7 @@ IsStanding endstop trigger taken r = r.controller.state ≡ Running → Only tri
 made_so : (e j : ℕ) (taken ms : List Meant) (r : Rig) → Stood e j (MakesEndstop e (commands_of taken)) [] r → MakesEndstop e (commands_of (taken ++ ms)) → HasEnd e r.endstops ⊎ MakesEndstop e (commands_of ms)
 made_so e j taken ms r k m =
     let Makes : List Cmd → Type 0 = λ cs. MakesEndstop e cs in
-    elim (made_parts e (commands_of taken) (commands_of ms) (subst Makes (commands_both taken ms) m)) [ inl old ↦ elim (k.made old) [ inl h ↦ inl h | inr none ↦ absurd none ] | inr new ↦ inr new ]
+    elim (makes_either e (commands_of taken) (commands_of ms) (subst Makes (commands_both taken ms) m)) [ inl old ↦ elim (k.made old) [ inl h ↦ inl h | inr none ↦ absurd none ] | inr new ↦ inr new ]
 
 pub took_standing : (e j : ℕ) (taken ms : List Meant) (r : Rig) → IsStanding e j taken r → IsStanding e j (taken ++ ms) (takes_all r (commands_of ms)).rig
 took_standing e j taken ms r old runs only =

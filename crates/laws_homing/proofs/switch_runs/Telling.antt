@@ -1,32 +1,18 @@
 -- What comes to the host of triggers that readings triggered, over a line that may lose, repeat, delay and garble blocks and replies.
 use Rattle.std.proofs.Common.{◌≡◌, ℕ, ◌+◌, ◌<◌, ◌≤◌, Bool, List, [], ◌∷◌, ◌++◌, length, map, Option, Some, None, refl, ap, sym, subst, arith}
-use Rattle.plan_types.specs.declared.clock.BoardClock.{BoardClock}
-use Rattle.plan_types.specs.declared.levels.Level.{Level}
-use Rattle.plan_types.specs.declared.machine.BoardDef.{BoardDef}
-use Rattle.plan_types.specs.Clock.{board_tick, clock_of}
-use Rattle.msg_dict.specs.Own.{own_formats}
+use Rattle.laws_board.proofs.Names.{BoardClock, Level, BoardDef, board_tick, clock_of, own_formats, Cmd, News, IsText, Entry, Down, Up, Reply, Meant, commands_of, Event, plain, units_orders, IsOrdered, Core, Step, Do, Turn, world_after, does, after_event, in_turn, run_world, new_world, takes_in, wire_text, queued_in, first_state, orders, LinkState, Orders, after_board, after_host, come}
 use Rattle.msg_dict.specs.declared.row.Row.TheVariants as row
-use Rattle.msg_code.specs.declared.cmd.Cmd.{Cmd}
 use Rattle.msg_code.specs.declared.cmd.Cmd.TheVariants as cmd
-use Rattle.msg_code.specs.declared.talk.News.{News}
 use Rattle.msg_code.specs.Table.{row_of}
-use Rattle.msg_code.specs.Text.{IsText}
-use Rattle.wire_scene.specs.declared.scene.Entry.{Entry}
-use Rattle.wire_scene.specs.declared.scene.Way.TheVariants.{Down, Up}
 use Rattle.wire_scene.specs.declared.wire.Fate.{Fate}
 use Rattle.wire_scene.specs.declared.wire.Fate.TheVariants.{Lost, Last, Stays, Garbled}
-use Rattle.link_core.specs.Core.{Reply, numbered}
-use Rattle.board_sim.specs.Fair.{Meant, commands_of}
-use Rattle.board_world.specs.declared.event.Event.{Event}
+use Rattle.link_core.specs.Core.{numbered}
 use Rattle.board_world.specs.declared.event.Event.TheVariants as event
-use Rattle.board_world.specs.Orders.{plain, units_orders}
-use Rattle.board_world.specs.Stands.{IsAnswer, IsOrdered}
-use Rattle.board_world.specs.World.{Core, Step, Do, Turn, world_after, does, after_event, in_turn, orders_of, run_world, new_world, takes_in, wire_text}
+use Rattle.board_world.specs.Stands.{IsAnswer}
+use Rattle.board_world.specs.World.{orders_of}
 use Rattle.board_world.proofs.Runs.{ordered_by, ordered_turn, start_ordered}
-use Rattle.link_work.specs.Runs.{queued_in}
-use Rattle.link_work.specs.Stands.{first_state, orders}
 use Rattle.link_work.specs.Told.{AreNews, before_replies, news_of}
-use Rattle.link_work.specs.Turn.{LinkState, Orders, after_board, after_host, after_replies, board_steps, come, comes, host_steps, resends, sends}
+use Rattle.link_work.specs.Turn.{after_replies, board_steps, comes, host_steps, resends, sends}
 use Rattle.link_work.proofs.Steps.{AllOf, all_append, all_come, all_resent, all_sent}
 use Rattle.laws_board.specs.turns.Turns.{AreBoardTurns, BoardTurn, stands_after}
 use Rattle.laws_board.proofs.clocks.Answers.{Each}

@@ -1,7 +1,7 @@
 -- What the lines of a load do, one behind the other.
 use Rattle.std.proofs.Common.{◌≡◌, ℕ, ◌+◌, ◌*◌, ◌<◌, ◌≤◌, Bool, true, false, List, [], ◌∷◌, refl, arith, if◌then◌else◌}
 use Rattle.std.specs.Prelude.{◌&&◌, ◌||◌, int_lt, nat_le, ℤ, pos, ◌+ℤ◌, ◌-ℤ◌, Option, None, Some, Ok}
-use Rattle.std.proofs.lemmas.Bool.Decides.{nat_tests}
+use Rattle.laws_board.proofs.Names.{nat_tests}
 use Rattle.std.proofs.lemmas.Int.{ints}
 use Rattle.gcode_state.specs.declared.state.Action.{Action}
 use Rattle.gcode_state.specs.declared.state.Action.TheVariants as actions
@@ -16,6 +16,7 @@ use Rattle.generated_load.specs.Printer.{load_machine}
 use Rattle.laws_report.specs.loads.Path.{load_move}
 use Rattle.laws_report.specs.meshes.Bent.{differ}
 use Rattle.laws_report.proofs.loads.Words.{line_read, place_line, place_words}
+use Rattle.std.proofs.lemmas.Bool.{and_right}
 
 -- an axis of the load's printer at a place
 abbrev pub axis_on : ℕ → Axis
@@ -53,10 +54,6 @@ there x to = omega (arith, ints)
 inside : (n : ℕ) → n ≤ 200_000_000 → (int_lt (pos n) (pos 0) || int_lt (pos 200_000_000) (pos n)) ≡ false
 inside n few = grind (arith, ints, nat_tests)
 
-off : (b c : Bool) → c ≡ false → (b && c) ≡ false
-off true c e = e
-off false c e = refl
-
 room : (count : ℕ) → count < 2_000_000 → nat_le 2000000 count ≡ false
 room count few = grind (arith, nat_tests)
 
@@ -71,7 +68,7 @@ no_fault : (x y a b count lines : ℕ) → a < 200_001 → b < 200_001 → count
     → move_fault (standing 6_000_000_000 x y count lines) (aim_of (standing 6_000_000_000 x y count lines) (place_words a b)) false ≡ None
 unfolding move_fault is_slow is_any_unhomed is_any_outside is_long is_too_many aim_of has_relative_e stretched
 no_fault x y a b count lines few less more =
-    rw (there x (a * 1_000), there y (b * 1_000), inside (a * 1_000) (omega arith), inside (b * 1_000) (omega arith), room count more, off (differs (pos x) (pos (a * 1_000))) false refl, off (differs (pos y) (pos (b * 1_000))) false refl) (never _)
+    rw (there x (a * 1_000), there y (b * 1_000), inside (a * 1_000) (omega arith), inside (b * 1_000) (omega arith), room count more, and_right (differs (pos x) (pos (a * 1_000))) false refl, and_right (differs (pos y) (pos (b * 1_000))) false refl) (never _)
 
 -- what the line of a move does
 abbrev pub act_by : List ℤ → List ℤ → Action

@@ -2,7 +2,7 @@
 use Rattle.std.proofs.Common.{◌≡◌, ◌∙◌, ℕ, zero, suc, ◌+◌, ◌*◌, ◌/◌, ◌%◌, ◌≤◌, Bool, true, false, codes, List, [], ◌∷◌, ◌++◌, length, refl, ap, sym, arith, append_assoc, append-nil, length-append, if◌then◌else◌}
 use Rattle.std.specs.Prelude.{Ok}
 use Rattle.text_core.specs.Lines.{lines_of}
-use Rattle.plan_types.specs.declared.plan.Move.{Move}
+use Rattle.laws_board.proofs.Names.{Move}
 use Rattle.plan_types.specs.declared.plan.ReadEnd.{ReadEnd}
 use Rattle.plan_types.specs.declared.plan.ReadStop.TheVariants.{End}
 use Rattle.gcode_text.specs.Commands.{table_entry, head_of, unnumbered}
@@ -72,7 +72,7 @@ counted_once : (b : Bool) (count : ℕ) → (if b then count + 1 else count) ≤
 counted_once true count = omega arith
 counted_once false count = omega arith
 
-goes : (b : Bool) (mv : Move) → is_stop (if b then actions.Move mv else actions.None) ≡ false
+pub goes : (b : Bool) (mv : Move) → is_stop (if b then actions.Move mv else actions.None) ≡ false
 goes true mv = refl
 goes false mv = refl
 

@@ -1,7 +1,7 @@
 -- The line of a move of a load, read word by word.
 use Rattle.std.proofs.Common.{◌≡◌, ◌∙◌, ℕ, ◌+◌, ◌*◌, ◌/◌, ◌%◌, ◌<◌, ◌≤◌, ◌==◌, Bool, true, false, cond, codes, List, [], ◌∷◌, ◌++◌, length, refl, ap, sym, subst, arith, append_assoc, append-nil, length-append, Ok}
 use Rattle.std.specs.Prelude.{◌&&◌, ◌||◌, nat_lt, decimal, ℤ, pos, Option, Some, None, Result, slice_set}
-use Rattle.std.proofs.lemmas.Bool.Decides.{nat_tests}
+use Rattle.laws_board.proofs.Names.{nat_tests}
 use Rattle.std.proofs.lemmas.Fmt.{length-decimal-le}
 use Rattle.text_core.specs.Bytes.{begins, behind, is_point, is_sign}
 use Rattle.text_core.specs.Numbers.{Parts, amount, is_readable, number_at, parts_of, signed, value_of, worth}
@@ -18,6 +18,7 @@ use Rattle.gcode_text.proofs.Rows.{row-number}
 use Rattle.generated_load.specs.Text.{digit, millimetres}
 use Rattle.laws_report.proofs.meshes.Digits.{AreDigits, IsBehind, decimal_digits, decimal_value, last_digit, not_minus, parts_made, unsigned_same}
 use Rattle.laws_report.proofs.meshes.Spelling.{ArePlain, IsNext, plain_both, plain_digits, plain_text}
+use Rattle.generated_load.proofs.Digits.{three_digits}
 
 -- the three decimals
 abbrev three : ℕ → List ℕ
@@ -35,11 +36,8 @@ place_parts n rest r =
     ap parts_of (append_assoc (decimal (n / 1_000)) (46 ∷ three n) rest)
     ∙ parts_made _ (decimal (n / 1_000)) (three n) rest false (unsigned_same (decimal (n / 1_000)) (three n ++ rest) ds) (not_minus (decimal (n / 1_000)) (three n ++ rest) ds) ds (three_are_digits n) r
 
-few_digits : (n : ℕ) → n < 200_001 → length (decimal (n / 1_000)) ≤ 3
-few_digits n few = length-decimal-le 3 (n / 1_000) (omega arith) (omega arith) (omega arith)
-
 short : (n : ℕ) → n < 200_001 → nat_lt 9 (length (decimal (n / 1_000))) ≡ false
-short n few = let h = few_digits n few in grind (arith, nat_tests)
+short n few = let h = three_digits n few in grind (arith, nat_tests)
 
 no_more : (rest : List ℕ) → IsBehind rest → begins (λ b. is_point b || is_sign b) rest ≡ false
 no_more [] h = refl
@@ -92,8 +90,8 @@ plain_line a b = plain_both (codes "G1 X") _ (refl, (refl, (refl, (refl, tt)))) 
 
 pub short_line : (a b : ℕ) → a < 200_001 → b < 200_001 → length (place_line a b) ≤ 20
 short_line a b few less =
-    let x = few_digits a few in
-    let y = few_digits b less in
+    let x = three_digits a few in
+    let y = three_digits b less in
     let p = length-append (decimal (a / 1_000)) (46 ∷ three a) in
     let q = length-append (decimal (b / 1_000)) (46 ∷ three b) in
     let s = length-append (millimetres a) (codes " Y" ++ millimetres b) in

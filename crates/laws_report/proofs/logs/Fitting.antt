@@ -1,14 +1,13 @@
 -- Pulses that fit, one by one.
 use Rattle.std.proofs.Common.{◌≡◌, ◌∙◌, ℕ, zero, suc, ◌<◌, ◌≤◌, Bool, true, false, List, [], ◌∷◌, ◌++◌, length, ap, sym, refl, subst, arith, Option, Some, None, length-append}
 use Rattle.std.specs.Prelude.{nat_lt, if◌then◌else◌, slice_index_or}
-use Rattle.std.proofs.lemmas.Bool.Decides.{nat_tests}
+use Rattle.laws_board.proofs.Names.{nat_tests, Planned, Pulse, Fits}
 use Rattle.plan_types.specs.declared.cause.MisfitKind.{MisfitKind}
 use Rattle.plan_types.specs.declared.cause.MisfitKind.TheVariants as misfit
-use Rattle.plan_types.specs.declared.plan.Planned.{Planned}
-use Rattle.plan_types.specs.declared.plan.Pulse.{Pulse}
-use Rattle.plan_types.specs.Plan.{Fits, IsPulseOf, opposite, window, no_step}
+use Rattle.plan_types.specs.Plan.{IsPulseOf, opposite, window, no_step}
 use Rattle.log_check.specs.Pulses.{pulse_fault, step_fault, tick_before}
 use Rattle.laws_report.specs.logs.Follows.{in_order}
+use Rattle.laws_run.proofs.home_wholes.Counts.{fits_many}
 
 pub length-in_order : {A : Type 0} (xs : List A) → length (in_order xs) ≡ length xs
 length-in_order [] = refl
@@ -26,12 +25,6 @@ fits-more freq before (q ∷ ps) (s ∷ plan) (suc i) p fits at inside is = (fit
   behind-first : (before : ℕ) (s : Planned) (plan : List Planned) (i : ℕ) → IsPulseOf freq (tick_before before (s ∷ plan) (suc i)) (slice_index_or (s ∷ plan) (suc i) no_step) p → IsPulseOf freq (tick_before s.tick plan i) (slice_index_or plan i no_step) p
   behind-first before s plan zero h = h
   behind-first before s plan (suc i) h = h
-
--- no more pulses fit than there are planned steps
-pub fits-few : (freq before : ℕ) (ps : List Pulse) (plan : List Planned) → Fits freq before ps plan → length ps ≤ length plan
-fits-few freq before [] plan fits = omega arith
-fits-few freq before (p ∷ ps) [] fits = absurd fits
-fits-few freq before (p ∷ ps) (s ∷ plan) fits = (let h = fits-few freq s.tick ps plan fits.1 in omega arith)
 
 -- where nothing is planned the clocks don't matter
 pub fits-none : (f b f' b' : ℕ) (ps : List Pulse) → Fits f b ps [] → Fits f' b' ps []

@@ -1,7 +1,7 @@
 -- A log that checks follows the plan.
 use Rattle.std.proofs.Common.{◌≡◌, ◌∙◌, ℕ, zero, suc, ◌+◌, ◌<◌, ◌≤◌, Bool, true, false, List, [], ◌∷◌, ◌++◌, length, get_or, map, ap, sym, refl, subst, arith, Option, Some, None, append-nil}
 use Rattle.std.specs.Prelude.{◌==◌, ◌&&◌, ◌||◌, nat_le, nat_lt, slice_index_or, Ok, Err}
-use Rattle.std.proofs.lemmas.Bool.Decides.{nat_tests}
+use Rattle.laws_board.proofs.Names.{nat_tests, Machine, Planned, Pulse, Section, SectionKind, Moves, Home, Fits}
 use Rattle.std.proofs.lemmas.List.FromFn.{get_or-map-range_with_len, length-map-range_with_len}
 use Rattle.log_text.specs.declared.line.LogLine.{LogLine}
 use Rattle.log_text.specs.declared.line.LogLine.TheVariants as line
@@ -14,21 +14,17 @@ use Rattle.log_check.specs.Faults.{fault_at, have_room, is_short, lacks, may_sta
 use Rattle.log_check.specs.Points.{bases_by, plans, point, section_at}
 use Rattle.log_check.specs.Pulses.{tally_of, tick_before}
 use Rattle.log_check.specs.Verdicts.{Verdict, by_fault, by_line, end_cause, verdict}
-use Rattle.log_check.proofs.Tests.{both-first, both-second}
 use Rattle.log_check.proofs.Pointing.{board-first}
 use Rattle.log_check.proofs.Sounding.{fault-open}
 use Rattle.laws_report.specs.logs.Follows.{FitsHere, FollowsPlan, IsNextSection, IsWholeHere, all_said, base_at, freq_at, further_among, in_order, ok_line, plan_at}
-use Rattle.laws_report.proofs.logs.Fitting.{fits-few, fits-more, fits-none, length-in_order, pulse-fits}
+use Rattle.laws_report.proofs.logs.Fitting.{fits-more, fits-none, length-in_order, pulse-fits}
 use Rattle.plan_types.specs.declared.cause.Cause.TheVariants as cause
 use Rattle.plan_types.specs.declared.cause.MisfitKind.{MisfitKind}
-use Rattle.plan_types.specs.declared.machine.Machine.{Machine}
-use Rattle.plan_types.specs.declared.plan.Planned.{Planned}
-use Rattle.plan_types.specs.declared.plan.Pulse.{Pulse}
-use Rattle.plan_types.specs.declared.plan.Section.{Section}
-use Rattle.plan_types.specs.declared.plan.SectionKind.{SectionKind}
-use Rattle.plan_types.specs.declared.plan.SectionKind.TheVariants.{Moves, Home}
-use Rattle.plan_types.specs.Plan.{Fits, IsPulseOf, no_step}
+use Rattle.plan_types.specs.Plan.{IsPulseOf, no_step}
 use Rattle.plan_types.specs.Sections.{base_tick, for_each_stepper}
+use Rattle.std.proofs.lemmas.Bool.{or_parts}
+use Rattle.plan_types.proofs.Facts.{first_of_both, second_of_both}
+use Rattle.laws_run.proofs.home_wholes.Counts.{fits_many}
 
 -- each line fits behind the lines before it
 abbrev pub Fine : Machine → List Section → List Further → List LogLine → Type 0
@@ -101,23 +97,19 @@ fits-here m sections further (line.Pulse t tick up ∷ before) s inside fine = b
       let G : List Pulse → Type 0 = λ ps. Fits (freq_at m further before s) (base_at m further before s) (in_order ps) (plan_at m sections further before s) in
       subst G (sym is) here
 
-either-false : (a b : Bool) → (a || b) ≡ false → (a ≡ false) × (b ≡ false)
-either-false true b e = cc
-either-false false b e = (refl, e)
-
 enough : (plans : List (List Planned)) (tallies : List Tally) (s : ℕ) → lacks plans tallies ≡ false → s < length plans → s < length tallies → length (get_or plans s []) ≤ (get_or tallies s no_tally).made
 enough [] tallies s e in_plans in_tallies = absurd (omega arith)
 enough (p ∷ plans) [] s e in_plans in_tallies = absurd (omega arith)
 enough (p ∷ plans) (t ∷ tallies) zero e in_plans in_tallies =
-    let h : nat_lt t.made (length p) ≡ false = (either-false (nat_lt t.made (length p)) (lacks plans tallies) e).0 in
+    let h : nat_lt t.made (length p) ≡ false = (or_parts (nat_lt t.made (length p)) (lacks plans tallies) e).0 in
     grind (arith, nat_tests)
-enough (p ∷ plans) (t ∷ tallies) (suc s) e in_plans in_tallies = enough plans tallies s (either-false (nat_lt t.made (length p)) (lacks plans tallies) e).1 (omega arith) (omega arith)
+enough (p ∷ plans) (t ∷ tallies) (suc s) e in_plans in_tallies = enough plans tallies s (or_parts (nat_lt t.made (length p)) (lacks plans tallies) e).1 (omega arith) (omega arith)
 
 -- Whole
 pub whole-here : (m : Machine) (sections : List Section) (further : List Further) (before : List LogLine) (s : ℕ) → s < length m.steppers → Fine m sections further before → lacks (plans m sections further before) (point m sections further before).tallies ≡ false → IsWholeHere m sections further before s
 whole-here m sections further before s inside fine e =
     let plan = plan_at m sections further before s in
-    let few : length (in_order (pulses s before)) ≤ length plan = fits-few (freq_at m further before s) (base_at m further before s) (in_order (pulses s before)) plan (fits-here m sections further before s inside fine) in
+    let few : length (in_order (pulses s before)) ≤ length plan = fits_many (freq_at m further before s) (base_at m further before s) (in_order (pulses s before)) plan (fits-here m sections further before s inside fine) in
     let same = length-in_order (pulses s before) in
     by (begun before) refl few same where
       by : (n : ℕ) → begun before ≡ n → length (in_order (pulses s before)) ≤ length (plan_at m sections further before s) → length (in_order (pulses s before)) ≡ length (pulses s before) → IsWholeHere m sections further before s
@@ -154,17 +146,17 @@ next-here m sections further before i turn kind may =
     let c = length p.clocks == length m.boards in
     let b = same_kind kind section.kind in
     let a = nat_lt p.begun (length sections) in
-    let first : (i == p.begun) ≡ true = both-first (i == p.begun) (a && (b && (c && (d && e)))) may in
-    let one = both-second (i == p.begun) (a && (b && (c && (d && e)))) may in
-    let two = both-second a (b && (c && (d && e))) one in
-    let three = both-second b (c && (d && e)) two in
-    let four = both-second c (d && e) three in
-    let there : nat_lt p.begun (length sections) ≡ true = both-first a (b && (c && (d && e))) one in
-    let due : nat_le (ready p.cut p.begun p.start p.end + section.dwell) turn ≡ true = both-first d e four in
+    let first : (i == p.begun) ≡ true = first_of_both (i == p.begun) (a && (b && (c && (d && e)))) may in
+    let one = second_of_both (i == p.begun) (a && (b && (c && (d && e)))) may in
+    let two = second_of_both a (b && (c && (d && e))) one in
+    let three = second_of_both b (c && (d && e)) two in
+    let four = second_of_both c (d && e) three in
+    let there : nat_lt p.begun (length sections) ≡ true = first_of_both a (b && (c && (d && e))) one in
+    let due : nat_le (ready p.cut p.begun p.start p.end + section.dwell) turn ≡ true = first_of_both d e four in
     let at : i ≡ p.begun = grind (arith, nat_tests) in
     let under : p.begun < length sections = grind (arith, nat_tests) in
     let soon : ready p.cut p.begun p.start p.end + section.dwell ≤ turn = grind (arith, nat_tests) in
-    let same = kinds-same kind section.kind (both-first b (c && (d && e)) two) in
+    let same = kinds-same kind section.kind (first_of_both b (c && (d && e)) two) in
     let Due : ℕ → Type 0 = λ n. ready p.cut p.begun p.start p.end + (section_at sections n).dwell ≤ turn in
     record {
       number = at;

@@ -1,7 +1,7 @@
 -- A log that follows the plan, and whose lines stand where they may, checks.
 use Rattle.std.proofs.Common.{◌≡◌, ◌∙◌, ℕ, zero, suc, ◌+◌, ◌<◌, ◌≤◌, Bool, true, false, List, [], ◌∷◌, ◌++◌, length, get_or, map, ap, sym, refl, subst, arith, Some, None, append_assoc}
 use Rattle.std.specs.Prelude.{◌==◌, ◌&&◌, ◌||◌, nat_le, nat_lt, if◌then◌else◌, slice_index_or, Ok}
-use Rattle.std.proofs.lemmas.Bool.Decides.{nat_tests}
+use Rattle.laws_board.proofs.Names.{nat_tests, Machine, Planned, Pulse, Section, SectionKind, Moves, Home, Fits, and_from}
 use Rattle.std.proofs.lemmas.List.FromFn.{length-map-range_with_len}
 use Rattle.log_text.specs.declared.line.LogLine.{LogLine}
 use Rattle.log_text.specs.declared.line.LogLine.TheVariants as line
@@ -19,22 +19,12 @@ use Rattle.laws_report.proofs.logs.Fitting.{fits-last, length-in_order, no-pulse
 use Rattle.laws_report.proofs.logs.Following.{Fine, base-is, said-among, tally-made}
 use Rattle.plan_types.specs.declared.cause.Cause.TheVariants as cause
 use Rattle.plan_types.specs.declared.cause.MisfitKind.TheVariants as misfit
-use Rattle.plan_types.specs.declared.machine.Machine.{Machine}
-use Rattle.plan_types.specs.declared.plan.Planned.{Planned}
-use Rattle.plan_types.specs.declared.plan.Pulse.{Pulse}
-use Rattle.plan_types.specs.declared.plan.Section.{Section}
-use Rattle.plan_types.specs.declared.plan.SectionKind.{SectionKind}
-use Rattle.plan_types.specs.declared.plan.SectionKind.TheVariants.{Moves, Home}
-use Rattle.plan_types.specs.Plan.{Fits, IsPulseOf, no_step}
+use Rattle.plan_types.specs.Plan.{IsPulseOf, no_step}
+use Rattle.std.proofs.lemmas.Bool.{or_from}
 
 -- a line whose end was not told is judged by itself
 pub open-only : (m : Machine) (sections : List Section) (further : List Further) (before : List LogLine) (l : LogLine) → is_ended before ≡ false → open_fault m sections (point m sections further before) l ≡ None → fault_at m sections (point m sections further before) l ≡ None
 open-only m sections further before l going fits = rw going fits
-
--- no stepper lacks pulses where each has all of them
-neither-lacks : (a b : Bool) → a ≡ false → b ≡ false → (a || b) ≡ false
-neither-lacks true b e f = cc
-neither-lacks false b e f = f
 
 none-lacks : (plans : List (List Planned)) (tallies : List Tally) → ((s : ℕ) → s < length plans → length (get_or plans s []) ≤ (get_or tallies s no_tally).made) → lacks plans tallies ≡ false
 none-lacks [] tallies all = refl
@@ -42,7 +32,7 @@ none-lacks (p ∷ plans) [] all = refl
 none-lacks (p ∷ plans) (t ∷ tallies) all =
     let here = all 0 (omega arith) in
     let first : nat_lt t.made (length p) ≡ false = grind (arith, nat_tests) in
-    neither-lacks (nat_lt t.made (length p)) (lacks plans tallies) first (none-lacks plans tallies (λ s inside. all (suc s) (omega (arith, inside))))
+    or_from (nat_lt t.made (length p)) (lacks plans tallies) first (none-lacks plans tallies (λ s inside. all (suc s) (omega (arith, inside))))
 
 pub whole-lacks : (m : Machine) (sections : List Section) (further : List Further) (before : List LogLine) → ((s : ℕ) → s < length m.steppers → IsWholeHere m sections further before s) → lacks (plans m sections further before) (point m sections further before).tallies ≡ false
 whole-lacks m sections further before whole = by (begun before) refl where
@@ -55,10 +45,6 @@ whole-lacks m sections further before whole = by (begun before) refl where
 pub never-short : (cut : Bool) (ps : List (List Planned)) (ts : List Tally) → (cut ≡ false → lacks ps ts ≡ false) → is_short cut ps ts ≡ false
 never-short true ps ts h = refl
 never-short false ps ts h = h refl
-
-all-true : (a b : Bool) → a ≡ true → b ≡ true → (a && b) ≡ true
-all-true true b e f = f
-all-true false b e f = cc
 
 same-itself : (k : SectionKind) → same_kind k k ≡ true
 same-itself Moves = refl
@@ -81,7 +67,7 @@ may-start m sections further before i turn kind next boards room =
     let three : same_kind kind section.kind ≡ true = subst (λ (k : SectionKind). same_kind k section.kind ≡ true) (sym (subst Kind at next.same)) (same-itself section.kind) in
     let four : (length p.clocks == length m.boards) ≡ true = grind (arith, nat_tests) in
     let five : nat_le (ready p.cut p.begun p.start p.end + section.dwell) turn ≡ true = grind (arith, nat_tests) in
-    all-true _ _ one (all-true _ _ two (all-true _ _ three (all-true _ _ four (all-true _ _ five (subst At at room)))))
+    and_from _ _ one (and_from _ _ two (and_from _ _ three (and_from _ _ four (and_from _ _ five (subst At at room)))))
 
 pub pulse-none : (m : Machine) (sections : List Section) (further : List Further) (before : List LogLine) (s tick : ℕ) (up : Bool) → s < length m.steppers → FitsHere m sections further (line.Pulse s tick up ∷ before) s → open_fault m sections (point m sections further before) (line.Pulse s tick up) ≡ None
 pulse-none m sections further before s tick up inside fits =
@@ -99,7 +85,7 @@ pulse-none m sections further before s tick up inside fits =
     let H : ℕ → Type 0 = λ b. IsPulseOf (freq_at m further before s) (tick_before b plan made) (slice_index_or plan made no_step) p in
     no-pulse-fault (freq_at m further before s) (slice_index_or q.bases s 0) plan made p low (subst H (sym base) shown.1)
 
-none-if : (a : Bool) → a ≡ true → (if a then None else Some misfit.Section) ≡ None
+pub none-if : (a : Bool) → a ≡ true → (if a then None else Some misfit.Section) ≡ None
 none-if true e = refl
 none-if false e = cc
 
@@ -112,7 +98,7 @@ pub section-none : (short may : Bool) → short ≡ false → may ≡ true → s
 section-none short may e f = rw (e, f) refl
 
 -- each line fits
-none-line : (a : Bool) → a ≡ true → (if a then None else Some misfit.BadLine) ≡ None
+pub none-line : (a : Bool) → a ≡ true → (if a then None else Some misfit.BadLine) ≡ None
 none-line true e = refl
 none-line false e = cc
 

@@ -4,9 +4,8 @@ use Rattle.std.specs.Prelude.{Ok}
 use Rattle.text_core.specs.Lines.{lines_of}
 use Rattle.gcode_text.specs.Lines.{no_words}
 use Rattle.gcode_text.specs.declared.word.Command.TheVariants as names
-use Rattle.plan_types.specs.declared.machine.Machine.{Machine}
+use Rattle.laws_board.proofs.Names.{Machine, ReadStop}
 use Rattle.plan_types.specs.declared.plan.ReadEnd.{ReadEnd}
-use Rattle.plan_types.specs.declared.plan.ReadStop.{ReadStop}
 use Rattle.plan_types.specs.declared.plan.ReadStop.TheVariants.{End, Stop, Refused}
 use Rattle.gcode_state.specs.declared.state.State.{State}
 use Rattle.gcode_state.specs.declared.state.Action.TheVariants as actions

@@ -1,8 +1,7 @@
 -- What is written for an action, as it is read.
 use Rattle.std.proofs.Common.{◌≡◌, ◌∙◌, ℕ, ◌≤◌, Bool, true, false, codes, List, [], ◌∷◌, ◌++◌, refl, sym, subst, ap, arith}
 use Rattle.std.specs.Prelude.{Ok, ℤ, ◌||◌}
-use Rattle.plan_types.specs.declared.machine.Machine.{Machine}
-use Rattle.plan_types.specs.declared.plan.Move.{Move}
+use Rattle.laws_board.proofs.Names.{Machine, Move}
 use Rattle.gcode_state.specs.declared.state.State.{State}
 use Rattle.gcode_state.specs.declared.state.Action.{Action}
 use Rattle.gcode_state.specs.declared.state.Action.TheVariants as actions

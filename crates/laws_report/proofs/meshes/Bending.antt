@@ -1,9 +1,7 @@
 -- Sections over a bed, one thing behind the other.
 use Rattle.std.proofs.Common.{◌≡◌, ◌∙◌, ℕ, ◌+◌, Bool, true, false, List, [], ◌∷◌, ◌++◌, refl, ap, sym, arith, append_assoc, append-nil}
 use Rattle.std.specs.Prelude.{ℤ}
-use Rattle.plan_types.specs.declared.machine.Machine.{Machine}
-use Rattle.plan_types.specs.declared.plan.Move.{Move}
-use Rattle.plan_types.specs.declared.plan.Section.{Section}
+use Rattle.laws_board.proofs.Names.{Machine, Move, Section}
 use Rattle.gcode_program.specs.Cuts.{closed, home_of, homes, is_named, dwell_left, dwell_behind_home, left_by_homes}
 use Rattle.gcode_program.specs.Homes.{stood}
 use Rattle.bed_mesh.specs.declared.mesh.Mesh.{Mesh}

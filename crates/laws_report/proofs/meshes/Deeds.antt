@@ -1,7 +1,7 @@
 -- What the lines of the input do, as far as what is written for them depends on it.
 use Rattle.std.proofs.Common.{◌≡◌, ℕ, ◌+◌, ◌≤◌, Bool, true, false, List, [], ◌∷◌, refl, subst, arith, if◌then◌else◌, nat_lt}
 use Rattle.std.specs.Prelude.{Result, Ok, Err, IfOk, ℤ, Option, Some, None, is_some, ◌||◌}
-use Rattle.std.proofs.lemmas.Bool.Decides.{nat_tests}
+use Rattle.laws_board.proofs.Names.{nat_tests, Move}
 use Rattle.std.proofs.lemmas.Int.{ints}
 use Rattle.gcode_text.specs.declared.fault.FaultKind.{FaultKind}
 use Rattle.gcode_text.specs.declared.word.Given.{Given}
@@ -10,7 +10,6 @@ use Rattle.gcode_text.specs.declared.word.Command.TheVariants as names
 use Rattle.gcode_text.specs.declared.word.Word.{Word}
 use Rattle.gcode_text.specs.declared.word.Word.TheVariants as words
 use Rattle.gcode_text.specs.Lines.{reading}
-use Rattle.plan_types.specs.declared.plan.Move.{Move}
 use Rattle.gcode_state.specs.declared.state.State.{State}
 use Rattle.gcode_state.specs.declared.state.Action.{Action}
 use Rattle.gcode_state.specs.declared.state.Action.TheVariants as actions
@@ -19,6 +18,7 @@ use Rattle.gcode_state.specs.declared.state.StateFault.TheVariants.{TooMany}
 use Rattle.gcode_state.specs.States.{given_number, aim_of, differs, moves, moved, move_fault, move_of, unless, unmeasured, linear, in_range, ◌>>=◌, dwell, axes_of, axes_in, home, is_named, speed_factor, e_factor, acceleration, readings_set, commanded, applied}
 use Rattle.gcode_program.specs.Readings.{applied_line, applied_reading, as_kind}
 use Rattle.bed_mesh.specs.BentLines.{at}
+use Rattle.gcode_state.proofs.Accepted.{same_place}
 
 -- a move goes on from where E stands, and is no faster than the machine
 pub record IsDrawn (s t : State) (m : Move) : Type 0 where
@@ -49,9 +49,6 @@ unless_does s (Some fault) next h = tt
 
 stays : (a b c d : Bool) → (a || (b || (c || d))) ≡ false → d ≡ false
 stays a b c d h = grind (arith, nat_tests)
-
-same_place : (a b : ℤ) → differs a b ≡ false → b ≡ a
-same_place a b h = grind (arith, ints)
 
 slow : (n top : ℕ) → n ≤ top → n ≤ top
 slow n top h = h

@@ -3,11 +3,9 @@ use Rattle.std.proofs.Common.{◌≡◌, ◌∙◌, ℕ, suc, ◌+◌, Bool, tru
 use Rattle.std.specs.Prelude.{Result, Ok, Err}
 use Rattle.plan_types.specs.declared.cause.LineKind.{LineKind}
 use Rattle.plan_types.specs.declared.cause.LineKind.TheVariants as kinds
-use Rattle.plan_types.specs.declared.machine.Machine.{Machine}
+use Rattle.laws_board.proofs.Names.{Machine, ReadStop, Section}
 use Rattle.plan_types.specs.declared.plan.ReadEnd.{ReadEnd}
-use Rattle.plan_types.specs.declared.plan.ReadStop.{ReadStop}
 use Rattle.plan_types.specs.declared.plan.ReadStop.TheVariants.{End, Stop, Refused}
-use Rattle.plan_types.specs.declared.plan.Section.{Section}
 use Rattle.gcode_state.specs.declared.state.State.{State}
 use Rattle.gcode_state.specs.declared.state.Action.{Action}
 use Rattle.gcode_state.specs.declared.state.Action.TheVariants as actions

@@ -3,7 +3,7 @@ use Rattle.std.proofs.Common.{◌≡◌, ◌∙◌, ℕ, zero, suc, Bool, true, 
 use Rattle.std.specs.Prelude.{ℤ, pos, ◌+ℤ◌, ◌-ℤ◌, ◌||◌}
 use Rattle.std.specs.List.{All}
 use Rattle.std.proofs.lemmas.Int.{ints}
-use Rattle.plan_types.specs.declared.plan.Move.{Move}
+use Rattle.laws_board.proofs.Names.{Move}
 use Rattle.plan_types.specs.Moves.{change}
 use Rattle.gcode_state.specs.States.{differs}
 use Rattle.bed_mesh.specs.declared.mesh.Mesh.{Mesh}

@@ -1,9 +1,7 @@
 -- What the deeds of a file make over a bed.
 use Rattle.std.proofs.Common.{◌≡◌, ◌∙◌, ℕ, ◌+◌, Bool, List, [], ◌∷◌, ◌++◌, refl, sym, ap, arith, append-nil}
 use Rattle.std.specs.Prelude.{ℤ}
-use Rattle.plan_types.specs.declared.machine.Machine.{Machine}
-use Rattle.plan_types.specs.declared.plan.Move.{Move}
-use Rattle.plan_types.specs.declared.plan.Section.{Section}
+use Rattle.laws_board.proofs.Names.{Machine, Move, Section}
 use Rattle.gcode_state.specs.declared.state.State.{State}
 use Rattle.gcode_state.specs.declared.state.Action.{Action}
 use Rattle.gcode_state.specs.declared.state.Action.TheVariants as actions

@@ -5,7 +5,7 @@ use Rattle.std.specs.List.{list_all}
 use Rattle.plan_types.specs.declared.cause.Cause.TheVariants as cause
 use Rattle.plan_types.specs.declared.cause.LineKind.{LineKind}
 use Rattle.plan_types.specs.declared.cause.LineKind.TheVariants as kinds
-use Rattle.plan_types.specs.declared.machine.Machine.{Machine}
+use Rattle.laws_board.proofs.Names.{Machine, both_parts}
 use Rattle.report_text.specs.Text.{end_text}
 use Rattle.report_text.specs.Words.{line_word}
 use Rattle.laws_report.specs.meshes.Written.{IsEnding}
@@ -13,14 +13,9 @@ use Rattle.laws_report.proofs.meshes.Digits.{decimal_digits, decimal_few}
 use Rattle.laws_report.proofs.meshes.Spelling.{ArePlain, is_plain, plain_both, plain_digits}
 use Rattle.laws_report.proofs.meshes.Telling.{no_ends}
 
-both_true : (a b : Bool) → (a && b) ≡ true → (a ≡ true) × (b ≡ true)
-both_true true true h = (refl, refl)
-both_true true false h = absurd cc
-both_true false b h = absurd cc
-
 plain_by : (bs : List ℕ) → list_all is_plain bs ≡ true → ArePlain bs
 plain_by [] h = tt
-plain_by (b ∷ bs) h = let e = both_true (is_plain b) (list_all is_plain bs) h in (e.0, plain_by bs e.1)
+plain_by (b ∷ bs) h = let e = both_parts (is_plain b) (list_all is_plain bs) h in (e.0, plain_by bs e.1)
 
 comment : (said text : List ℕ) → text ≡ 59 ∷ (said ++ 10 ∷ []) → ArePlain said → length said ≤ 1023 → IsEnding text
 comment said text is plain short = inr (record { said = said; is = is; one = no_ends said plain; short = short })

@@ -1,9 +1,7 @@
 -- The lines of a move, read one behind the other.
 use Rattle.std.proofs.Common.{◌≡◌, ◌∙◌, ℕ, ◌+◌, ◌*◌, ◌≤◌, ◌==◌, map, Bool, true, false, List, [], ◌∷◌, ◌++◌, length, refl, sym, subst, ap, arith, append_assoc, append-nil, if◌then◌else◌}
 use Rattle.std.specs.Prelude.{Ok, ℤ, pos, ◌-ℤ◌}
-use Rattle.std.proofs.lemmas.Bool.Decides.{nat_tests}
-use Rattle.plan_types.specs.declared.machine.Machine.{Machine}
-use Rattle.plan_types.specs.declared.plan.Move.{Move}
+use Rattle.laws_board.proofs.Names.{nat_tests, Machine, Move}
 use Rattle.gcode_state.specs.declared.state.State.{State}
 use Rattle.gcode_state.specs.declared.state.Action.{Action}
 use Rattle.gcode_state.specs.declared.state.Action.TheVariants as actions
@@ -19,6 +17,7 @@ use Rattle.laws_report.proofs.meshes.Reading.{plain_acceleration, plain_move}
 use Rattle.laws_report.proofs.meshes.Spelling.{ArePlain}
 use Rattle.laws_report.proofs.meshes.Telling.{AllPlain, AreRead, both_read, first_of, none_read, one_read}
 use Rattle.laws_report.proofs.meshes.Writing.{IsWriting, acceleration_done, move_done, with_acceleration, writing_faster}
+use Rattle.laws_report.proofs.loads.Texts.{goes}
 
 -- where moves to some places lead
 abbrev pub led : Mesh → List ℤ → List (List ℤ) → List ℤ
@@ -42,10 +41,6 @@ pub record AreMoved (m : Machine) (t : Mesh) (mv : Move) (w : State) (lines : Li
 plain_line : (t : Mesh) (v : ℕ) (from place : List ℤ) → ArePlain (move_line t v from place)
 unfolding move_line
 plain_line t v from place = plain_move (at place 0) (at place 1) (raised t place) (at place 3 -ℤ at from 3) (pos (60 * v))
-
-goes : (b : Bool) (mv : Move) → is_stop (if b then actions.Move mv else actions.None) ≡ false
-goes true mv = refl
-goes false mv = refl
 
 -- one part more, where there is one
 part_taken : (m : Machine) (w : State) (b : Bool) (q : Move) (act : Action) (dwell : ℕ) (moves parts : List Move) (deeds rest : List Deed) → act ≡ (if b then actions.Move q else actions.None)

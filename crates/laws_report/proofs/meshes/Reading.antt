@@ -1,7 +1,7 @@
 -- What each written line is read as.
 use Rattle.std.proofs.Common.{◌≡◌, ◌∙◌, ℕ, ◌*◌, ◌≤◌, Bool, true, false, codes, List, [], ◌∷◌, ◌++◌, length, refl, ap, sym, subst, arith, append-nil, inl, inr, ◌⊎◌, Ok, Err}
 use Rattle.std.specs.Prelude.{decimal, ℤ, pos, Option, Some, None, Result, nat_lt, slice_set}
-use Rattle.std.proofs.lemmas.Bool.Decides.{nat_tests}
+use Rattle.laws_board.proofs.Names.{nat_tests}
 use Rattle.text_core.specs.Bytes.{behind}
 use Rattle.text_core.specs.Numbers.{number_at, value_of}
 use Rattle.gcode_text.specs.Blanks.{is_blank}

@@ -1,7 +1,7 @@
 -- Written lines, read back word by word.
 use Rattle.std.proofs.Common.{◌≡◌, ◌∙◌, ℕ, ◌/◌, ◌==◌, Bool, true, false, cond, List, [], ◌∷◌, ◌++◌, length, refl, ap, sym, arith, inl, inr, ◌⊎◌, Ok, Err}
 use Rattle.std.specs.Prelude.{◌&&◌, int_lt, nat_lt, decimal, ℤ, pos, Option, Some, None, Result, not, slice_set, unsigned_abs}
-use Rattle.std.proofs.lemmas.Bool.Decides.{nat_tests}
+use Rattle.laws_board.proofs.Names.{nat_tests}
 use Rattle.text_core.specs.Bytes.{before, behind, ends_or_begins, is_digit, is_letter}
 use Rattle.text_core.specs.Numbers.{number_at}
 use Rattle.gcode_text.specs.Blanks.{is_blank}

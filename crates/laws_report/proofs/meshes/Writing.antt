@@ -10,9 +10,7 @@ use Rattle.gcode_text.specs.declared.word.Word.{Word}
 use Rattle.gcode_text.specs.declared.word.Word.TheVariants as words
 use Rattle.gcode_text.specs.Lines.{no_words, reading}
 use Rattle.plan_types.specs.declared.cause.LineKind.{LineKind}
-use Rattle.plan_types.specs.declared.machine.Machine.{Machine}
-use Rattle.plan_types.specs.declared.plan.Move.{Move}
-use Rattle.plan_types.specs.Machines.{axis_at}
+use Rattle.laws_board.proofs.Names.{Machine, Move, axis_at}
 use Rattle.gcode_state.specs.declared.state.Axis.{Axis}
 use Rattle.gcode_state.specs.declared.state.State.{State}
 use Rattle.gcode_state.specs.declared.state.Action.{Action}

@@ -1,18 +1,9 @@
 -- Lines of a report that go through the first sections of a text, as far as they go, follow its plan when they are read back as a log.
 use Rattle.std.proofs.Common.{◌≡◌, ◌∙◌, ◌⊎◌, ℕ, suc, ◌+◌, ◌<◌, ◌≤◌, Bool, true, false, List, [], ◌∷◌, ◌++◌, length, map, ap, sym, refl, subst, arith, append_assoc, append-nil, length-append}
 use Rattle.std.specs.Prelude.{◌==◌, ◌&&◌, slice_index_or, if◌then◌else◌}
-use Rattle.std.proofs.lemmas.Bool.Decides.{nat_tests}
+use Rattle.laws_board.proofs.Names.{nat_tests, Machine, Planned, Pulse, Section, SectionKind, Clocks, one_line, stepper_at, Fits, clocks_at, stepper_plan, ReportLine, and_from}
 use Rattle.std.proofs.lemmas.List.FromFn.{get_or-map-range_with_len}
-use Rattle.plan_types.specs.declared.machine.Machine.{Machine}
-use Rattle.plan_types.specs.declared.plan.Planned.{Planned}
-use Rattle.plan_types.specs.declared.plan.Pulse.{Pulse}
-use Rattle.plan_types.specs.declared.plan.Section.{Section}
-use Rattle.plan_types.specs.declared.plan.SectionKind.{SectionKind}
-use Rattle.plan_types.specs.Lines.{Clocks, one_line}
-use Rattle.plan_types.specs.Machines.{stepper_at}
-use Rattle.plan_types.specs.Plan.{Fits}
-use Rattle.plan_types.specs.Sections.{base_tick, clocks_at, section_end, section_plans, stepper_plan, is_home, first_turn}
-use Rattle.report_text.specs.declared.line.ReportLine.{ReportLine}
+use Rattle.plan_types.specs.Sections.{base_tick, section_end, section_plans, is_home, first_turn}
 use Rattle.report_text.specs.declared.line.ReportLine.TheVariants as report
 use Rattle.log_text.specs.declared.line.LogLine.{LogLine}
 use Rattle.log_text.specs.declared.line.LogLine.TheVariants as line
@@ -30,6 +21,7 @@ use Rattle.laws_report.specs.reports.Within.{ready_behind}
 use Rattle.laws_report.specs.reports.Shown.{pulses_before}
 use Rattle.laws_report.specs.page.Log.{Follows, FollowsFront, StandsBehind, StartsOnTime, TellsPulseOf, board_turn, earliest_turn}
 use Rattle.laws_report.proofs.reports.Bridging.{fits-same}
+use Rattle.plan_types.proofs.Facts.{is_equal}
 
 -- lists from their end, twice
 pub in_order_append : {A : Type 0} (xs ys : List A) → in_order (xs ++ ys) ≡ in_order ys ++ in_order xs
@@ -117,13 +109,6 @@ counted : (b : Bool) (p : Pulse) (ps others : List Pulse) → length (if b then 
 counted true p ps others = omega arith
 counted false p ps others = refl
 
-both-true : (a b : Bool) → a ≡ true → b ≡ true → (a && b) ≡ true
-both-true true b e f = f
-both-true false b e f = cc
-
-same-true : (i j : ℕ) → i ≡ j → (i == j) ≡ true
-same-true i j e = grind (arith, nat_tests)
-
 ready-is : (cut : Bool) (i begin end : ℕ) → ready cut (suc i) begin end ≡ ready_behind cut begin end
 ready-is true i begin end = refl
 ready-is false i begin end = refl
@@ -201,7 +186,7 @@ module _ (through : Type 0) (m : Machine) (sections : List Section) (lines : Lis
     -- a cut
     cut-on : (i turn : ℕ) (cut : Bool) (before : List LogLine) (rest : List ReportLine) (j : ℕ) → j ≡ i → is_home (section_at sections i).kind ≡ true → FitWith i turn (λ s. in_order (pulses s before) ++ pulses_before s rest) → IsOpen i turn cut before → IsOpen i turn true (line.Cut j ∷ before)
     cut-on i turn cut before rest j same homes fits h =
-        let stands : may_cut sections (begun before) j ≡ true = ap (λ (n : ℕ). may_cut sections n j) h.begun_is ∙ both-true (j == i) (is_home (section_at sections i).kind) (same-true j i same) homes in
+        let stands : may_cut sections (begun before) j ≡ true = ap (λ (n : ℕ). may_cut sections n j) h.begun_is ∙ and_from (j == i) (is_home (section_at sections i).kind) (is_equal j i same) homes in
         record { fronted = (h.going, stands, fit-here i turn before rest h.begun_is h.start_is h.lines_are fits, h.fronted); going = h.going; begun_is = h.begun_is; start_is = h.start_is; lines_are = h.lines_are; cut_is = refl }
 
     -- the next section

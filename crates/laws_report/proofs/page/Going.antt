@@ -1,16 +1,8 @@
 -- The lines of a run go through the first sections of its text.
 use Rattle.std.proofs.Common.{◌≡◌, ◌≢◌, ◌∙◌, ◌⊎◌, inl, inr, ℕ, suc, ◌+◌, ◌<◌, ◌≤◌, Bool, true, false, List, [], ◌∷◌, length, map, ap, sym, refl, subst, arith, Some}
 use Rattle.std.specs.Prelude.{◌==◌}
-use Rattle.std.proofs.lemmas.Bool.Decides.{nat_tests}
-use Rattle.plan_types.specs.declared.machine.Machine.{Machine}
-use Rattle.plan_types.specs.declared.plan.Pulse.{Pulse}
-use Rattle.plan_types.specs.declared.plan.Section.{Section}
-use Rattle.plan_types.specs.declared.plan.SectionKind.{SectionKind}
-use Rattle.plan_types.specs.Lines.{Clocks}
-use Rattle.plan_types.specs.Machines.{stepper_at}
-use Rattle.plan_types.specs.Plan.{Fits}
-use Rattle.plan_types.specs.Sections.{base_tick, clocks_at, section_end, stepper_plan, is_home}
-use Rattle.report_text.specs.declared.line.ReportLine.{ReportLine}
+use Rattle.laws_board.proofs.Names.{nat_tests, Machine, Pulse, Section, SectionKind, Clocks, stepper_at, Fits, clocks_at, stepper_plan, ReportLine}
+use Rattle.plan_types.specs.Sections.{base_tick, section_end, is_home}
 use Rattle.report_text.specs.declared.line.ReportLine.TheVariants as report
 use Rattle.log_check.specs.Points.{section_at}
 use Rattle.laws_report.specs.logs.Follows.{in_order}
@@ -23,6 +15,7 @@ use Rattle.laws_report.specs.reports.Stands.{AreOfSections}
 use Rattle.laws_report.specs.page.Log.{TellsPulseOf}
 use Rattle.laws_report.proofs.reports.Bridging.{IsOneCut, is-first, is-here, is-later}
 use Rattle.laws_report.proofs.page.Front.{Goes, StartsBehind}
+use Rattle.plan_types.proofs.Facts.{is_equal, true_or_false}
 
 -- Lines of sections of a text, from one of a number on, which may start in a turn or later: each is the next one, behind the start of the one before where that homes; and
 -- else in its turn behind its end.
@@ -64,9 +57,6 @@ record Now (through : Type 0) (m : Machine) (sections : List Section) (clocks li
 not-at : (n j : ℕ) → suc n ≤ j → (n == j) ≡ false
 not-at n j late = grind (arith, nat_tests)
 
-at-it : (n k : ℕ) → n ≡ k → (n == k) ≡ true
-at-it n k same = grind (arith, nat_tests)
-
 -- when the next section may start
 due-behind : (home cut : Bool) (turn end other dwell at : ℕ) → (home ≡ false → cut ≡ false) → (home ≡ true → cut ≡ true) → (home ≡ false → end ≡ other) → ready_behind home turn other + dwell ≤ at → (home ≡ false → ready_behind home turn other + dwell ≡ at) → StartsBehind cut turn end dwell at
 due-behind true true turn end other dwell at moved stopped ends due same = (due, λ uncut. absurd (let f : true ≡ false = uncut in cc))
@@ -78,10 +68,6 @@ either-cut : (cut : Bool) (none : List ReportLine) → none ≡ [] → (cut ≡ 
 either-cut cut none e (inl f) = f
 either-cut cut none e (inr f) = absurd (f e)
 
-home-or : (b : Bool) → (b ≡ true) ⊎ (b ≡ false)
-home-or true = inl refl
-home-or false = inr refl
-
 module _ (through : Type 0) (m : Machine) (sections : List Section) (clocks lines : List Clocks) where
   -- the turn from which on the section behind one that started in a turn may start
   abbrev Soon : ℕ → ℕ → ℕ
@@ -89,13 +75,13 @@ module _ (through : Type 0) (m : Machine) (sections : List Section) (clocks line
 
   -- what is not cut doesn't home
   moving : (i : ℕ) (cut : Bool) → cut ≡ false → (is_home (section_at sections i).kind ≡ true → cut ≡ true) → is_home (section_at sections i).kind ≡ false
-  moving i cut uncut stopped = elim (home-or (is_home (section_at sections i).kind)) [ inl h ↦ absurd (let e : false ≡ true = sym uncut ∙ stopped h in cc) | inr h ↦ h ]
+  moving i cut uncut stopped = elim (true_or_false (is_home (section_at sections i).kind)) [ inl h ↦ absurd (let e : false ≡ true = sym uncut ∙ stopped h in cc) | inr h ↦ h ]
 
   -- behind the line of a section it is the one that is open
   begun : (i j at : ℕ) (home : Bool) (soon : ℕ) (kind : SectionKind) (rest : List ReportLine) → Ahead through m sections clocks lines i home soon (report.Section j at kind ∷ rest) → j ≡ i → (Ahead through m sections clocks lines (suc i) (is_home (section_at sections i).kind) (Soon i at) rest → Now through m sections clocks lines i at false (λ s. length (pulses_before s rest)) rest → Goes through m sections lines i at false (λ s. length (pulses_before s rest)) rest) → Goes through m sections lines i at false (λ s. length (pulses_before s rest)) rest
   begun i j at home soon kind rest ahead number onward =
       let here = report.Section j at kind ∷ rest in
-      let self = at-it j i number in
+      let self = is_equal j i number in
       let not : (k : ℕ) → suc i ≤ k → (j == k) ≡ false = λ k late. not-at j k (omega (arith, late, number)) in
       let turns : (k : ℕ) → suc i ≤ k → section_turn k here ≡ section_turn k rest = λ k late. is-later (j == k) (Some at) (section_turn k rest) (not k late) in
       let pulses_are : (k s : ℕ) → suc i ≤ k → pulses_in k s here ≡ pulses_in k s rest = λ k s late. is-later (j == k) (pulses_before s rest) (pulses_in k s rest) (not k late) in
@@ -134,15 +120,15 @@ module _ (through : Type 0) (m : Machine) (sections : List Section) (clocks line
       let number : j ≡ suc i = cc in
       let same : kind ≡ (section_at sections (suc i)).kind = cc in
       let when : ahead.shown.0 ≡ at = cc in
-      let here : section_turn (suc i) (report.Section j at kind ∷ rest) ≡ Some at = is-first (j == suc i) at (section_turn (suc i) rest) (at-it j (suc i) number) in
+      let here : section_turn (suc i) (report.Section j at kind ∷ rest) ≡ Some at = is-first (j == suc i) at (section_turn (suc i) rest) (is_equal j (suc i) number) in
       let home = is_home (section_at sections i).kind in
       let soon : Soon i turn + (section_at sections (suc i)).dwell ≤ at = subst (λ (n : ℕ). Soon i turn + (section_at sections (suc i)).dwell ≤ n) when ahead.shown.3 in
       let timely : home ≡ false → Soon i turn + (section_at sections (suc i)).dwell ≡ at = λ h. ahead.shown.4 h ∙ when in
       let due = due-behind home cut turn (section_end m lines (section_at sections i).moves turn) (section_end m clocks (section_at sections i).moves turn) (section_at sections (suc i)).dwell at
       (λ h. (now.uncut h).0) (λ h. either-cut cut [] refl (now.ended (inr (at, here)) h)) (now.end at here) soon timely in
       let fits = λ (s : ℕ) (inside : s < length m.steppers). subst (λ (ps : List Pulse). Fits (clocks_at lines (stepper_at m s).board).first.freq (base_tick m lines at s) ps (stepper_plan m lines (section_at sections (suc i)).moves at s))
-      (is-here (j == suc i) (pulses_before s rest) (pulses_in (suc i) s rest) (at-it j (suc i) number)) (ahead.fits (suc i) at s (omega arith) here inside) in
-      let behind_it = is-here (j == suc i) rest (lines_behind (suc i) rest) (at-it j (suc i) number) in
+      (is-here (j == suc i) (pulses_before s rest) (pulses_in (suc i) s rest) (is_equal j (suc i) number)) (ahead.fits (suc i) at s (omega arith) here inside) in
+      let behind_it = is-here (j == suc i) rest (lines_behind (suc i) rest) (is_equal j (suc i) number) in
       let Tells : ℕ → List ReportLine → Type 0 = λ b z. TellsPulseOf m b (in_order (map logged z)) in
       let whole = λ (uncut : cut ≡ false) (s : ℕ) (inside : s < length m.steppers) (why : through ⊎ Tells (stepper_at m s).board rest).
       now.whole s (moving i cut uncut (λ h. either-cut cut [] refl (now.ended (inr (at, here)) h))) inside (elim why as (λ _. through ⊎ (IsShown (suc i) (report.Section j at kind ∷ rest) × Tells (stepper_at m s).board (lines_behind (suc i) (report.Section j at kind ∷ rest)))) [
@@ -159,7 +145,7 @@ module _ (through : Type 0) (m : Machine) (sections : List Section) (clocks line
         let f : report.Cut j board pin tick from ∷ cuts_of (lines_before rest) ≡ report.Cut i found.0 found.1 found.2 found.3 ∷ [] = found.4 in
         let same : j ≡ i = cc in
         let none : cuts_of (lines_before rest) ≡ [] = cc in
-        let home : is_home (section_at sections i).kind ≡ true = elim (home-or (is_home (section_at sections i).kind)) [
+        let home : is_home (section_at sections i).kind ≡ true = elim (true_or_false (is_home (section_at sections i).kind)) [
           | inl h ↦ h
           | inr h ↦ absurd (let g : report.Cut j board pin tick from ∷ cuts_of (lines_before rest) ≡ [] = (now.uncut h).1 in cc)
         ] in (

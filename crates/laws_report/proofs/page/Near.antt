@@ -2,18 +2,9 @@
 use Rattle.std.proofs.Common.{◌≡◌, ◌∙◌, ℕ, suc, ◌+◌, ◌*◌, ◌<◌, ◌≤◌, ◌^◌, Bool, true, All, List, [], ◌∷◌, ◌++◌, length, map, ap, sym, refl, subst, arith, append_assoc, length-append}
 use Rattle.std.proofs.Math.Seq.{get_or-append_seam}
 use Rattle.std.specs.Prelude.{◌==◌, ◌-◌, ◌/◌, min, if◌then◌else◌}
-use Rattle.std.proofs.lemmas.Bool.Decides.{nat_tests}
-use Rattle.plan_types.specs.declared.machine.Machine.{Machine}
-use Rattle.plan_types.specs.declared.clock.BoardClock.{BoardClock}
-use Rattle.plan_types.specs.declared.plan.Held.{Held}
-use Rattle.plan_types.specs.declared.plan.Line.{Line}
-use Rattle.plan_types.specs.Clock.{board_tick, clock_of, tick, turn_ns}
-use Rattle.plan_types.specs.Lines.{Clocks}
-use Rattle.plan_types.specs.Machines.{board_at}
-use Rattle.plan_types.specs.Sections.{clocks_at}
+use Rattle.laws_board.proofs.Names.{nat_tests, Machine, BoardClock, Held, Line, board_tick, clock_of, tick, turn_ns, Clocks, board_at, clocks_at, ReportLine}
 use Rattle.clock_line.specs.Samples.{AreWithin, line_reach}
 use Rattle.board_asking.specs.Connecting.{turn_tick}
-use Rattle.report_text.specs.declared.line.ReportLine.{ReportLine}
 use Rattle.report_text.specs.declared.line.ReportLine.TheVariants as report
 use Rattle.log_text.specs.declared.line.LogLine.{LogLine}
 use Rattle.log_text.specs.declared.line.LogLine.TheVariants as line
@@ -35,6 +26,7 @@ use Rattle.laws_report.proofs.reports.Further.{HaveTurns}
 use Rattle.laws_report.proofs.page.Front.{in_order_append, in_order_twice}
 use Rattle.laws_report.proofs.reports.Retelling.{AreTold, tick-retold}
 use Rattle.laws_report.proofs.reports.Shorts.{IsTimed, early_first, early_from, early_turns}
+use Rattle.plan_types.proofs.Facts.{is_itself}
 
 -- what a line of a log says of the clock of its board
 abbrev SoNear : Machine → LogLine → Type 0
@@ -50,13 +42,10 @@ all-first : (m : Machine) (xs ys : List ReportLine) → AllNear m (xs ++ ys) →
 all-first m [] ys h = h
 all-first m (x ∷ xs) ys h = all-first m xs ys h.1
 
-same-number : (b : ℕ) → (b == b) ≡ true
-same-number b = grind (arith, nat_tests)
-
 own-drift : (m : Machine) (b sent clock from : ℕ) (lines : List ReportLine) → AllNear m (drifts_of b (report.Drift b sent clock from ∷ lines)) → SoNear m (line.Line b sent clock from)
 own-drift m b sent clock from lines h =
     let At : Bool → Type 0 = λ x. AllNear m ((if x then report.Drift b sent clock from ∷ [] else []) ++ drifts_of b lines) in
-    (subst At (same-number b) h).0
+    (subst At (is_itself b) h).0
 
 later-drifts : (m : Machine) (l : ReportLine) (lines : List ReportLine) → ((b : ℕ) → b < length m.boards → AllNear m (drifts_of b (l ∷ lines))) → (b : ℕ) → b < length m.boards → AllNear m (drifts_of b lines)
 later-drifts m l lines h b low = all-first m (drift_in b l) (drifts_of b lines) (h b low)

@@ -2,7 +2,7 @@
 use Rattle.std.proofs.Common.{◌≡◌, ◌∙◌, ℕ, zero, suc, ◌+◌, ◌<◌, ◌≤◌, ◌==◌, Bool, true, false, List, [], ◌∷◌, ◌++◌, length, map, ap, sym, refl, arith, append_assoc, inl, if◌then◌else◌}
 use Rattle.std.specs.Prelude.{◌&&◌}
 use Rattle.std.specs.List.{range_with_len}
-use Rattle.std.proofs.lemmas.List.Elements.{All-head, All-tail}
+use Rattle.laws_board.proofs.Names.{All-head, All-tail, Machine, Planned, Section, Moves, ReportLine}
 use Rattle.std.proofs.lemmas.List.Sums.{sum_by-cons}
 use Rattle.plan_types.specs.Sections.{is_home}
 use Rattle.log_check.specs.Behind.{begun, is_cut, pulses}
@@ -10,11 +10,6 @@ use Rattle.log_check.specs.Faults.{may_cut}
 use Rattle.log_check.specs.Points.{section_at}
 use Rattle.log_text.specs.declared.line.LogLine.{LogLine}
 use Rattle.log_text.specs.declared.line.LogLine.TheVariants as line
-use Rattle.plan_types.specs.declared.machine.Machine.{Machine}
-use Rattle.plan_types.specs.declared.plan.Planned.{Planned}
-use Rattle.plan_types.specs.declared.plan.Section.{Section}
-use Rattle.plan_types.specs.declared.plan.SectionKind.TheVariants.{Moves}
-use Rattle.report_text.specs.declared.line.ReportLine.{ReportLine}
 use Rattle.report_text.specs.declared.line.ReportLine.TheVariants as report
 use Rattle.session_run.specs.Counts.{counted, is_pulse_of, pulse_counts, pulses_shown}
 use Rattle.laws_run.specs.run_headline.Timely.{AreOfMoves}

@@ -2,14 +2,11 @@
 use Rattle.std.proofs.Common.{◌≡◌, ◌∙◌, ℕ, List, [], ◌∷◌, ◌++◌, sym, ap, subst, Some, inl}
 use Rattle.io_core.specs.declared.traits.Files.{Ghosts as Files}
 use Rattle.io_core.specs.declared.traits.Sink.{Ghosts as Sink}
-use Rattle.plan_types.specs.declared.cause.Cause.{Cause}
+use Rattle.laws_board.proofs.Names.{Cause, Machine, ReportLine, Scene, IsValidMachine}
 use Rattle.plan_types.specs.declared.cause.Cause.TheVariants as cause
-use Rattle.plan_types.specs.declared.machine.Machine.{Machine}
-use Rattle.report_text.specs.declared.line.ReportLine.{ReportLine}
 use Rattle.report_text.specs.declared.line.ReportLine.TheVariants as report
 use Rattle.report_text.specs.Text.{report_text}
 use Rattle.session_lanes.specs.declared.near.LinkLog.{LinkLog}
-use Rattle.wire_scene.specs.declared.scene.Scene.{Scene}
 use Rattle.laws_board.specs.causes.Short.{HaveShortDictionaries}
 use Rattle.laws_run.specs.run_ends.Ends.{GoesThrough}
 use Rattle.laws_run.specs.run_headline.Timely.{AreOfMoves, HoldsNothingLong}
@@ -19,7 +16,6 @@ use Rattle.laws_report.specs.reports.Promises.{sections_over}
 use Rattle.laws_report.specs.reports.Linked.{IsLinkReport, KeepUp}
 use Rattle.laws_report.specs.reports.Names.{HasNames}
 use Rattle.laws_report.specs.page.Report.{Shows}
-use Rattle.plan_types.specs.Machines.{IsValidMachine}
 use Rattle.laws_run.proofs.home_headline.OfMoves.{run_near}
 use Rattle.laws_report.proofs.reports.Linking.{same-log, written-whole}
 use Rattle.laws_report.proofs.reports.Reported.{checked, shown_where}

@@ -1,16 +1,8 @@
 -- The lines behind that of a section.
 use Rattle.std.proofs.Common.{◌≡◌, ◌≢◌, ℕ, suc, ◌+◌, ◌<◌, ◌≤◌, Bool, true, false, List, [], ◌∷◌, ◌++◌, drop, length, refl, ap, sym, ◌∙◌, arith, inl, inr, append_assoc, append-nil}
 use Rattle.std.specs.Prelude.{◌-◌, ◌==◌, if◌then◌else◌}
-use Rattle.std.proofs.lemmas.Bool.{eqb-true}
-use Rattle.std.proofs.lemmas.Bool.Decides.{eqb_tells}
-use Rattle.plan_types.specs.declared.machine.Machine.{Machine}
-use Rattle.plan_types.specs.declared.plan.Pulse.{Pulse}
-use Rattle.plan_types.specs.declared.plan.SectionKind.{SectionKind}
-use Rattle.report_text.specs.declared.line.ReportLine.{ReportLine}
+use Rattle.laws_board.proofs.Names.{eqb-true, eqb_tells, Machine, Pulse, SectionKind, ReportLine, machine_line, Started, ReactorTurn}
 use Rattle.report_text.specs.declared.line.ReportLine.TheVariants as report
-use Rattle.host_reactor.specs.Report.{machine_line}
-use Rattle.motion_work.specs.Seen.{Started}
-use Rattle.session_work.specs.declared.table.ReactorTurn.{ReactorTurn}
 use Rattle.laws_board.specs.plans.Lines.{TellTurns, head_in, heads_of, pulses_of}
 use Rattle.laws_board.proofs.plans.Beginning.{Spread}
 use Rattle.laws_board.proofs.plans.Telling.{pulses_append}

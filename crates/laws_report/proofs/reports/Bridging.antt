@@ -1,21 +1,9 @@
 -- Lines that follow the plan and stand in order go through the sections.
 use Rattle.std.proofs.Common.{◌≡◌, ◌∙◌, ◌⊎◌, inl, inr, ℕ, ◌+◌, ◌<◌, ◌≤◌, Bool, true, false, List, [], ◌∷◌, ◌++◌, length, ap, sym, refl, subst, arith, Option, Some, append_assoc, length-append}
 use Rattle.std.specs.Prelude.{◌==◌, slice_index_or, if◌then◌else◌}
-use Rattle.std.proofs.lemmas.Bool.Decides.{nat_tests}
-use Rattle.std.proofs.lemmas.List.{length-map}
+use Rattle.laws_board.proofs.Names.{nat_tests, length-map, Machine, Move, Planned, Pulse, Section, SectionKind, Home, Clocks, IsValidMachine, stepper_at, Fits, clocks_at, stepper_plan, ReportLine}
 use Rattle.std.proofs.Math.Seq.{get_or-append_seam}
-use Rattle.plan_types.specs.declared.machine.Machine.{Machine}
-use Rattle.plan_types.specs.declared.plan.Move.{Move}
-use Rattle.plan_types.specs.declared.plan.Planned.{Planned}
-use Rattle.plan_types.specs.declared.plan.Pulse.{Pulse}
-use Rattle.plan_types.specs.declared.plan.Section.{Section}
-use Rattle.plan_types.specs.declared.plan.SectionKind.{SectionKind}
-use Rattle.plan_types.specs.declared.plan.SectionKind.TheVariants.{Home}
-use Rattle.plan_types.specs.Lines.{Clocks}
-use Rattle.plan_types.specs.Machines.{IsValidMachine, stepper_at}
-use Rattle.plan_types.specs.Plan.{Fits}
-use Rattle.plan_types.specs.Sections.{base_tick, clocks_at, section_end, stepper_plan, no_section}
-use Rattle.report_text.specs.declared.line.ReportLine.{ReportLine}
+use Rattle.plan_types.specs.Sections.{base_tick, section_end, no_section}
 use Rattle.report_text.specs.declared.line.ReportLine.TheVariants as report
 use Rattle.log_check.specs.Behind.{pulses}
 use Rattle.log_check.specs.Faults.{have_room}
@@ -31,7 +19,7 @@ use Rattle.laws_report.specs.reports.Cuts.{cuts_in, lines_before}
 use Rattle.laws_report.specs.reports.Shown.{lines_behind, pulses_before, pulses_in, section_turn, sections_shown}
 use Rattle.laws_report.specs.reports.Headline.{section_kind, moves_of, plan_by}
 use Rattle.laws_report.specs.reports.Promises.{FollowsPlanBy}
-use Rattle.laws_report.proofs.reports.Ends.{section_end-after}
+use Rattle.motion_work.proofs.Turning.{end_after}
 
 -- lines behind that of a section, which may have cut lines of any section
 abbrev AreLoose : List ReportLine → Type 0
@@ -323,7 +311,7 @@ tell-all m sections clocks short cuts homes ready valid one (s ∷ secs) past i 
     let low : ready ≤ turn = omega (arith, order, late) in
     let tell = tell-one m sections past secs clocks short cuts homes ready i turn s s.kind lines rest valid one are at low follow' cut in
     let end = section_end m clocks s.moves turn in
-    let after = section_end-after m clocks s.moves turn in
+    let after = end_after m clocks s.moves turn in
     let far = ready-low (cuts i) turn end after in
     let long = length-append past (s ∷ []) in
     let Due : List ReportLine → Type 0 = λ hs. AreDue m clocks cuts (ready_behind (cuts i) turn end) (i + 1) secs hs in

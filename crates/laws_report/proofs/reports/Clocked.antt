@@ -1,7 +1,6 @@
 -- The clock lines that lines of a log tell, one line more, where it has no further ones.
 use Rattle.std.proofs.Common.{◌≡◌, ℕ, List, [], ◌∷◌, ◌++◌, ap, refl}
-use Rattle.plan_types.specs.declared.machine.Machine.{Machine}
-use Rattle.plan_types.specs.Lines.{Clocks, one_line}
+use Rattle.laws_board.proofs.Names.{Machine, Clocks, one_line}
 use Rattle.log_text.specs.declared.line.LogLine.{LogLine}
 use Rattle.log_text.specs.declared.line.LogLine.TheVariants as line
 use Rattle.log_check.specs.Behind.{clocks, told_line}

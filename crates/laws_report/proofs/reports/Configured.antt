@@ -3,11 +3,9 @@ use Rattle.std.proofs.Common.{◌≡◌, ◌≢◌, ◌∙◌, ℕ, ℤ, pos, ne
 use Rattle.std.specs.Prelude.{◌/◌, ◌%◌, neg_ℤ, unsigned_abs, drop, ◌&&◌, ◌==◌, codes, nat_le, nat_lt, if◌then◌else◌}
 use Rattle.std.specs.List.{list_all}
 use Rattle.std.specs.Str.{bytes_eq}
-use Rattle.std.proofs.lemmas.Bool.Decides.{nat_tests}
+use Rattle.laws_board.proofs.Names.{nat_tests, BoardDef, Machine, and_from, both_parts}
 use Rattle.plan_types.specs.declared.cause.CfgKind.{CfgKind}
 use Rattle.plan_types.specs.declared.cause.CfgKind.TheVariants.{BadLine, BadValue, OutOfLimit}
-use Rattle.plan_types.specs.declared.machine.BoardDef.{BoardDef}
-use Rattle.plan_types.specs.declared.machine.Machine.{Machine}
 use Rattle.plan_types.specs.declared.machine.StepperDef.{StepperDef}
 use Rattle.text_core.specs.Bytes.{before, behind, front}
 use Rattle.text_core.specs.Lines.{lines_of}
@@ -42,8 +40,6 @@ use Rattle.cfg_text.specs.Reading.{assembled, axes, machine_of_text, reading_of_
 use Rattle.cfg_text.specs.Wiring.{all_uses, put, put_some, use_in, use_of, uses_of, wired, wiring_fault, with_pins_of}
 use Rattle.cfg_text.proofs.Parts.{boards_differ}
 use Rattle.laws_report.specs.reports.Names.{HasNames, is_plain, is_word}
-use Rattle.laws_report.proofs.reports.Digits.{both-true}
-use Rattle.laws_report.proofs.reports.Wording.{both-parts}
 use Rattle.laws_report.proofs.reports.Motors.{AreSmall, motor-word, names-with, small-with}
 
 -- names of boards and pins are words
@@ -56,13 +52,13 @@ plain-pin b h = grind (arith, nat_tests)
 
 all-plain : (test : ℕ → Bool) → ((b : ℕ) → test b ≡ true → is_plain b ≡ true) → (text : List ℕ) → list_all test text ≡ true → list_all is_plain text ≡ true
 all-plain test plain [] h = refl
-all-plain test plain (b ∷ bs) h = (let p = both-parts (test b) (list_all test bs) h in both-true (is_plain b) (list_all is_plain bs) (plain b p.0) (all-plain test plain bs p.1))
+all-plain test plain (b ∷ bs) h = (let p = both_parts (test b) (list_all test bs) h in and_from (is_plain b) (list_all is_plain bs) (plain b p.0) (all-plain test plain bs p.1))
 
 word-by : (test : ℕ → Bool) → ((b : ℕ) → test b ≡ true → is_plain b ≡ true) → (text : List ℕ) → (nat_lt 0 (length text) && nat_le (length text) 16 && list_all test text) ≡ true → is_word text ≡ true
 word-by test plain text h =
-    let p = both-parts (nat_lt 0 (length text) && nat_le (length text) 16) (list_all test text) h in
-    let q = both-parts (nat_lt 0 (length text)) (nat_le (length text) 16) p.0 in
-    both-true (nat_lt 0 (length text)) (list_all is_plain text) q.0 (all-plain test plain text p.1)
+    let p = both_parts (nat_lt 0 (length text) && nat_le (length text) 16) (list_all test text) h in
+    let q = both_parts (nat_lt 0 (length text)) (nat_le (length text) 16) p.0 in
+    and_from (nat_lt 0 (length text)) (list_all is_plain text) q.0 (all-plain test plain text p.1)
 
 board-name : (text : List ℕ) → is_board_name text ≡ true → is_word text ≡ true
 board-name text h = word-by is_name_byte plain-name text h
@@ -99,7 +95,7 @@ stepper-section [] = tt
 stepper-section (a ∷ []) = digit-section (drive_of a) 0 (omega arith)
 stepper-section (a ∷ d ∷ []) =
     either-section (nat_le 49 d && nat_le d 57) (with_digit (drive_of a) (d - 48)) sections.Unknown
-    (λ h. (let p = both-parts (nat_le 49 d) (nat_le d 57) h in let high = p.1 in digit-section (drive_of a) (d - 48) (grind (arith, nat_tests)))) (λ h. tt)
+    (λ h. (let p = both_parts (nat_le 49 d) (nat_le d 57) h in let high = p.1 in digit-section (drive_of a) (d - 48) (grind (arith, nat_tests)))) (λ h. tt)
 stepper-section (a ∷ d ∷ e ∷ rest) = tt
 
 maybe-stepper : (text : Option (List ℕ)) → IsGoodSection (stepper_section text)
@@ -176,7 +172,7 @@ by-words plain other text =
     either-value (bytes_eq text other) (Ok (values.Flag true)) (if bytes_eq text plain then Ok (values.Flag false) else Err BadValue) (λ h. tt) (λ h. either-value (bytes_eq text plain) (Ok (values.Flag false)) (Err BadValue) (λ h. tt) (λ h. tt))
 
 by-pin-on : (inverted : Bool) (board name : List ℕ) → IsGoodResult (pin_on inverted board name)
-by-pin-on inverted board name = either-value (is_board_name board && is_pin_name name) (Ok (values.Pin (record { board = board; name = name; inverted = inverted }))) (Err BadValue) (λ h. pin-name name (both-parts (is_board_name board) (is_pin_name name) h).1) (λ h. tt)
+by-pin-on inverted board name = either-value (is_board_name board && is_pin_name name) (Ok (values.Pin (record { board = board; name = name; inverted = inverted }))) (Err BadValue) (λ h. pin-name name (both_parts (is_board_name board) (is_pin_name name) h).1) (λ h. tt)
 
 by-unsigned : (inverted : Bool) (text : List ℕ) → IsGoodResult (unsigned_pin inverted text)
 by-unsigned inverted text =

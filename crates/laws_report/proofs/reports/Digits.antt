@@ -4,7 +4,7 @@ use Rattle.std.specs.Prelude.{◌&&◌, ◌==◌, decimal, nat_le, nat_lt, if◌
 use Rattle.std.specs.List.{list_all}
 use Rattle.std.specs.Char.{digit_value}
 use Rattle.std.specs.Str.Parse.{AllDigits, digits_value_after}
-use Rattle.std.proofs.lemmas.Bool.Decides.{nat_tests}
+use Rattle.laws_board.proofs.Names.{nat_tests, and_from}
 use Rattle.std.proofs.lemmas.Fmt.{decimal_is_IsNumeral}
 use Rattle.std.proofs.lemmas.Str.Parse.{digit_from_value}
 use Rattle.std.proofs.lemmas.Str.{digit_value_digit}
@@ -12,10 +12,6 @@ use Rattle.text_core.specs.Bytes.{behind, is_digit}
 use Rattle.text_core.specs.Numbers.{digits_behind, is_natural, value_of}
 use Rattle.log_text.specs.Words.{number}
 use Rattle.laws_report.specs.reports.Names.{is_plain, is_word}
-
-pub both-true : (a b : Bool) → a ≡ true → b ≡ true → (a && b) ≡ true
-both-true true b e f = f
-both-true false b e f = cc
 
 digit-plain : (b : ℕ) → digit_value b < 10 → is_plain b ≡ true
 digit-plain b h = (let r = digit_from_value b h in grind (arith, nat_tests))
@@ -25,7 +21,7 @@ digit-digit b h = (let r = digit_from_value b h in grind (arith, nat_tests))
 
 all-plain : (ds : List ℕ) → AllDigits 10 ds → list_all is_plain ds ≡ true
 all-plain [] d = refl
-all-plain (c ∷ cs) d = both-true (is_plain c) (list_all is_plain cs) (digit-plain c d.0) (all-plain cs d.1)
+all-plain (c ∷ cs) d = and_from (is_plain c) (list_all is_plain cs) (digit-plain c d.0) (all-plain cs d.1)
 
 none-behind : (ds : List ℕ) → AllDigits 10 ds → behind is_digit ds ≡ []
 none-behind [] d = refl
@@ -40,14 +36,14 @@ same-value (c ∷ cs) n d =
 
 natural : (ds : List ℕ) → 0 < length ds → AllDigits 10 ds → is_natural ds ≡ true
 natural [] some d = absurd (omega arith)
-natural (c ∷ cs) some d = (let none = ap length (none-behind (c ∷ cs) d) in both-true (is_digit c) (length (behind is_digit (c ∷ cs)) == 0) (digit-digit c d.0) (grind (arith, nat_tests)))
+natural (c ∷ cs) some d = (let none = ap length (none-behind (c ∷ cs) d) in and_from (is_digit c) (length (behind is_digit (c ∷ cs)) == 0) (digit-digit c d.0) (grind (arith, nat_tests)))
 
 -- a number in decimal is a word
 pub decimal-word : (n : ℕ) → n < 2 ^ 64 → is_word (decimal n) ≡ true
 decimal-word n small =
     let h = decimal_is_IsNumeral n small in
     let some = h.0.0 in
-    both-true (nat_lt 0 (length (decimal n))) (list_all is_plain (decimal n)) (grind (arith, nat_tests)) (all-plain (decimal n) h.0.1)
+    and_from (nat_lt 0 (length (decimal n))) (list_all is_plain (decimal n)) (grind (arith, nat_tests)) (all-plain (decimal n) h.0.1)
 
 if-some : (a : Bool) (v n : ℕ) → a ≡ true → v ≡ n → (if a then Some v else None) ≡ Some n
 if-some true v n e f = ap (λ (k : ℕ). Some k) f
@@ -59,4 +55,4 @@ unfolding value_of
 number-decimal n small =
     let h = decimal_is_IsNumeral n small in
     let value : digits_behind 0 (decimal n) ≡ n = same-value (decimal n) 0 h.0.1 ∙ h.1 in
-    if-some (is_natural (decimal n) && nat_le (value_of (decimal n)) 18_446_744_073_709_551_615) (value_of (decimal n)) n (both-true (is_natural (decimal n)) (nat_le (value_of (decimal n)) 18_446_744_073_709_551_615) (natural (decimal n) h.0.0 h.0.1) (grind (arith, nat_tests))) value
+    if-some (is_natural (decimal n) && nat_le (value_of (decimal n)) 18_446_744_073_709_551_615) (value_of (decimal n)) n (and_from (is_natural (decimal n)) (nat_le (value_of (decimal n)) 18_446_744_073_709_551_615) (natural (decimal n) h.0.0 h.0.1) (grind (arith, nat_tests))) value

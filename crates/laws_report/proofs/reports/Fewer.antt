@@ -1,17 +1,10 @@
 -- Further lines of boards that hold from behind the planned steps of a section on change nothing of its plan.
 use Rattle.std.proofs.Common.{◌≡◌, ◌∙◌, ℕ, ◌*◌, ◌/◌, ◌<◌, ◌≤◌, List, [], ◌∷◌, ◌++◌, All, length, max, ap, sym, refl, arith, inl, inr}
-use Rattle.std.proofs.lemmas.List.Elements.{All-head, All-tail}
-use Rattle.plan_types.specs.declared.machine.Machine.{Machine}
-use Rattle.plan_types.specs.declared.plan.Held.{Held}
-use Rattle.plan_types.specs.declared.plan.Line.{Line}
-use Rattle.plan_types.specs.declared.plan.Move.{Move}
-use Rattle.plan_types.specs.declared.plan.Planned.{Planned}
-use Rattle.plan_types.specs.Clock.{turn_ns}
-use Rattle.plan_types.specs.Lines.{AreHeld, Clocks, lines_tick}
-use Rattle.plan_types.specs.Machines.{IsValidMachine, stepper_at}
-use Rattle.plan_types.specs.Sections.{clocks_at, end_time, for_each_stepper, last_turn, latest, stepper_end, stepper_plan}
+use Rattle.laws_board.proofs.Names.{All-head, All-tail, Machine, Held, Line, Move, Planned, turn_ns, Clocks, lines_tick, IsValidMachine, stepper_at, clocks_at, stepper_plan, AreKept}
+use Rattle.plan_types.specs.Lines.{AreHeld}
+use Rattle.plan_types.specs.Sections.{end_time, for_each_stepper, last_turn, latest, stepper_end}
 use Rattle.plan_types.specs.Speeds.{greatest_speeds}
-use Rattle.clock_line.specs.Kept.{AreKept, clocks_of}
+use Rattle.clock_line.specs.Kept.{clocks_of}
 use Rattle.section_feed.specs.Fewer.{AreFirstLines, AreSameTo}
 use Rattle.section_feed.proofs.Fewer.{alike-lines, plans-agree, turns-alike}
 use Rattle.section_feed.proofs.Staying.{AreAlike, map-on}

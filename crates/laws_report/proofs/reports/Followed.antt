@@ -1,22 +1,15 @@
 -- The lines of a run over links follow the plans, section by section.
 use Rattle.std.proofs.Common.{◌≡◌, ℕ, zero, suc, ◌+◌, ◌<◌, ◌≤◌, ◌⊎◌, Bool, true, false, List, [], ◌∷◌, ◌++◌, map, take, drop, length, Some, None, refl, ap, sym, ◌∙◌, subst, arith, inl, inr, append_assoc, append-nil}
 use Rattle.std.specs.Prelude.{◌-◌, ◌==◌, if◌then◌else◌}
-use Rattle.std.proofs.lemmas.Bool.Decides.{eqb_tells, leb_tells}
-use Rattle.std.proofs.lemmas.Bool.{eqb-true}
-use Rattle.plan_types.specs.declared.machine.Machine.{Machine}
-use Rattle.plan_types.specs.declared.plan.Pulse.{Pulse}
-use Rattle.report_text.specs.declared.line.ReportLine.{ReportLine}
+use Rattle.laws_board.proofs.Names.{eqb_tells, leb_tells, eqb-true, Machine, Pulse, ReportLine, machine_line, Started, ReactorTurn, gather}
 use Rattle.report_text.specs.declared.line.ReportLine.TheVariants as report
-use Rattle.host_reactor.specs.Report.{machine_line}
-use Rattle.motion_work.specs.Seen.{Started}
-use Rattle.session_work.specs.declared.table.ReactorTurn.{ReactorTurn}
-use Rattle.session_work.specs.Rows.{gather}
 use Rattle.laws_board.specs.sections.Boards.{NextStart}
 use Rattle.laws_board.specs.plans.Boards.{times_of}
 use Rattle.laws_board.specs.plans.Lines.{TellTurns, TellsTurn, head_in, heads_of, pulse_in, pulses_of, starts_at}
 use Rattle.laws_board.proofs.plans.Beginning.{Spread}
 use Rattle.laws_board.proofs.plans.Telling.{pulses_append}
 use Rattle.laws_report.specs.reports.Shown.{pulses_before, pulses_in, section_turn}
+use Rattle.laws_run.proofs.run_headline.Facts.{none_at}
 
 -- lines that begin no section
 pub no_head : (l : ReportLine) (ls : List ReportLine) → heads_of (l ∷ ls) ≡ [] → (head_in l ≡ []) × (heads_of ls ≡ [])
@@ -108,14 +101,6 @@ no_machine m k = by (k == 0)
     by true = (refl, λ s. refl)
     by false = (refl, λ s. refl)
 
--- the section that starts in a turn, among some that stand apart
-pub none_starts : (k i x : ℕ) (ss : List Started) → Spread x ss → k < x → starts_at k i ss ≡ []
-none_starts k i x [] h l = refl
-none_starts k i x (s ∷ ss) h l = elim (eqb_tells s.start k) [
-  | inl p ↦ absurd (omega (arith, h.0, l, p.1))
-  | inr p ↦ ap (λ b. (if b then report.Section i k s.section.kind ∷ [] else []) ++ starts_at k (i + 1) ss) p.0 ∙ none_starts k (i + 1) (s.start + 260) ss h.1 (omega (arith, h.0, l))
-]
-
 pub record Starts (k i : ℕ) (ss : List Started) : Type 0 where
   pub past : List Started
   pub s : Started
@@ -130,7 +115,7 @@ starts_one k i x (s ∷ ss) h = elim (eqb_tells s.start k) [
   | inl p ↦
       let zero_more : i ≡ i + 0 = omega arith in
       let here = ap (λ b. (if b then report.Section i k s.section.kind ∷ [] else []) ++ starts_at k (i + 1) ss) p.0 in
-      let rest = none_starts k (i + 1) (s.start + 260) ss h.1 (omega (arith, p.1)) in
+      let rest = none_at k (i + 1) (s.start + 260) ss h.1 (omega (arith, p.1)) in
       inr (record { past = []; s = s; later = ss; cut = refl; start = p.1; line = here ∙ ap (λ z. report.Section i k s.section.kind ∷ z) rest ∙ ap (λ n. report.Section n k s.section.kind ∷ []) zero_more })
   | inr p ↦
       let here = ap (λ b. (if b then report.Section i k s.section.kind ∷ [] else []) ++ starts_at k (i + 1) ss) p.0 in
@@ -159,7 +144,7 @@ between_starts k i x [] s later h low high =
     behind [] h n = refl
     behind (y ∷ later) h n = elim (eqb_tells y.start k) [
       | inl p ↦ absurd (omega (arith, n, p.1))
-      | inr p ↦ ap (λ b. (if b then report.Section (i + 1) k y.section.kind ∷ [] else []) ++ starts_at k (i + 1 + 1) later) p.0 ∙ none_starts k (i + 1 + 1) (y.start + 260) later h.1 (omega (arith, n))
+      | inr p ↦ ap (λ b. (if b then report.Section (i + 1) k y.section.kind ∷ [] else []) ++ starts_at k (i + 1 + 1) later) p.0 ∙ none_at k (i + 1 + 1) (y.start + 260) later h.1 (omega (arith, n))
     ]
 between_starts k i x (y ∷ past) s later h low high =
     let late = start_low (y.start + 260) past s later h.1 in

@@ -1,11 +1,7 @@
 -- The further clock lines of a report, as a log tells them.
 use Rattle.std.proofs.Common.{◌≡◌, ◌∙◌, ℕ, ◌-◌, ◌/◌, ◌^◌, ◌<◌, ◌≤◌, Bool, true, false, List, [], ◌∷◌, ◌++◌, length, map, ap, sym, refl, subst, arith, inl, inr}
 use Rattle.std.specs.Prelude.{◌==◌, min, if◌then◌else◌}
-use Rattle.std.proofs.lemmas.Bool.Decides.{eqb_tells}
-use Rattle.plan_types.specs.declared.machine.Machine.{Machine}
-use Rattle.plan_types.specs.declared.plan.Held.{Held}
-use Rattle.plan_types.specs.Clock.{turn_ns}
-use Rattle.report_text.specs.declared.line.ReportLine.{ReportLine}
+use Rattle.laws_board.proofs.Names.{eqb_tells, Machine, Held, turn_ns, ReportLine}
 use Rattle.report_text.specs.declared.line.ReportLine.TheVariants as report
 use Rattle.host_reactor.specs.Report.{turn_at}
 use Rattle.log_check.specs.declared.further.Further.{Further}
@@ -44,7 +40,7 @@ abbrev pub HaveTurns : List Held → Type 0
 HaveTurns [] = Unit {0}
 HaveTurns (h ∷ held) = (h.line.at / turn_ns < 2 ^ 64) × HaveTurns held
 
-least : (n : ℕ) → n < 2 ^ 64 → min n (2 ^ 64 - 1) ≡ n
+pub least : (n : ℕ) → n < 2 ^ 64 → min n (2 ^ 64 - 1) ≡ n
 least n low = omega (arith, low)
 
 held_furthers : (b : ℕ) (held : List Held) → HaveTurns held → further_told (map logged (held_lines b held)) ≡ held_told b held

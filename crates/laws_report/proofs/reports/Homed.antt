@@ -1,25 +1,13 @@
 -- The report of a run in which axes home checks.
 use Rattle.std.proofs.Common.{Option, Ok, ◌≡◌, ◌≢◌, ◌∙◌, ◌⊎◌, inl, inr, ℕ, zero, suc, ◌+◌, ◌<◌, ◌≤◌, Bool, true, false, List, [], ◌∷◌, ◌++◌, length, map, drop, ap, sym, refl, subst, arith, Some, None, append_assoc, append-nil, length-append}
 use Rattle.std.specs.Prelude.{Ok, if◌then◌else◌}
-use Rattle.std.proofs.lemmas.Bool.Decides.{eqb_tells}
-use Rattle.std.proofs.lemmas.Grind.{flat_map-append}
-use Rattle.std.proofs.lemmas.List.{length-map, take-append-drop}
-use Rattle.plan_types.specs.declared.cause.Cause.{Cause}
+use Rattle.laws_board.proofs.Names.{eqb_tells, flat_map-append, length-map, take-append-drop, Cause, Machine, Pulse, Section, SectionKind, Home, Moves, Clocks, IsValidMachine, axis_at, stepper_at, Fits, clocks_at, stepper_plan, AreStarted, Started, ReportLine, Switch}
 use Rattle.plan_types.specs.declared.cause.Cause.TheVariants as cause
-use Rattle.plan_types.specs.declared.machine.Machine.{Machine}
-use Rattle.plan_types.specs.declared.plan.Pulse.{Pulse}
-use Rattle.plan_types.specs.declared.plan.Section.{Section}
-use Rattle.plan_types.specs.declared.plan.SectionKind.{SectionKind}
-use Rattle.plan_types.specs.declared.plan.SectionKind.TheVariants.{Home, Moves}
-use Rattle.plan_types.specs.Lines.{Clocks}
-use Rattle.plan_types.specs.Machines.{IsValidMachine, axis_at, stepper_at}
-use Rattle.plan_types.specs.Plan.{Fits}
-use Rattle.plan_types.specs.Sections.{base_tick, clocks_at, section_end, stepper_plan, is_home}
+use Rattle.plan_types.specs.Sections.{base_tick, section_end, is_home}
 use Rattle.gcode_program.specs.Cuts.{homes}
 use Rattle.gcode_program.specs.Programs.{outcome_of}
 use Rattle.gcode_program.proofs.Homing.{axis_valid}
-use Rattle.motion_work.specs.Seen.{AreStarted, IsPlanned, Started}
-use Rattle.report_text.specs.declared.line.ReportLine.{ReportLine}
+use Rattle.motion_work.specs.Seen.{IsPlanned}
 use Rattle.report_text.specs.declared.line.ReportLine.TheVariants as report
 use Rattle.report_text.specs.Text.{report_text}
 use Rattle.log_text.specs.declared.line.LogLine.{LogLine}
@@ -38,7 +26,7 @@ use Rattle.laws_report.specs.reports.Within.{ready_behind}
 use Rattle.laws_report.proofs.reports.Fewer.{fewer}
 use Rattle.laws_report.proofs.reports.Reading.{lines-read, words-said}
 use Rattle.laws_report.proofs.reports.Retelling.{alike}
-use Rattle.laws_report.proofs.reports.Running.{map-append, onto-append, onto-in-order}
+use Rattle.laws_report.proofs.reports.Running.{map-append, onto-append, onto-in-order, stand-first}
 use Rattle.laws_report.proofs.reports.Shortening.{AreShownShort, short-lines}
 use Rattle.laws_board.proofs.sections.Lists.{cuts}
 use Rattle.laws_board.specs.plans.Lines.{head_in, heads_of, pulse_in, pulses_of}
@@ -50,7 +38,6 @@ use Rattle.laws_run.specs.run_lines.Due.{begun_lines}
 use Rattle.laws_run.specs.run_limits.Limits.{AreLow}
 use Rattle.laws_run.specs.home_headline.Cuts.{cuts_of}
 use Rattle.laws_run.proofs.home_wholes.Axes.{HasAxis, HaveAxes, have_axes}
-use Rattle.wire_scene.specs.declared.scene.Switch.{Switch}
 use Rattle.laws_report.specs.reports.Checks.{check_cause}
 use Rattle.laws_report.specs.reports.Cuts.{IsCutOf, cuts_in, lines_before, scene_line}
 use Rattle.laws_report.specs.reports.Headline.{section_kind, moves_of, plan_by}
@@ -61,7 +48,6 @@ use Rattle.laws_report.proofs.reports.Inside.{kind_at, section_here, turn_front}
 use Rattle.laws_report.specs.reports.Stands.{IsPlannedAlike}
 use Rattle.laws_report.proofs.reports.Bridging.{AreDue, IsCutOrNot, IsOneCut, fits-same, head-behind, head-pulses, head-shown, head-turn}
 use Rattle.laws_report.proofs.reports.Checking.{cut-checks}
-use Rattle.laws_report.proofs.reports.Ends.{section_end-after}
 use Rattle.laws_report.proofs.reports.Limits.{AreSmall, HaveLongCuts, KeepLimits}
 use Rattle.laws_report.proofs.reports.Low.{AreNumbered, Facts, IsDue, keep_by, numbered_begun, shorts_of, shown_turn, turn_low}
 use Rattle.laws_report.proofs.reports.Shorts.{told_timed}
@@ -70,6 +56,8 @@ use Rattle.laws_report.proofs.reports.Standing.{AreAllKinds, apart_heads, are_be
 use Rattle.laws_report.specs.page.Log.{Follows, SaysLog, StartsOnTime, TellsPulseOf, board_turn, log_of}
 use Rattle.laws_report.proofs.page.Front.{in_order_append, in_order_twice, AreFronted, all-follows, all-start, lines-follow}
 use Rattle.laws_report.proofs.page.Going.{Ahead, AreOf, IsShown, goes-on}
+use Rattle.motion_stream.proofs.ByKind.{moves_kind}
+use Rattle.motion_work.proofs.Turning.{end_after}
 
 -- the sections of a text do what a log may tell
 abbrev HaveKinds : List Section → Type 0
@@ -91,10 +79,6 @@ begun_kinds i (s ∷ begun) kinds = (kinds.0, begun_kinds (i + 1) begun kinds.1)
 -- whether a section of a text homes
 abbrev homes_at : List Section → ℕ → Bool
 homes_at sections j = is_home (section_kind sections j)
-
-uncut_moves : (k : SectionKind) → is_home k ≡ false → k ≡ Moves
-uncut_moves Moves e = refl
-uncut_moves (Home axis) e = cc
 
 -- each section is due behind the one before
 next_due : (m : Machine) (clocks : List Clocks) (k : SectionKind) (s : Started) → IsPlanned k m clocks s → ready_behind (is_home k) s.start (section_end m clocks s.section.moves s.start) ≤ s.end + 260
@@ -135,7 +119,7 @@ begun_when m clocks first i ready (s ∷ begun) j turn low started e =
     ]
   where
     order_of : (m : Machine) (clocks : List Clocks) (k : SectionKind) (s : Started) → IsPlanned k m clocks s → s.start ≤ s.end
-    order_of m clocks Moves s planned = let end = planned.end in let after = section_end-after m clocks s.section.moves s.start in omega (arith, end, after)
+    order_of m clocks Moves s planned = let end = planned.end in let after = end_after m clocks s.section.moves s.start in omega (arith, end, after)
     order_of m clocks (Home axis) s planned = planned.late
 
 -- a section that is shown has a small number
@@ -266,10 +250,6 @@ told_pulse m b lines told t =
     pulse_among m lines (in_order t.before) (in_order t.later) t.s t.tick t.up told
     (sym (in_order_twice (map logged lines)) ∙ ap in_order t.are ∙ in_order_append t.later (p ∷ t.before) ∙ append_assoc (in_order t.before) (p ∷ []) (in_order t.later))
 
-stand_first : (m : Machine) (before xs ys : List LogLine) → AllMayStand m before (xs ++ ys) → AllMayStand m before xs × AllMayStand m (onto xs before) ys
-stand_first m before [] ys stand = (tt, stand)
-stand_first m before (x ∷ xs) ys stand = (let rest = stand_first m (x ∷ before) xs ys stand.1 in ((stand.0, rest.0), rest.1))
-
 run_behind : (m : Machine) (xs ys : List ReportLine) → AreOfRun m (xs ++ ys) → AreOfRun m ys
 run_behind m [] ys of = of
 run_behind m (x ∷ xs) ys of = run_behind m xs ys of.1
@@ -290,7 +270,7 @@ heads_first b (x ∷ xs) ys heads = absurd heads
 pub none_first : (m : Machine) (xs ys : List ReportLine) → ShowsNone m (xs ++ ys) → ShowsNone m xs
 none_first m xs ys shows = record {
   of_run = run_first m xs ys shows.of_run;
-  may = (stand_first m [] (map logged xs) (map logged ys) (subst (λ (l : List LogLine). AllMayStand m [] l) (map-append xs ys) shows.may)).0;
+  may = (stand-first m [] (map logged xs) (map logged ys) (subst (λ (l : List LogLine). AllMayStand m [] l) (map-append xs ys) shows.may)).0;
   heads = heads_first 0 xs ys shows.heads;
 }
 
@@ -513,7 +493,7 @@ module _ (m : Machine) (switches : List Switch) (text : List ℕ) (c : Cause) (s
   unfolding facts
   same_plan j turn e is why =
       let over = shows.over j turn e is why in
-      let after = section_end-after m shows.clocks (moves_of Text j) turn in
+      let after = end_after m shows.clocks (moves_of Text j) turn in
       fewer m short.short shows.clocks (moves_of Text j) turn shows.last valid (shows.sound 0 first.0 first.1).kept (λ b h. short-lines m shows.clocks short.short (further_told (map logged said)) shows.last b (short.each b h)) (omega (arith, over, after)) (omega (arith, over))
 
   limits : KeepLimits m short.short shows.ready Text said
@@ -555,15 +535,15 @@ module _ (m : Machine) (switches : List Switch) (text : List ℕ) (c : Cause) (s
             let a = same j at e in
             subst (λ (ps : List Pulse). Fits (clocks_at Told_lines (stepper_at m s).board).first.freq (base_tick m Told_lines at s) ps (stepper_plan m Told_lines (moves_of Text j) at s)) (pulses_are j s)
             (fits-same (pulses_in j s said) (a.freq s) (a.base s) (a.steps s) (follows j at s (turns j ∙ e) inside));
-        ends = λ j at after late e f home. (same j at e).end ∙ (same_plan j at (turns j ∙ e) (uncut_moves (section_kind Text j) home) (inl (after, next j after f))).end;
-        uncut = λ j at late e home. sym (cuts_are j) ∙ uncut_at j at (turns j ∙ e) (uncut_moves (section_kind Text j) home);
+        ends = λ j at after late e f home. (same j at e).end ∙ (same_plan j at (turns j ∙ e) (moves_kind (section_kind Text j) home) (inl (after, next j after f))).end;
+        uncut = λ j at late e home. sym (cuts_are j) ∙ uncut_at j at (turns j ∙ e) (moves_kind (section_kind Text j) home);
         one = λ j at late e. subst (λ (z : List ReportLine). (z ≡ []) ⊎ IsOneCut j z) (cuts_are j) (one_at j at (turns j ∙ e));
         ended = λ j at late e why home none.
             let one = ended_at j at (turns j ∙ e) (why_so j why) home in
             let g : [] ≡ report.Cut j one.0 one.1 one.2 one.3 ∷ [] = sym (cuts_are j ∙ none) ∙ one.4 in
             cc;
         whole = λ j at s late e home inside why.
-            let is = uncut_moves (section_kind Text j) home in
+            let is = moves_kind (section_kind Text j) home in
             let shown_so : GoesThrough c ⊎ IsShown (suc j) From = elim why [ inl g ↦ inl g | inr x ↦ inr x.0 ] in
             let plans = same_plan j at (turns j ∙ e) is (why_so j shown_so) in
             let count : length (pulses_in j s said) ≡ length (plan_by shows.clocks m Text j at s) = elim why [
@@ -591,7 +571,7 @@ module _ (m : Machine) (switches : List Switch) (text : List ℕ) (c : Cause) (s
       let fs = further_told (map logged said) in
       let head = map logged a.head in
       let parted : map logged said ≡ head ++ map logged From = ap (map logged) a.are ∙ map-append a.head From in
-      let stands = stand_first m [] head (map logged From) (subst (λ (l : List LogLine). AllMayStand m [] l) parted short.may) in
+      let stands = stand-first m [] head (map logged From) (subst (λ (l : List LogLine). AllMayStand m [] l) parted short.may) in
       let of = run_behind m a.head From (subst (λ (z : List ReportLine). AreOfRun m z) a.are of_said) in
       let told_is : clocks m fs (onto head []) ≡ Told_lines = ap (clocks m fs) (onto-in-order head [] ∙ append-nil (in_order head)) ∙ short.lines_told in
       let boards : length Told_lines ≡ length m.boards = length-map short.short (retold shows.ready) ∙ short.have.boards in
@@ -619,7 +599,7 @@ module _ (m : Machine) (switches : List Switch) (text : List ℕ) (c : Cause) (s
       let parted = ap (map logged) cut ∙ map-append xs ys in
       record {
         of_run = run_first m xs ys (subst (λ (z : List ReportLine). AreOfRun m z) cut of_said);
-        may = (stand_first m [] (map logged xs) (map logged ys) (subst (λ (l : List LogLine). AllMayStand m [] l) parted short.may)).0;
+        may = (stand-first m [] (map logged xs) (map logged ys) (subst (λ (l : List LogLine). AllMayStand m [] l) parted short.may)).0;
         heads = elim (cuts a.head From xs ys (sym a.are ∙ cut)) [
           | inl p ↦ behind a.head p.0 xs ys p.1 p.2 facts.heads none
           | inr p ↦ heads_first 0 xs (p.0 ∷ p.1) (subst (λ (z : List ReportLine). AreHeads 0 z) p.2 facts.heads)
@@ -669,4 +649,4 @@ module _ (m : Machine) (switches : List Switch) (text : List ℕ) (c : Cause) (s
         let order = stands true m shows.clocks shows.ready shows.last Text said valid kinds_are f.apart heads f.sound f.boards told short limits planned_alike in
         let Due : List Section → Type 0 = λ z. AreDue m shows.clocks (homes_at Text) shows.ready 0 z (begun_lines 0 shows.begun) in
         let Shown : List ReportLine → Type 0 = λ z. AreDue m shows.clocks (homes_at Text) shows.ready 0 Text z in
-        cut-checks m text shows.clocks (homes_at Text) shows.ready said c names shows.prefix (λ j turn s e uncut inside. whole j turn s e (uncut_moves (section_kind Text j) uncut) inside) cut_or_not (subst Shown (sym begun_all) (subst Due (shows.all through).0 due)) order on
+        cut-checks m text shows.clocks (homes_at Text) shows.ready said c names shows.prefix (λ j turn s e uncut inside. whole j turn s e (moves_kind (section_kind Text j) uncut) inside) cut_or_not (subst Shown (sym begun_all) (subst Due (shows.all through).0 due)) order on

@@ -1,15 +1,9 @@
 -- What the lines of a run over links show of a text whose axes may home, by the boards' clock lines as its planner heard them.
 use Rattle.std.specs.Prelude.{◌≡◌, ◌≢◌, ◌⊎◌, [], ℕ, ◌+◌, ◌<◌, List, ◌++◌, length, map, take, Some}
 use Rattle.gcode_program.specs.Programs.{program_end}
-use Rattle.plan_types.specs.declared.cause.Cause.{Cause}
-use Rattle.plan_types.specs.declared.machine.Machine.{Machine}
-use Rattle.plan_types.specs.declared.plan.SectionKind.TheVariants.{Moves}
-use Rattle.plan_types.specs.Lines.{Clocks}
-use Rattle.plan_types.specs.Sections.{clocks_at, section_end}
-use Rattle.report_text.specs.declared.line.ReportLine.{ReportLine}
-use Rattle.wire_scene.specs.declared.scene.Switch.{Switch}
+use Rattle.laws_board.proofs.Names.{Cause, Machine, Moves, Clocks, clocks_at, ReportLine, Switch, AreStarted, Started, Section, stepper_at}
+use Rattle.plan_types.specs.Sections.{section_end}
 use Rattle.section_feed.specs.Fewer.{AreFirstLines}
-use Rattle.motion_work.specs.Seen.{AreStarted, Started}
 use Rattle.laws_run.specs.run_ends.Ends.{GoesThrough}
 use Rattle.laws_run.specs.run_headline.Further.{AreNamed, BoardsFirst, TellsFurther}
 use Rattle.laws_run.specs.run_headline.Timely.{AreSound}
@@ -20,8 +14,6 @@ use Rattle.laws_report.specs.reports.Headline.{section_kind, moves_of, plan_by}
 use Rattle.laws_report.specs.reports.Promises.{FollowsPlanBy, lines_line, sections_over}
 use Rattle.laws_report.specs.reports.Shown.{lines_behind, pulses_in, section_turn, sections_shown}
 use Rattle.laws_board.specs.plans.Lines.{pulses_of}
-use Rattle.plan_types.specs.declared.plan.Section.{Section}
-use Rattle.plan_types.specs.Machines.{stepper_at}
 
 -- Whole, of the sections of moves among others: there are as many of them as planned steps.
 abbrev pub IsCompleteOfMovesBy : List Clocks → Machine → List Section → List ReportLine → Type 0

@@ -2,36 +2,17 @@
 use Rattle.std.proofs.Common.{◌≡◌, ◌≢◌, ◌∙◌, ℕ, true, false, ◌+◌, ◌<◌, ◌^◌, All, List, [], ◌∷◌, ◌++◌, length, Option, Some, None, ap, sym, refl, subst, arith, append-nil, inl, inr, length-append, map}
 use Rattle.std.proofs.Math.Logic.{∥∥₁_elim}
 use Rattle.std.proofs.Props.{props}
-use Rattle.std.proofs.lemmas.Grind.{flat_map-append}
-use Rattle.std.proofs.lemmas.List.{length-map}
+use Rattle.laws_board.proofs.Names.{flat_map-append, length-map, Cause, Machine, tick, Clocks, IsValidMachine, ReportLine, reacts, Known, news_of, noted, first_lines, Came, known_by, Started, Told, MotionTurn, ReactorTurn, gather, Scene, Switch}
 use Rattle.io_core.specs.declared.traits.Files.{Ghosts as Files}
 use Rattle.io_core.specs.declared.traits.Sink.{Ghosts as Sink}
-use Rattle.plan_types.specs.declared.cause.Cause.{Cause}
 use Rattle.plan_types.specs.declared.cause.Cause.TheVariants as cause
-use Rattle.plan_types.specs.declared.machine.Machine.{Machine}
-use Rattle.plan_types.specs.Clock.{tick}
-use Rattle.plan_types.specs.Lines.{Clocks}
-use Rattle.plan_types.specs.Machines.{IsValidMachine}
-use Rattle.report_text.specs.declared.line.ReportLine.{ReportLine}
 use Rattle.report_text.specs.declared.line.ReportLine.TheVariants as report
 use Rattle.report_text.specs.Text.{report_text}
 use Rattle.laws_report.specs.reports.Further.{further_told}
 use Rattle.laws_report.specs.reports.Logged.{logged}
-use Rattle.host_reactor.specs.Reactor.{reacts}
-use Rattle.host_reactor.specs.declared.ordered.Known.{Known}
-use Rattle.host_reactor.specs.Notes.{news_of, noted}
-use Rattle.host_reactor.specs.Report.{first_lines}
-use Rattle.host_reactor.specs.Runs.{Came, known_by}
-use Rattle.motion_work.specs.Seen.{Started}
-use Rattle.motion_work.specs.Told.{Told}
 use Rattle.session_lanes.specs.declared.near.LinkLog.{LinkLog}
-use Rattle.session_work.specs.declared.table.MotionTurn.{MotionTurn}
-use Rattle.session_work.specs.declared.table.ReactorTurn.{ReactorTurn}
-use Rattle.session_work.specs.Rows.{gather}
 use Rattle.session_run.specs.Boards.{AreReactorTurns, came_from, came_in}
 use Rattle.session_run.specs.Reported.{IsReported}
-use Rattle.wire_scene.specs.declared.scene.Scene.{Scene}
-use Rattle.wire_scene.specs.declared.scene.Switch.{Switch}
 use Rattle.laws_board.specs.plans.Lines.{head_in, heads_of}
 use Rattle.laws_board.specs.plans.Planned.{AreToldBy, Plans, PlannerInput, put_of}
 use Rattle.laws_board.proofs.plans.Spreading.{plans_spread}
@@ -46,7 +27,7 @@ use Rattle.laws_run.proofs.run_headline.Runs.{facts}
 use Rattle.laws_run.proofs.run_headline.Showing.{Facts, few, turns_cut, untold_alone}
 use Rattle.laws_run.proofs.run_headline.Telling.{first_told, reacts_told}
 use Rattle.laws_run.specs.run_lines.Due.{begun_lines}
-use Rattle.laws_run.proofs.run_lines.Heads.{first_heads}
+use Rattle.laws_run.proofs.run_lines.Heads.{first_heads, gather_lines}
 use Rattle.laws_run.specs.run_causes.Unanswered.{GaveNoAnswer}
 use Rattle.laws_run.specs.home_headline.Cuts.{cuts_of}
 use Rattle.laws_run.specs.home_headline.Follow.{AllShowHomes, ShowHomes}
@@ -55,7 +36,7 @@ use Rattle.laws_board.specs.causes.Short.{HaveShortDictionaries}
 use Rattle.laws_run.specs.run_limits.Limits.{AreLow, DriftsLow, start_limit}
 use Rattle.laws_run.proofs.run_limits.Early.{heads_low}
 use Rattle.laws_run.proofs.run_limits.Drifts.{drifts_low}
-use Rattle.laws_run.proofs.run_limits.Keeping.{gather_both, low_of, ready_by}
+use Rattle.laws_run.proofs.run_limits.Keeping.{low_of, ready_by}
 use Rattle.laws_run.proofs.run_limits.Ticks.{lines_low}
 use Rattle.laws_report.specs.reports.Checks.{check_cause}
 use Rattle.laws_report.proofs.reports.Homes.{ShowsHomes}
@@ -106,7 +87,7 @@ module _ (m : Machine) (v : IsValidMachine m) (s : Scene) (ts : List MotionTurn)
         let told = shows.boards some in
         let lines = λ (z : List ReactorTurn). gather (λ (t : ReactorTurn). t.lines) z in
         let count = (shows.sound some).clocks_are.count in
-        let cut = ap boards_of (ap lines told.are ∙ gather_both told.past told.later) ∙ flat_map-append board_in (lines told.past) (lines told.later) ∙ ap (λ z. boards_of (lines told.past) ++ z) told.rest ∙ append-nil (boards_of (lines told.past)) ∙ told.lines in
+        let cut = ap boards_of (ap lines told.are ∙ gather_lines told.past told.later) ∙ flat_map-append board_in (lines told.past) (lines told.later) ∙ ap (λ z. boards_of (lines told.past) ++ z) told.rest ∙ append-nil (boards_of (lines told.past)) ∙ told.lines in
         subst AreLow (sym cut)
         (lines_low (ready_heard p.seen.told) 0 (clocks_heard p.seen.told) (ready_by m (clocks_heard p.seen.told) (ready_heard p.seen.told) p.seen.begun shows.started some early) (λ i lt. (timed i (omega (arith, lt, count))).low))
 

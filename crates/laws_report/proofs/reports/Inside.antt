@@ -1,23 +1,10 @@
 -- The cut lines of a run over links stand in the sections of which they tell.
 use Rattle.std.proofs.Common.{◌≡◌, ◌≢◌, ℕ, zero, suc, ◌+◌, ◌<◌, ◌≤◌, ◌⊎◌, Bool, true, false, Some, None, Option, List, [], ◌∷◌, ◌++◌, map, take, drop, length, refl, ap, sym, ◌∙◌, subst, arith, inl, inr, append_assoc, append-nil, length-append}
 use Rattle.std.specs.Prelude.{◌-◌, ◌==◌, if◌then◌else◌}
-use Rattle.std.proofs.lemmas.Bool.Decides.{eqb_tells, leb_tells}
-use Rattle.std.proofs.lemmas.Grind.{flat_map-append}
+use Rattle.laws_board.proofs.Names.{eqb_tells, leb_tells, flat_map-append, length-map, Cause, Machine, Section, SectionKind, Home, Moves, axis_at, ReportLine, Switch, machine_line, cut_line, Started, ReactorTurn}
 use Rattle.std.proofs.Math.Seq.{get_or-append_seam}
-use Rattle.std.proofs.lemmas.List.{length-drop, length-map, length-take-le}
-use Rattle.plan_types.specs.declared.cause.Cause.{Cause}
-use Rattle.plan_types.specs.declared.machine.Machine.{Machine}
-use Rattle.plan_types.specs.declared.plan.Section.{Section}
-use Rattle.plan_types.specs.declared.plan.SectionKind.{SectionKind}
-use Rattle.plan_types.specs.declared.plan.SectionKind.TheVariants.{Home, Moves}
-use Rattle.plan_types.specs.Machines.{axis_at}
-use Rattle.report_text.specs.declared.line.ReportLine.{ReportLine}
+use Rattle.std.proofs.lemmas.List.{length-drop, length-take-le}
 use Rattle.report_text.specs.declared.line.ReportLine.TheVariants as report
-use Rattle.wire_scene.specs.declared.scene.Switch.{Switch}
-use Rattle.host_reactor.specs.Report.{machine_line}
-use Rattle.host_reactor.specs.Reactor.{cut_line}
-use Rattle.motion_work.specs.Seen.{Started}
-use Rattle.session_work.specs.declared.table.ReactorTurn.{ReactorTurn}
 use Rattle.laws_board.specs.sections.Boards.{NextStart}
 use Rattle.laws_board.specs.plans.Boards.{times_of}
 use Rattle.laws_board.specs.plans.Lines.{TellTurns, head_in, heads_of, starts_at}
@@ -27,15 +14,17 @@ use Rattle.laws_run.specs.run_lines.Due.{begun_lines}
 use Rattle.laws_board.specs.plans.Rows.{AreInARow}
 use Rattle.laws_board.proofs.plans.Rows.{Among, row_from, row_later, row_past}
 use Rattle.laws_run.specs.home_headline.Cuts.{EndsIn, TellEnds, TellsSwitch, cut_in, cuts_of}
-use Rattle.laws_run.proofs.home_headline.Ended.{cut_same}
+use Rattle.laws_run.proofs.home_headline.Ended.{cut_same, home_is}
 use Rattle.laws_report.specs.reports.Cuts.{HaveCuts, IsCutOf, cuts_in, lines_before, scene_line}
 use Rattle.plan_types.specs.Sections.{no_section}
 use Rattle.laws_report.specs.reports.Headline.{section_kind}
 use Rattle.laws_report.specs.reports.Shown.{begins, lines_behind, section_turn}
 use Rattle.log_check.specs.Points.{section_at}
 use Rattle.laws_report.proofs.reports.Behind.{AreNumbered, behind_past, next_begun}
-use Rattle.laws_report.proofs.reports.Followed.{NextAt, Starts, ahead, between_starts, lines_of, no_head, no_machine, none_starts, quiet, shown, starts_one}
+use Rattle.laws_report.proofs.reports.Followed.{NextAt, Starts, ahead, between_starts, lines_of, no_head, no_machine, quiet, shown, starts_one}
 use Rattle.laws_board.proofs.sections.Lists.{one_place}
+use Rattle.laws_run.proofs.run_lines.Further.{left_none}
+use Rattle.laws_run.proofs.run_headline.Facts.{none_at}
 
 -- a line that begins no section, before others
 before_step : (l : ReportLine) (ls : List ReportLine) → head_in l ≡ [] → lines_before (l ∷ ls) ≡ l ∷ lines_before ls
@@ -74,7 +63,7 @@ cuts_at_start m k i turn kind rest =
 -- the line of a section in the turn of its start
 starts_here : (k i x : ℕ) (past : List Started) (s : Started) (later : List Started) → Spread x (past ++ s ∷ later) → s.start ≡ k → starts_at k i (past ++ s ∷ later) ≡ report.Section (i + length past) k s.section.kind ∷ []
 starts_here k i x [] s later h e =
-    let rest = none_starts k (i + 1) (s.start + 260) later h.1 (omega (arith, e)) in
+    let rest = none_at k (i + 1) (s.start + 260) later h.1 (omega (arith, e)) in
     let number : i ≡ i + 0 = omega arith in
     elim (eqb_tells s.start k) [
       | inl p ↦ ap (λ b. (if b then report.Section i k s.section.kind ∷ [] else []) ++ starts_at k (i + 1) later) p.0 ∙ ap (λ z. report.Section i k s.section.kind ∷ z) rest ∙ ap (λ n. report.Section n k s.section.kind ∷ []) number
@@ -288,9 +277,6 @@ module _ (m : Machine) (switches : List Switch) (begun : List Started) where
         (c.0, cuts_both t.lines (lines_of ts) ∙ ap (λ z. z ++ cuts_of (lines_of ts)) x.lines_are ∙ c.1)
   ]
 
-home_same : (a b : ℕ) → Home a ≡ Home b → a ≡ b
-home_same a b e = cc
-
 -- all turns of a run
 module _ (m : Machine) (switches : List Switch) (begun : List Started) (spread : Spread 260 begun) (at : ℕ) (row : AreInARow at begun) (ts : List ReactorTurn) (tells : TellTurns m begun 0 ts) (ends : TellEnds m switches begun 0 ts) where
   Row : List Started → Type 0
@@ -352,7 +338,7 @@ module _ (m : Machine) (switches : List Switch) (begun : List Started) (spread :
         only = λ j number a low high e.
             let same = among_turns past s later (s.start + x.many) j number a cut x.next low (omega (arith, high, long)) e in (
               e.number_is ∙ sym same.0,
-              home_same a axis (sym e.home ∙ ap (λ (z : Started). z.section.kind) (sym same.1) ∙ home),
+              home_is a axis (sym e.home ∙ ap (λ (z : Started). z.section.kind) (sym same.1) ∙ home),
               sym e.end ∙ ap (λ (z : Started). z.end) (sym same.1),
             );
       }
@@ -463,17 +449,13 @@ cuts_front i xs ys = elim (behind_split i xs ys) [
       inr (cuts_of f.0, ap (λ z. cuts_of (lines_before z)) e ∙ ap cuts_of f.1 ∙ cuts_both (lines_before (lines_behind i xs)) f.0)
 ]
 
-first_none : (xs ys : List ReportLine) → xs ++ ys ≡ [] → xs ≡ []
-first_none [] ys e = refl
-first_none (x ∷ xs) ys e = let f : x ∷ (xs ++ ys) ≡ [] = e in cc
-
 first_one : (xs ys : List ReportLine) (l : ReportLine) → xs ++ ys ≡ l ∷ [] → (xs ≡ []) ⊎ (xs ≡ l ∷ [])
 first_one [] ys l e = inl refl
 first_one (x ∷ xs) ys l e =
     let f : x ∷ (xs ++ ys) ≡ l ∷ [] = e in
     let same : x ≡ l = cc in
     let rest : xs ++ ys ≡ [] = cc in
-    inr (ap (λ z. z ∷ xs) same ∙ ap (λ z. l ∷ z) (first_none xs ys rest))
+    inr (ap (λ z. z ∷ xs) same ∙ ap (λ z. l ∷ z) (left_none xs ys rest))
 
 -- the line of the next section stands behind that of a section
 pub some_behind : (i turn : ℕ) (xs : List ReportLine) → section_turn i xs ≡ Some turn → heads_of xs ≢ []
@@ -583,7 +565,7 @@ module _ (m : Machine) (switches : List Switch) (sections more : List Section) (
     before =
         let all = all_before m switches begun spread at row ts tells ends in
         let f = before_front said rest in
-        first_none (cuts_of (lines_before said)) (cuts_of f.0) (sym (ap (λ z. cuts_of (lines_before z)) are ∙ ap cuts_of f.1 ∙ cuts_both (lines_before said) f.0) ∙ all);
+        left_none (cuts_of (lines_before said)) (cuts_of f.0) (sym (ap (λ z. cuts_of (lines_before z)) are ∙ ap cuts_of f.1 ∙ cuts_both (lines_before said) f.0) ∙ all);
     moves = λ i kind. elim (either_at i (section_turn i said) refl) [ inl none ↦ none | inr p ↦ ap (λ (n : ℕ). cuts_in n said) (sym p.place) ∙ moves_at p.past p.s p.later p.cut (own_kind i Moves p kind) ];
     homes = λ i axis kind. elim (either_at i (section_turn i said) refl) [
       | inl none ↦ inl none
@@ -627,7 +609,7 @@ module _ (m : Machine) (switches : List Switch) (sections more : List Section) (
       moves_at : (past : List Started) (s : Started) (later : List Started) → begun ≡ past ++ s ∷ later → s.section.kind ≡ Moves → cuts_in (length past) said ≡ []
       moves_at past s later cut kind = elim (cuts_front (length past) said rest) [
         | inl e ↦ e
-        | inr f ↦ first_none (cuts_in (length past) said) f.0 (sym (ap (cuts_in (length past)) are ∙ f.1) ∙ all_moves m switches begun spread at row ts tells ends past s later cut kind)
+        | inr f ↦ left_none (cuts_in (length past) said) f.0 (sym (ap (cuts_in (length past)) are ∙ f.1) ∙ all_moves m switches begun spread at row ts tells ends past s later cut kind)
       ]
 
       homes_at : (past : List Started) (s : Started) (later : List Started) (axis : ℕ) → begun ≡ past ++ s ∷ later → s.section.kind ≡ Home axis → (cuts_in (length past) said ≡ []) ⊎ IsCutOf m switches (length past) axis (cuts_in (length past) said)
@@ -636,7 +618,7 @@ module _ (m : Machine) (switches : List Switch) (sections more : List Section) (
         | inr f ↦
             let same = sym (ap (cuts_in (length past)) are ∙ f.1) in
             elim (all_homes m switches begun spread at row ts tells ends past s later axis cut home) [
-              | inl e ↦ inl (first_none (cuts_in (length past) said) f.0 (same ∙ e))
+              | inl e ↦ inl (left_none (cuts_in (length past) said) f.0 (same ∙ e))
               | inr o ↦ elim (first_one (cuts_in (length past) said) f.0 (report.Cut (length past) (axis_at m axis).board (axis_at m axis).pin o.0 (scene_line m switches axis o.0)) (same ∙ o.1)) [ inl e ↦ inl e | inr e ↦ inr (o.0, e) ]
             ]
       ]

@@ -1,37 +1,21 @@
 -- The report of a run over links follows the plans.
 use Rattle.std.proofs.Common.{take-append-drop, ◌≡◌, ◌≢◌, ℕ, zero, suc, ◌+◌, ◌<◌, ◌≤◌, ◌⊎◌, Bool, true, false, All, List, [], ◌∷◌, ◌++◌, get_or, map, take, drop, length, Some, None, refl, ap, sym, ◌∙◌, subst, arith, inl, inr, append_assoc, append-nil}
-use Rattle.std.proofs.Math.Logic.{∥∥₁_elim, ∥∥₁_map}
+use Rattle.laws_board.proofs.Names.{∥∥₁_map, length-map, All-head, All-tail, Cause, Machine, Planned, Pulse, ReadStop, Section, SectionKind, Moves, Clocks, IsValidMachine, stepper_at, Fits, clocks_at, stepper_plan, ReportLine, Scene, Switch, AreStarted, Started, ReactorTurn, gather, IsOwn, flat_map-append}
+use Rattle.std.proofs.Math.Logic.{∥∥₁_elim}
 use Rattle.std.proofs.Props.{props}
 use Rattle.std.specs.Prelude.{◌-◌, ◌==◌, if◌then◌else◌}
-use Rattle.std.proofs.lemmas.List.{length-append, length-drop, length-map, length-take-le, take-take, take_all}
-use Rattle.std.proofs.lemmas.List.Elements.{All-head, All-tail}
-use Rattle.plan_types.specs.declared.cause.Cause.{Cause}
+use Rattle.std.proofs.lemmas.List.{length-append, length-drop, length-take-le, take-take, take_all}
 use Rattle.plan_types.specs.declared.cause.Cause.TheVariants as cause
-use Rattle.plan_types.specs.declared.machine.Machine.{Machine}
-use Rattle.plan_types.specs.declared.plan.Planned.{Planned}
-use Rattle.plan_types.specs.declared.plan.Pulse.{Pulse}
-use Rattle.plan_types.specs.declared.plan.ReadStop.{ReadStop}
 use Rattle.plan_types.specs.declared.plan.ReadStop.TheVariants as read
-use Rattle.plan_types.specs.declared.plan.Section.{Section}
-use Rattle.plan_types.specs.declared.plan.SectionKind.{SectionKind}
-use Rattle.plan_types.specs.declared.plan.SectionKind.TheVariants.{Moves}
-use Rattle.plan_types.specs.Lines.{Clocks}
-use Rattle.plan_types.specs.Machines.{IsValidMachine, stepper_at}
-use Rattle.plan_types.specs.Plan.{Fits}
-use Rattle.plan_types.specs.Sections.{base_tick, clocks_at, stepper_plan, no_section}
+use Rattle.plan_types.specs.Sections.{base_tick, no_section}
 use Rattle.io_core.specs.declared.traits.Files.{Ghosts as Files}
 use Rattle.io_core.specs.declared.traits.Sink.{Ghosts as Sink}
-use Rattle.report_text.specs.declared.line.ReportLine.{ReportLine}
 use Rattle.report_text.specs.declared.line.ReportLine.TheVariants as report
 use Rattle.gcode_program.specs.Programs.{program_end, program_sections}
-use Rattle.wire_scene.specs.declared.scene.Scene.{Scene}
-use Rattle.wire_scene.specs.declared.scene.Switch.{Switch}
 use Rattle.host_reactor.specs.Running.{text_end}
-use Rattle.motion_work.specs.Seen.{AreStarted, IsPlanned, Started}
+use Rattle.motion_work.specs.Seen.{IsPlanned}
 use Rattle.session_lanes.specs.declared.near.LinkLog.{LinkLog}
 use Rattle.section_feed.specs.Fewer.{AreFirstLines}
-use Rattle.session_work.specs.declared.table.ReactorTurn.{ReactorTurn}
-use Rattle.session_work.specs.Rows.{gather}
 use Rattle.session_work.proofs.Goes.{gather_on}
 use Rattle.session_run.specs.declared.read.ReadStop.{ReadStop as DeskStop}
 use Rattle.session_run.specs.declared.read.ReadStop.TheVariants as stop
@@ -44,7 +28,6 @@ use Rattle.laws_board.proofs.plans.Spreading.{plans_spread}
 use Rattle.laws_board.specs.sections.Boards.{IsWindow, NextStart}
 use Rattle.laws_run.specs.run_headline.Timely.{AreOfMoves, clocks_heard, ready_heard}
 use Rattle.laws_run.specs.run_ends.Ends.{GoesThrough}
-use Rattle.host_reactor.specs.Rows.{IsOwn}
 use Rattle.laws_run.specs.run_headline.Made.{IsNamed}
 use Rattle.laws_run.proofs.run_headline.Cutting.{run_silent}
 use Rattle.laws_run.proofs.run_headline.Making.{run_made}
@@ -62,7 +45,6 @@ use Rattle.laws_run.proofs.run_headline.Runs.{facts, run_ended, run_names, run_n
 use Rattle.laws_run.proofs.run_headline.Showing.{cut_last}
 use Rattle.laws_run.proofs.home_headline.Cuts.{run_answers}
 use Rattle.laws_run.proofs.home_headline.Read.{run_reads}
-use Rattle.std.proofs.lemmas.Grind.{flat_map-append}
 use Rattle.plan_types.specs.Sections.{section_end}
 use Rattle.laws_board.specs.plans.Lines.{head_in, heads_of}
 use Rattle.laws_run.specs.run_headline.Further.{TellFurther}
@@ -117,6 +99,9 @@ use Rattle.laws_report.proofs.reports.Behind.{AreNumbered, behind, behind_front,
 use Rattle.laws_report.proofs.reports.Followed.{NextAt, shown}
 use Rattle.laws_report.proofs.reports.Inside.{have_cuts, numbered_begun, some_behind, turn_front}
 use Rattle.laws_run.proofs.run_headline.Facts.{starts_late}
+use Rattle.plan_types.proofs.Facts.{none_some}
+use Rattle.laws_run.proofs.run_headline.Earlier.{over_at}
+use Rattle.laws_report.proofs.reports.Unshown.{shown_heads}
 
 -- the section of a number is that which was begun there
 section_is : (past : List Started) (s : Started) (later : List Started) (sections : List Section) (n : ℕ) → map (λ x. x.section) (past ++ s ∷ later) ≡ take n sections → get_or sections (length past) no_section ≡ s.section
@@ -135,10 +120,6 @@ next_before n (y ∷ later) to e h = omega (arith, e, h)
 apart_by : (m : Machine) (clocks : List Clocks) (ready : ℕ) (past : List Started) (s y : Started) (later : List Started) → AreStarted m clocks ready (past ++ s ∷ y ∷ later) → s.end + 260 ≤ y.start
 apart_by m clocks ready [] s y later h = let start = h.1.0.start in omega (arith, start)
 apart_by m clocks ready (x ∷ past) s y later h = apart_by m clocks (x.end + 260) past s y later h.1
-
-over_at : (k : ℕ) (past : List Started) (s : Started) (later : List Started) → All (λ x. x.end + 5 ≤ k) (past ++ s ∷ later) → s.end + 5 ≤ k
-over_at k [] s later a = All-head (λ (x : Started). x.end + 5 ≤ k) s later a
-over_at k (x ∷ past) s later a = over_at k past s later (All-tail (λ (y : Started). y.end + 5 ≤ k) x (past ++ s ∷ later) a)
 
 -- one of some sections is planned
 planned_at : (m : Machine) (clocks : List Clocks) (ready : ℕ) (past : List Started) (s : Started) (later : List Started) → AreStarted m clocks ready (past ++ s ∷ later) → IsPlanned s.section.kind m clocks s
@@ -316,22 +297,6 @@ moves_front clocks m text xs ys numbered h i turn s other e kind low more same s
     first_none : (ps qs : List Pulse) → ps ++ qs ≡ [] → ps ≡ []
     first_none [] qs e = refl
     first_none (p ∷ ps) qs e = let f : p ∷ (ps ++ qs) ≡ [] = e in cc
-
--- the section lines
-same_heads : (lines : List ReportLine) → sections_shown lines ≡ heads_of lines
-same_heads [] = refl
-same_heads (report.Section section turn kind ∷ lines) = ap (λ z. report.Section section turn kind ∷ z) (same_heads lines)
-same_heads (report.Pulse board stepper tick up ∷ lines) = same_heads lines
-same_heads (report.Machine corexy boards steppers ∷ lines) = same_heads lines
-same_heads (report.Board board freq at tick ∷ lines) = same_heads lines
-same_heads (report.Cut section board pin tick from ∷ lines) = same_heads lines
-same_heads (report.Drift board sent clock from ∷ lines) = same_heads lines
-same_heads (report.Lines accepted passed ∷ lines) = same_heads lines
-same_heads (report.Out board pin tick on ∷ lines) = same_heads lines
-same_heads (report.Fit section stepper pulses planned early late ∷ lines) = same_heads lines
-same_heads (report.Made seed moves ∷ lines) = same_heads lines
-same_heads (report.Count stepper pulses ∷ lines) = same_heads lines
-same_heads (report.End c ∷ lines) = same_heads lines
 
 -- the numbers of what was read
 first_counts : (a p : ℕ) (rest lines : List ReportLine) → counts_of lines ≡ report.Lines a p ∷ rest → lines_line lines ≡ Some (a, p)
@@ -516,11 +481,11 @@ module _ (m : Machine) (switches : List Switch) (seen : PlannerInput) (clocks : 
     started = h.started;
     sections = (
       heads_of rest ++ front.0,
-      front.1 ∙ ap (λ z. z ++ front.0) both ∙ append_assoc (heads_of said) (heads_of rest) front.0 ∙ ap (λ z. z ++ (heads_of rest ++ front.0)) (sym (same_heads said)),
+      front.1 ∙ ap (λ z. z ++ front.0) both ∙ append_assoc (heads_of said) (heads_of rest) front.0 ∙ ap (λ z. z ++ (heads_of rest ++ front.0)) (sym (shown_heads said)),
     );
     all = λ g.
         let t = h.through (went g) in
-        (t.all ∙ ap (program_sections m) same, same_heads said ∙ ap heads_of (sym (whole g)) ∙ whole_heads m seen clocks ready first later starts t.over);
+        (t.all ∙ ap (program_sections m) same, shown_heads said ∙ ap heads_of (sym (whole g)) ∙ whole_heads m seen clocks ready first later starts t.over);
     cuts = cuts;
     boards = λ i turn e. home_boards m seen clocks ready own first later said rest (show_begun m seen clocks ready own first later h) shown_all (some_behind i turn said e);
     counts = λ g.
@@ -615,11 +580,11 @@ module _ (Keeps : Type 0) (m : Machine) (seen : PlannerInput) (clocks : List Clo
     follows = λ keeps. said_follow m seen clocks ready own text said rest spread same first later (homes keeps) shown_all;
     sections = (
       heads_of rest ++ own_lines.front.0,
-      own_lines.front.1 ∙ ap (λ z. z ++ own_lines.front.0) both ∙ append_assoc (heads_of said) (heads_of rest) own_lines.front.0 ∙ ap (λ z. z ++ (heads_of rest ++ own_lines.front.0)) (sym (same_heads said)),
+      own_lines.front.1 ∙ ap (λ z. z ++ own_lines.front.0) both ∙ append_assoc (heads_of said) (heads_of rest) own_lines.front.0 ∙ ap (λ z. z ++ (heads_of rest ++ own_lines.front.0)) (sym (shown_heads said)),
     );
     all = λ g.
         let all = own_lines.all (went g) in
-        (all.0 ∙ ap (program_sections m) same, same_heads said ∙ ap heads_of (sym (whole g)) ∙ all.1);
+        (all.0 ∙ ap (program_sections m) same, shown_heads said ∙ ap heads_of (sym (whole g)) ∙ all.1);
     boards = λ i turn e. home_boards m seen clocks ready own first later said rest h shown_all (some_behind i turn said e);
     sound = λ i turn e. homes_sound m seen clocks ready own first later said rest h shown_all (some_behind i turn said e);
     counts = λ g.
@@ -666,9 +631,6 @@ module _ (Keeps : Type 0) (m : Machine) (seen : PlannerInput) (clocks : List Clo
     λ i turn e. timed (some_first m clocks ready seen.begun (first ∷ later) said rest b.late b.started b.lines shown_all (some_behind i turn said e)),
   )
 
-no_turn : (turn : ℕ) → None ≡ Some turn → ⊥
-no_turn turn e = cc
-
 -- where nothing was written
 nothing_shown : (Keeps : Type 0) (m : Machine) (text : List ℕ) (c : Cause) → (GoesThrough c → ⊥) → ShowsBegun Keeps m text c []
 nothing_shown Keeps m text c not = record {
@@ -677,17 +639,17 @@ nothing_shown Keeps m text c not = record {
   begun = [];
   of_text = refl;
   started = tt;
-  follows = λ keeps i turn s e low. absurd (no_turn turn e);
+  follows = λ keeps i turn s e low. absurd (none_some turn e);
   sections = ([], refl);
   all = λ g. absurd (not g);
-  boards = λ i turn e. absurd (no_turn turn e);
-  sound = λ i turn e. absurd (no_turn turn e);
+  boards = λ i turn e. absurd (none_some turn e);
+  sound = λ i turn e. absurd (none_some turn e);
   counts = λ g. absurd (not g);
   cause = λ g. absurd (not g);
   last = 0;
-  further = λ i turn e b h. absurd (no_turn turn e);
-  first = λ i turn e. absurd (no_turn turn e);
-  named = λ i turn e. absurd (no_turn turn e);
+  further = λ i turn e b h. absurd (none_some turn e);
+  first = λ i turn e. absurd (none_some turn e);
+  named = λ i turn e. absurd (none_some turn e);
 }
 
 nothing_written : (said rest : List ReportLine) → [] ≡ said ++ rest → said ≡ []
@@ -776,7 +738,7 @@ module _ {F S : Type 0} (f : Files F) (o : Sink S) (m : Machine) (s : Scene) (gc
     | inl memory ↦ elim (cut_last r.runs.runs.1) [
       | inl none ↦
           let At : List ReportLine → Type 0 = λ z. BegunSo (KeepsUp r text) m text c z in
-          ∣ subst At (sym (none_written r memory none)) (nothing_shown (KeepsUp r text) m text c (none_through r memory), λ i turn e. absurd (no_turn turn e)) ∣₁
+          ∣ subst At (sym (none_written r memory none)) (nothing_shown (KeepsUp r text) m text c (none_through r memory), λ i turn e. absurd (none_some turn e)) ∣₁
       | inr x ↦
           let turns = x.0 ++ x.1 ∷ [] in
           let part = run_front f o m s gcode files files' out r.behind r.kept r.kept' r.told r.runs x.0 x.1 x.2 in

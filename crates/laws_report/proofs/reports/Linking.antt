@@ -1,10 +1,8 @@
 -- The report of a run over links checks.
 use Rattle.std.proofs.Common.{◌≡◌, ◌≢◌, ℕ, ◌+◌, ◌≤◌, List, sym, subst, arith, Some}
 use Rattle.gcode_program.specs.Programs.{program_end}
-use Rattle.plan_types.specs.declared.cause.Cause.{Cause}
+use Rattle.laws_board.proofs.Names.{Cause, Machine, ReadStop}
 use Rattle.plan_types.specs.declared.cause.Cause.TheVariants as cause
-use Rattle.plan_types.specs.declared.machine.Machine.{Machine}
-use Rattle.plan_types.specs.declared.plan.ReadStop.{ReadStop}
 use Rattle.plan_types.specs.declared.plan.ReadStop.TheVariants as read
 use Rattle.laws_report.specs.reports.Logged.{IsCauseOn}
 use Rattle.laws_run.specs.run_ends.Ends.{GoesThrough}

@@ -1,23 +1,11 @@
 -- The lines of a run over links keep the limits of a log.
 use Rattle.std.proofs.Common.{◌≡◌, ◌∙◌, ℕ, zero, suc, ◌+◌, ◌-◌, ◌*◌, ◌^◌, ◌<◌, ◌≤◌, Bool, true, false, List, [], ◌∷◌, ◌++◌, All, length, map, ap, sym, refl, subst, arith, inl, inr, Option, Some, None}
 use Rattle.std.specs.Prelude.{◌==◌, if◌then◌else◌}
-use Rattle.std.proofs.lemmas.Bool.Decides.{eqb_tells}
-use Rattle.std.proofs.lemmas.List.Elements.{All-head, All-tail}
-use Rattle.plan_types.specs.declared.machine.Machine.{Machine}
-use Rattle.plan_types.specs.declared.plan.Planned.{Planned}
-use Rattle.plan_types.specs.declared.plan.Pulse.{Pulse}
-use Rattle.plan_types.specs.declared.plan.Section.{Section}
-use Rattle.plan_types.specs.declared.plan.SectionKind.{SectionKind}
-use Rattle.plan_types.specs.Clock.{tick, turn_ns}
-use Rattle.plan_types.specs.Lines.{Clocks}
-use Rattle.plan_types.specs.Machines.{IsValidMachine, stepper_at}
-use Rattle.plan_types.specs.Plan.{Fits}
-use Rattle.plan_types.specs.Sections.{base_tick, clocks_at, stepper_plan, no_section}
+use Rattle.laws_board.proofs.Names.{eqb_tells, All-head, All-tail, Machine, Planned, Pulse, Section, SectionKind, tick, turn_ns, Clocks, IsValidMachine, stepper_at, Fits, clocks_at, stepper_plan, Started, ReportLine}
+use Rattle.plan_types.specs.Sections.{base_tick, no_section}
 use Rattle.gcode_program.specs.Held.{ArePlannable}
 use Rattle.gcode_program.proofs.Plannable.{sections_plannable}
-use Rattle.motion_work.specs.Seen.{Started}
 use Rattle.motion_work.proofs.Homing.{near_short}
-use Rattle.report_text.specs.declared.line.ReportLine.{ReportLine}
 use Rattle.report_text.specs.declared.line.ReportLine.TheVariants as report
 use Rattle.log_check.specs.Faults.{have_room}
 use Rattle.laws_report.specs.reports.Further.{further_told}
@@ -42,6 +30,7 @@ use Rattle.laws_report.proofs.reports.Further.{EachFurther, IsLongFurther}
 use Rattle.laws_report.proofs.reports.Limits.{AreSmall, KeepLimits}
 use Rattle.laws_report.proofs.reports.Shorts.{longs, rooms_at, shorts, steps_at}
 use Rattle.laws_report.proofs.reports.Standing.{some_pulse}
+use Rattle.plan_types.proofs.Facts.{is_itself}
 
 -- so a section that is shown starts before the last turn in which one may
 pub turn_low : (j turn : ℕ) (lines : List ReportLine) → AreLow lines → section_turn j lines ≡ Some turn → turn < start_limit
@@ -158,9 +147,6 @@ pulse_less false p ps h = h
 not_same : (n j : ℕ) → n + 1 ≤ j → (n == j) ≡ false
 not_same n j low = elim (eqb_tells n j) [ inl p ↦ absurd (omega (arith, p.1, low)) | inr p ↦ p.0 ]
 
-same : (n : ℕ) → (n == n) ≡ true
-same n = elim (eqb_tells n n) [ inl p ↦ p.0 | inr p ↦ absurd (p.1 refl) ]
-
 -- so all lines are small
 small : (homes : Bool) (m : Machine) (n : ℕ) (lines : List ReportLine) → AreNumbered n (sections_shown lines) → AreTold homes m lines → AreLow lines → EachFurther IsLongFurther (further_told (map logged lines)) → AreNamed m lines → AreTimed m n lines → AreSmall m lines
 small homes m n [] shown told low long names timed = tt
@@ -170,7 +156,7 @@ small homes m n (report.Section i turn kind ∷ lines) shown told low long names
     let few = low.0.0 in
     let early = low.0.1 in
     let here = report.Section i turn kind ∷ lines in
-    let self : (i == n) ≡ true = ap (λ (k : ℕ). i == k) (sym number) ∙ same i in
+    let self : (i == n) ≡ true = ap (λ (k : ℕ). i == k) (sym number) ∙ is_itself i in
     let no : (j : ℕ) → n + 1 ≤ j → (i == j) ≡ false = λ j late. not_same i j (omega (arith, late, number)) in
     let now : section_turn n here ≡ Some turn = is-first (i == n) turn (section_turn n lines) self in
     let Small : List ReportLine → Type 0 = λ z. AreSmall m (cuts_of (lines_before z)) in
@@ -185,7 +171,7 @@ small homes m n (report.Section i turn kind ∷ lines) shown told low long names
 small homes m n (report.Pulse board stepper tick up ∷ lines) shown told low long names timed =
     let p : Pulse = record { tick = tick; stepper = stepper; up = up } in
     let ps = pulses_before stepper lines in
-    let own = subst HaveTicks (is-here (stepper == stepper) (p ∷ ps) ps (same stepper)) (timed.before stepper told.0.0) in
+    let own = subst HaveTicks (is-here (stepper == stepper) (p ∷ ps) ps (is_itself stepper)) (timed.before stepper told.0.0) in
     (own.0, small homes m n lines shown told.1 low.1 long names (record { before = λ s lt. pulse_less (stepper == s) p (pulses_before s lines) (timed.before s lt); inside = timed.inside; cut = timed.cut; cuts = timed.cuts }))
 small homes m n (report.Machine corexy many others ∷ lines) shown told low long names timed = (tt, small homes m n lines shown told.1 low.1 long names (record { before = timed.before; inside = timed.inside; cut = timed.cut; cuts = timed.cuts }))
 small homes m n (report.Board board freq turn tick ∷ lines) shown told low long names timed = (tt, small homes m n lines shown told.1 low.1 long names (record { before = timed.before; inside = timed.inside; cut = timed.cut; cuts = timed.cuts }))

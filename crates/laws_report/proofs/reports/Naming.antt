@@ -3,7 +3,7 @@ use Rattle.std.proofs.Common.{◌≡◌, ◌≢◌, ◌∙◌, ℕ, zero, suc, �
 use Rattle.std.specs.Prelude.{AllPairs, if◌then◌else◌}
 use Rattle.std.specs.Str.{bytes_eq}
 use Rattle.std.proofs.lemmas.Slice.Eq.{bytes_eq-Decides}
-use Rattle.plan_types.specs.declared.machine.BoardDef.{BoardDef}
+use Rattle.laws_board.proofs.Names.{BoardDef}
 use Rattle.plan_types.specs.declared.machine.StepperDef.{StepperDef}
 use Rattle.log_text.specs.Names.{board_from, stepper_from}
 use Rattle.text_core.specs.Bytes.{Text}

@@ -1,36 +1,16 @@
 -- Where no note tells a further clock line, no line of the reactor does.
 use Rattle.std.specs.Prelude.{if◌then◌else◌}
 use Rattle.std.proofs.Common.{◌≡◌, ℕ, ◌+◌, Bool, true, false, List, [], ◌∷◌, ◌++◌, length, subst, ap, sym, Option, Some, None}
-use Rattle.plan_types.specs.declared.cause.Cause.{Cause}
-use Rattle.plan_types.specs.declared.machine.Machine.{Machine}
-use Rattle.plan_types.specs.declared.plan.Line.{Line}
-use Rattle.plan_types.specs.declared.plan.ReadStop.{ReadStop}
+use Rattle.laws_board.proofs.Names.{Cause, Machine, Line, ReadStop, axis_at, ReportLine, Note, NoteNews, State, WordMsg, HomingTurn, homing_turn, Asking, all_connected, giving_up, listen_all, ready_all, stale, Known, Phase, Connecting, Stopping, is_out, news_of, noted, Reacted, by_phase, cut_line, reacts, unless_ended, unless_stale, first_lines, machine_line, first_cause, stop_of, Came, known_by, MotionTurn, ReactorTurn, gather, Switch}
 use Rattle.plan_types.specs.declared.plan.ReadStop.TheVariants as read
-use Rattle.plan_types.specs.Machines.{axis_at}
-use Rattle.report_text.specs.declared.line.ReportLine.{ReportLine}
-use Rattle.msg_code.specs.declared.talk.Note.{Note}
-use Rattle.msg_code.specs.declared.talk.NoteNews.{NoteNews}
 use Rattle.msg_code.specs.declared.talk.NoteNews.TheVariants as news
-use Rattle.msg_code.specs.declared.talk.State.{State}
-use Rattle.msg_code.specs.declared.talk.WordMsg.{WordMsg}
-use Rattle.axis_homing.specs.declared.homing.HomingTurn.{HomingTurn}
-use Rattle.axis_homing.specs.Homing.{homing_turn}
-use Rattle.board_asking.specs.declared.asking.Asking.{Asking}
-use Rattle.board_asking.specs.Connecting.{all_connected, board_lines, connected_lines, giving_up, listen_all, ready_all}
-use Rattle.board_asking.specs.Drift.{stale}
-use Rattle.host_reactor.specs.declared.ordered.Known.{Known}
-use Rattle.host_reactor.specs.declared.ordered.Phase.{Phase}
-use Rattle.host_reactor.specs.declared.ordered.Phase.TheVariants.{Connecting, Running, Stopping}
-use Rattle.host_reactor.specs.Notes.{is_out, news_of, noted}
-use Rattle.host_reactor.specs.Reactor.{Reacted, after_homing, asks_boards, by_phase, carries_on, cut_line, finishes, is_connected_now, reacts, unless_ended, unless_given_up, unless_homing_ends, unless_late_stale, unless_stale}
-use Rattle.host_reactor.specs.Report.{count_lines, drift_lines, first_lines, machine_line, pulse_lines, section_line}
-use Rattle.host_reactor.specs.Running.{first_cause, is_finished, stop_of}
-use Rattle.host_reactor.specs.Runs.{Came, known_by}
-use Rattle.session_work.specs.declared.table.MotionTurn.{MotionTurn}
-use Rattle.session_work.specs.declared.table.ReactorTurn.{ReactorTurn}
-use Rattle.session_work.specs.Rows.{gather, option_items}
+use Rattle.board_asking.specs.Connecting.{board_lines, connected_lines}
+use Rattle.host_reactor.specs.declared.ordered.Phase.TheVariants.{Running}
+use Rattle.host_reactor.specs.Reactor.{after_homing, asks_boards, carries_on, finishes, is_connected_now, unless_given_up, unless_homing_ends, unless_late_stale}
+use Rattle.host_reactor.specs.Report.{count_lines, drift_lines, pulse_lines, section_line}
+use Rattle.host_reactor.specs.Running.{is_finished}
+use Rattle.session_work.specs.Rows.{option_items}
 use Rattle.session_run.specs.Boards.{AreReactorTurns, came_in}
-use Rattle.wire_scene.specs.declared.scene.Switch.{Switch}
 use Rattle.laws_board.specs.plans.Planned.{AreBare, Plans}
 use Rattle.laws_run.proofs.run_headline.Further.{EachTold, told_more}
 use Rattle.laws_run.proofs.run_headline.Noting.{AllNoted, IsOf}

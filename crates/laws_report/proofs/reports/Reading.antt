@@ -1,8 +1,6 @@
 -- The text of a report is read line by line.
 use Rattle.std.proofs.Common.{◌≡◌, ◌∙◌, ℕ, ◌+◌, false, List, [], ◌∷◌, ◌++◌, map, ap, refl}
-use Rattle.plan_types.specs.declared.machine.Machine.{Machine}
-use Rattle.plan_types.specs.Machines.{IsValidMachine}
-use Rattle.report_text.specs.declared.line.ReportLine.{ReportLine}
+use Rattle.laws_board.proofs.Names.{Machine, IsValidMachine, ReportLine}
 use Rattle.report_text.specs.declared.line.ReportLine.TheVariants as report
 use Rattle.report_text.specs.Text.{report_text}
 use Rattle.text_core.specs.Lines.{lines_of}

@@ -1,23 +1,16 @@
 -- The pulses of a replay are the first of the ticks that its units mean.
 use Rattle.std.proofs.Common.{◌≡◌, ℕ, Bool, true, false, ◌⊎◌, List, [], ◌∷◌, ◌++◌, map, Option, Some, None, refl, ap, sym, ◌∙◌, subst, inl, inr, append_assoc, append-nil}
-use Rattle.std.proofs.lemmas.Bool.Decides.{eqb_tells}
-use Rattle.std.proofs.lemmas.List.{map-append}
+use Rattle.laws_board.proofs.Names.{eqb_tells, map-append, board_tick, clock_of, BoardDef, BoardState, Running, Shut, Pulse, Pending, Cmd, Controller, is_shut, Meant, commands_of, only, Rig, takes_all, takes as rig_takes}
 use Rattle.std.specs.Prelude.{◌+◌, ◌==◌, if◌then◌else◌}
 use Rattle.plan_types.specs.Plan.{pulse_of}
 use Rattle.plan_types.specs.Board.{steps_of}
-use Rattle.plan_types.specs.Clock.{board_tick, clock_of}
-use Rattle.plan_types.specs.declared.machine.BoardDef.{BoardDef}
-use Rattle.plan_types.specs.declared.plan.BoardState.{BoardState}
-use Rattle.plan_types.specs.declared.plan.BoardState.TheVariants.{Running, Shut}
-use Rattle.plan_types.specs.declared.plan.Pulse.{Pulse}
 use Rattle.plan_types.specs.declared.plan.Triple.{Triple}
-use Rattle.board_step.specs.Steps.{Pending, ticks_at}
-use Rattle.msg_code.specs.declared.cmd.Cmd.{Cmd}
+use Rattle.board_step.specs.Steps.{ticks_at}
 use Rattle.msg_code.specs.declared.cmd.Cmd.TheVariants as cmd
-use Rattle.board_sim.specs.Board.{Controller, Done, acts_running, first_of, is_shut, new_controller, queue_step, quiet, refusal, stepper_at, takes, takes_triple}
-use Rattle.board_sim.specs.Fair.{IsCut, Meant, commands_of, meant_by, meant_on, meant_running, only, steps_taken}
+use Rattle.board_sim.specs.Board.{Done, acts_running, first_of, new_controller, queue_step, quiet, refusal, stepper_at, takes, takes_triple}
+use Rattle.board_sim.specs.Fair.{IsCut, meant_by, meant_on, meant_running, steps_taken}
 use Rattle.board_sim.specs.Halted.{KeptPart, meant_behind}
-use Rattle.board_sim.specs.Rig.{Rig, new_rig, takes_all, takes as rig_takes}
+use Rattle.board_sim.specs.Rig.{new_rig}
 use Rattle.board_sim.proofs.HaltedTakes.{commands_keep}
 use Rattle.board_sim.proofs.HaltedTime.{part_cut, time_keeps, whole_part}
 use Rattle.board_sim.proofs.Keeps.{first_kept}
@@ -25,11 +18,12 @@ use Rattle.board_sim.proofs.RigShut.{all_left_by}
 use Rattle.board_sim.proofs.RigStates.{passes_state, takes_state}
 use Rattle.board_sim.proofs.Steps.{only-append, only_other, only_same}
 use Rattle.board_world.specs.Units.{FindSteppers, FindsStepper, FindsWhile, IsMade, pulse_ticks, ticks_for, ticks_of}
-use Rattle.board_world.proofs.Units.{ticks_append}
+use Rattle.board_world.proofs.Units.{ticks_append, pulses_append, taken_ticks}
 use Rattle.frame_dump.specs.Replays.{Given, IsReplay, plays, plays_to}
 use Rattle.frame_dump.specs.declared.trace.TraceTurn.{TraceTurn}
 use Rattle.laws_board.proofs.sections.Taking.{meant_by_all, meant_is}
 use Rattle.laws_report.specs.reports.Replayed.{MeantIn, TurnsAreFair, TurnsFind, all_meant, behind_turn, steps_meant, turns_given}
+use Rattle.section_units.proofs.Packing.{ticks_said}
 
 -- the pulses are kept turn by turn
 kept_along : (b : BoardDef) (last : ℕ) (r : Rig) (ms : List MeantIn) (made meant : List Pulse) → KeptPart r.controller made meant → TurnsAreFair b r ms
@@ -55,21 +49,6 @@ pub replay_cut : (b : BoardDef) (turns : List TraceTurn) (pulses : List Pulse) (
 replay_cut b turns pulses state ms r is fair =
     let same : (plays b 0 (new_rig b []) (turns_given ms)).pulses ≡ pulses = ap (λ (gs : List Given). (plays b 0 (new_rig b []) gs).pulses) (sym is) ∙ sym r.pulses_are in
     subst (λ (ps : List Pulse). IsCut ps (steps_meant b (new_rig b []) [] [] ms)) same (played_cut b ms fair)
-
--- the ticks of the pulses that units mean
-own_ticks : (oid : ℕ) (up : Bool) (ts : List ℕ) → map (λ (p : Pulse). p.tick) (map (pulse_of oid) (steps_of up ts)) ≡ ts
-own_ticks oid up [] = refl
-own_ticks oid up (t ∷ ts) = ap (λ x. t ∷ x) (own_ticks oid up ts)
-
-taken_ticks : (oid other : ℕ) (up : Bool) (ts : List ℕ) → pulse_ticks oid (map (pulse_of other) (steps_of up ts)) ≡ (if other == oid then ts else [])
-taken_ticks oid other up ts =
-    elim (eqb_tells other oid) [
-      | inl p ↦ rw p.0 (ap (λ o. pulse_ticks oid (map (pulse_of o) (steps_of up ts))) p.1 ∙ ap (map (λ (p : Pulse). p.tick)) (only_same oid (steps_of up ts)) ∙ own_ticks oid up ts)
-      | inr p ↦ rw p.0 (ap (map (λ (p : Pulse). p.tick)) (only_other oid other (steps_of up ts) p.1))
-    ]
-
-pulses_append : (oid : ℕ) (ps qs : List Pulse) → pulse_ticks oid (ps ++ qs) ≡ pulse_ticks oid ps ++ pulse_ticks oid qs
-pulses_append oid ps qs = ap (map (λ (p : Pulse). p.tick)) (only-append oid ps qs) ∙ map-append (λ (p : Pulse). p.tick) (only oid ps) (only oid qs)
 
 -- a command means all its ticks; or none, and it shuts the board down
 abbrev Adds : BoardState → List ℕ → List ℕ → Type 0

@@ -1,18 +1,12 @@
 -- The report of a run over links, with what its lines show.
 use Rattle.std.proofs.Common.{◌≡◌, ◌≢◌, ◌∙◌, ◌⊎◌, inl, inr, ℕ, suc, ◌+◌, List, [], ◌∷◌, ◌++◌, length, map, take, ap, sym, refl, Some}
-use Rattle.std.proofs.Math.Logic.{∥∥₁_elim, ∥∥₁_map, ∥∥₁_prop}
+use Rattle.laws_board.proofs.Names.{∥∥₁_map, length-map, Started, Cause, Machine, Section, IsValidMachine, ReportLine, Scene}
+use Rattle.std.proofs.Math.Logic.{∥∥₁_elim, ∥∥₁_prop}
 use Rattle.std.proofs.Props.{props}
-use Rattle.std.proofs.lemmas.List.{length-map}
 use Rattle.laws_board.specs.causes.Short.{HaveShortDictionaries}
 use Rattle.io_core.specs.declared.traits.Files.{Ghosts as Files}
 use Rattle.io_core.specs.declared.traits.Sink.{Ghosts as Sink}
-use Rattle.motion_work.specs.Seen.{Started}
-use Rattle.plan_types.specs.declared.cause.Cause.{Cause}
 use Rattle.plan_types.specs.declared.cause.Cause.TheVariants as cause
-use Rattle.plan_types.specs.declared.machine.Machine.{Machine}
-use Rattle.plan_types.specs.declared.plan.Section.{Section}
-use Rattle.plan_types.specs.Machines.{IsValidMachine}
-use Rattle.report_text.specs.declared.line.ReportLine.{ReportLine}
 use Rattle.report_text.specs.declared.line.ReportLine.TheVariants as report
 use Rattle.session_lanes.specs.declared.near.LinkLog.{LinkLog}
 use Rattle.report_text.specs.Text.{report_text}
@@ -22,7 +16,6 @@ use Rattle.laws_run.specs.run_lines.Due.{begun_lines}
 use Rattle.laws_run.proofs.home_headline.Held.{near_keeps}
 use Rattle.laws_run.proofs.home_headline.Shows.{run_shows}
 use Rattle.session_run.specs.Reported.{IsReported}
-use Rattle.wire_scene.specs.declared.scene.Scene.{Scene}
 use Rattle.laws_report.specs.reports.Body.{section_lines}
 use Rattle.laws_report.specs.reports.Homes.{ShowsBegun}
 use Rattle.laws_report.specs.reports.Linked.{IsLinkReport, MeetPremise}

@@ -6,30 +6,23 @@ use Rattle.std.proofs.Math.Nat.{div-add-mod, mul-mod_left}
 use Rattle.std.proofs.lemmas.Bool.{cases_lt}
 use Rattle.std.proofs.lemmas.List.{get_or-map}
 use Rattle.std.proofs.lemmas.List.{get_or_past}
-use Rattle.std.proofs.lemmas.List.Elements.{All-append, All-nil}
-use Rattle.plan_types.specs.declared.machine.Machine.{Machine}
+use Rattle.laws_board.proofs.Names.{All-nil, Machine, Held, Line, Move, Planned, tick, turn_ns, Clocks, lines_tick, IsValidMachine, stepper_at, clocks_at, AreKept}
+use Rattle.std.proofs.lemmas.List.Elements.{All-append}
 use Rattle.plan_types.specs.declared.plan.Gear.{Gear}
-use Rattle.plan_types.specs.declared.plan.Held.{Held}
-use Rattle.plan_types.specs.declared.plan.Line.{Line}
-use Rattle.plan_types.specs.declared.plan.Move.{Move}
 use Rattle.plan_types.specs.declared.plan.Part.{Part}
-use Rattle.plan_types.specs.declared.plan.Planned.{Planned}
 use Rattle.plan_types.specs.declared.plan.Segment.{Segment}
-use Rattle.plan_types.specs.Clock.{tick, turn_ns}
-use Rattle.plan_types.specs.Lines.{AreHeld, Clocks, IsFit, board_over, come, lines_board, lines_tick, lines_turn, no_held, tick_over}
-use Rattle.plan_types.specs.Machines.{IsValidMachine, no_stepper, stepper_at}
+use Rattle.plan_types.specs.Lines.{AreHeld, IsFit, board_over, come, lines_board, lines_turn, no_held, tick_over}
+use Rattle.plan_types.specs.Machines.{no_stepper}
 use Rattle.plan_types.specs.Parts.{parts}
 use Rattle.plan_types.specs.Plan.{cancel_reach, filtered, on_board, planned_steps, spaced}
-use Rattle.plan_types.specs.Sections.{TimedPart, clocks_at, duration, end_time, for_each_stepper, last_turn, latest, section_parts, segment_of, stepper_end, timed, timed_moves}
+use Rattle.plan_types.specs.Sections.{TimedPart, duration, end_time, for_each_stepper, last_turn, latest, section_parts, segment_of, stepper_end, timed, timed_moves}
 use Rattle.plan_types.specs.Speeds.{greatest_speeds}
 use Rattle.plan_types.specs.Steps.{counts_passed, raw_steps, segment_steps}
 use Rattle.plan_types.specs.Valid.{IsValidLine}
-use Rattle.clock_line.specs.Kept.{AreKept}
 use Rattle.clock_line.proofs.Holding.{advanced, come-first, tick-mono, tick-none}
-use Rattle.clock_line.proofs.Turns.{turn-after, turn-below}
+use Rattle.clock_line.proofs.Turns.{turn-after, turn-below, clock-least}
 use Rattle.step_ticks.proofs.Lists.{filtered-All}
 use Rattle.step_ticks.proofs.Within.{steps-within}
-use Rattle.section_plan.proofs.Boards.{clock-least}
 use Rattle.laws_report.specs.reports.Retold.{HaveLines, PlanAlike, all_retold, retold}
 use Rattle.laws_board.specs.orders.Renewed.{NoneBefore}
 

@@ -2,16 +2,14 @@
 use Rattle.std.proofs.Common.{◌≡◌, ℕ, suc, ◌+◌, ◌-◌, ◌*◌, ◌/◌, ◌%◌, ◌^◌, ◌<◌, ◌≤◌, Bool, true, false, List, [], ◌∷◌, length, max, ap, refl, arith, inl, inr}
 use Rattle.std.specs.Prelude.{◌&&◌, nat_le, nat_lt, not}
 use Rattle.std.proofs.Math.Nat.{div-add-mod, mul-le-mul_left}
+use Rattle.laws_board.proofs.Names.{and_from, leb_tells, nat_tests, Held, Line, tick, turn_ns, Clocks, lines_tick, clocks_at}
 use Rattle.std.proofs.lemmas.Bool.{cases_lt}
-use Rattle.std.proofs.lemmas.Bool.Decides.{leb_tells, nat_tests}
-use Rattle.plan_types.specs.declared.plan.Held.{Held}
-use Rattle.plan_types.specs.declared.plan.Line.{Line}
-use Rattle.plan_types.specs.Clock.{tick, turn_ns}
-use Rattle.plan_types.specs.Lines.{Clocks, board_over, come, lines_board, lines_tick, tick_over}
-use Rattle.plan_types.specs.Sections.{clocks_at, turns_of_move}
+use Rattle.plan_types.specs.Lines.{board_over, come, lines_board, tick_over}
+use Rattle.plan_types.specs.Sections.{turns_of_move}
 use Rattle.clock_line.proofs.Holding.{chosen, passed, tick-mono, tick-zero}
 use Rattle.section_plan.specs.Runs.{move_ns, steps_of_move}
 use Rattle.log_check.specs.Faults.{are_few, has_own_room, has_room, have_room, is_roomy}
+use Rattle.plan_types.proofs.Facts.{is_le, is_less}
 
 -- A line tells no more ticks as a turn begins than a clock of 200 MHz has that begins at 2^40, runs fast by 200 millionths, and was asked
 -- three turns before its answer.
@@ -55,16 +53,6 @@ over-slow line most (h ∷ held) t slow begun low all =
 pub lines-slow : (c : Clocks) (t : ℕ) → IsSlow c.first → AllSlow c.held → c.first.at ≤ t → lines_tick c t ≤ most_at t
 lines-slow c t slow all begun = over-slow c.first 0 c.held t slow begun (omega arith) all
 
-both-true : (a b : Bool) → a ≡ true → b ≡ true → (a && b) ≡ true
-both-true true b e f = f
-both-true false b e f = cc
-
-le-true : (a b : ℕ) → a ≤ b → nat_le a b ≡ true
-le-true a b low = elim (leb_tells a b) [ inl p ↦ p.0 | inr p ↦ absurd (omega (arith, p.1, low)) ]
-
-lt-true : (a b : ℕ) → a < b → nat_lt a b ≡ true
-lt-true a b low = elim (leb_tells (suc a) b) [ inl p ↦ p.0 | inr p ↦ absurd (omega (arith, p.1, low)) ]
-
 lt-not : (a b : ℕ) → b ≤ a → not (nat_lt a b) ≡ true
 lt-not a b low = elim (leb_tells (suc a) b) [ inl p ↦ absurd (omega (arith, p.1, low)) | inr p ↦ ap not p.0 ]
 
@@ -72,7 +60,7 @@ lt-not a b low = elim (leb_tells (suc a) b) [ inl p ↦ absurd (omega (arith, p.
 room-first : (l : Line) (n turn : ℕ) → IsSlow l → l.at ≤ turn * turn_ns → turn < 2 ^ 42 + 260 → n ≤ 2_000_000 → has_room l n turn ≡ true
 room-first l n turn slow begun early few =
     let far = slow-tick l ((turn + n * turns_of_move) * turn_ns) slow (omega (arith, begun)) in
-    both-true (nat_le l.at (turn * turn_ns)) (nat_lt (tick l ((turn + n * turns_of_move) * turn_ns)) 12_999_999_995_705_032_704) (le-true l.at (turn * turn_ns) begun) (lt-true (tick l ((turn + n * turns_of_move) * turn_ns)) 12_999_999_995_705_032_704 (omega (arith, far, early, few)))
+    and_from (nat_le l.at (turn * turn_ns)) (nat_lt (tick l ((turn + n * turns_of_move) * turn_ns)) 12_999_999_995_705_032_704) (is_le l.at (turn * turn_ns) begun) (is_less (tick l ((turn + n * turns_of_move) * turn_ns)) 12_999_999_995_705_032_704 (omega (arith, far, early, few)))
 
 few-own : (c : Clocks) (n turn : ℕ) → IsSlow c.first → AllSlow c.held → c.first.at ≤ turn * turn_ns → turn < 2 ^ 42 + 260 → n ≤ 2_000_000 → are_few c n turn ≡ true
 few-own c n turn slow all begun early few =
@@ -85,11 +73,11 @@ room-own c (h ∷ held) n turn few = few
 
 pub roomy : (c : Clocks) (n turn : ℕ) → IsSlow c.first → AllSlow c.held → c.first.at ≤ turn * turn_ns → turn < 2 ^ 42 + 260 → n ≤ 2_000_000 → is_roomy c n turn ≡ true
 roomy c n turn slow all begun early few =
-    both-true (has_room c.first n turn) (has_own_room c c.held n turn) (room-first c.first n turn slow begun early few) (room-own c c.held n turn (few-own c n turn slow all begun early few))
+    and_from (has_room c.first n turn) (has_own_room c c.held n turn) (room-first c.first n turn slow begun early few) (room-own c c.held n turn (few-own c n turn slow all begun early few))
 
 pub all-roomy : (lines : List Clocks) (n turn : ℕ) → ((b : ℕ) → b < length lines → is_roomy (clocks_at lines b) n turn ≡ true) → have_room lines n turn ≡ true
 all-roomy [] n turn each = refl
-all-roomy (c ∷ lines) n turn each = both-true (is_roomy c n turn) (have_room lines n turn) (each 0 (omega arith)) (all-roomy lines n turn (λ b low. each (suc b) (omega (arith, low))))
+all-roomy (c ∷ lines) n turn each = and_from (is_roomy c n turn) (have_room lines n turn) (each 0 (omega arith)) (all-roomy lines n turn (λ b low. each (suc b) (omega (arith, low))))
 
 -- the board's tick of a plan tick is not much greater
 abbrev StartLow : List Held → Type 0

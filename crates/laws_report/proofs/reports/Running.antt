@@ -1,22 +1,12 @@
 -- A report that goes through checks.
 use Rattle.std.proofs.Common.{◌≡◌, ◌∙◌, ℕ, suc, ◌+◌, ◌<◌, ◌≤◌, Bool, true, false, List, [], ◌∷◌, ◌++◌, length, map, ap, sym, refl, subst, arith, inl, inr, None, Some, append-nil, append_assoc, length-append}
 use Rattle.std.specs.Prelude.{◌==◌, ◌&&◌, slice_index_or, Ok, if◌then◌else◌}
-use Rattle.std.proofs.lemmas.Bool.Decides.{eqb_tells, nat_tests}
+use Rattle.laws_board.proofs.Names.{eqb_tells, nat_tests, Cause, Machine, Move, Planned, Pulse, Section, Clocks, one_line, IsValidMachine, stepper_at, Fits, clocks_at, stepper_plan, ReportLine}
 use Rattle.std.proofs.lemmas.List.FromFn.{get_or-map-range_with_len}
 use Rattle.std.proofs.Math.Seq.{get_or-append_seam}
-use Rattle.plan_types.specs.declared.cause.Cause.{Cause}
 use Rattle.plan_types.specs.declared.cause.Cause.TheVariants as cause
 use Rattle.plan_types.specs.declared.cause.MisfitKind.TheVariants as misfit
-use Rattle.plan_types.specs.declared.machine.Machine.{Machine}
-use Rattle.plan_types.specs.declared.plan.Move.{Move}
-use Rattle.plan_types.specs.declared.plan.Planned.{Planned}
-use Rattle.plan_types.specs.declared.plan.Pulse.{Pulse}
-use Rattle.plan_types.specs.declared.plan.Section.{Section}
-use Rattle.plan_types.specs.Lines.{Clocks, one_line}
-use Rattle.plan_types.specs.Machines.{IsValidMachine, stepper_at}
-use Rattle.plan_types.specs.Plan.{Fits}
-use Rattle.plan_types.specs.Sections.{base_tick, clocks_at, section_end, section_plans, stepper_plan, is_home, first_turn, no_section}
-use Rattle.report_text.specs.declared.line.ReportLine.{ReportLine}
+use Rattle.plan_types.specs.Sections.{base_tick, section_end, section_plans, is_home, first_turn, no_section}
 use Rattle.report_text.specs.declared.line.ReportLine.TheVariants as report
 use Rattle.log_text.specs.declared.line.LogLine.{LogLine}
 use Rattle.log_text.specs.declared.line.LogLine.TheVariants as line
@@ -29,7 +19,7 @@ use Rattle.log_check.specs.Verdicts.{verdict}
 use Rattle.laws_report.specs.logs.Follows.{FitsHere, IsNextSection, IsWholeHere, base_at, freq_at, in_order, plan_at}
 use Rattle.laws_report.proofs.logs.Fitting.{length-in_order}
 use Rattle.laws_report.proofs.logs.Following.{Fine, listed, no-plan, said-listed}
-use Rattle.laws_report.proofs.logs.Standing.{all-done, may-start, never-short, none-board, onto, open-only, pulse-none, section-none, whole-lacks}
+use Rattle.laws_report.proofs.logs.Standing.{all-done, may-start, never-short, none-board, onto, open-only, pulse-none, section-none, whole-lacks, none-if, none-line}
 use Rattle.laws_report.specs.reports.Further.{AllMayStand, MayStand, further_told}
 use Rattle.laws_report.specs.reports.Logged.{AreOfRun, IsCauseOn, IsOfRun, logged}
 use Rattle.laws_report.specs.reports.Names.{HasNames}
@@ -247,22 +237,14 @@ may-be-cut sections now i j begins same homes =
     let self : (j == i) ≡ true = elim (eqb_tells j i) [ inl p ↦ p.0 | inr p ↦ absurd (p.1 same) ] in
     ap (λ (n : ℕ). may_cut sections n j) begins ∙ ap (λ (b : Bool). b && is_home (section_at sections i).kind) self ∙ homes
 
-cut-fits : (a : Bool) → a ≡ true → (if a then None else Some misfit.Section) ≡ None
-cut-fits true e = refl
-cut-fits false e = cc
-
 -- whether a line cuts
 abbrev cuts : LogLine → Bool
 cuts (line.Cut j) = true
 cuts _ = false
 
-line-fits : (a : Bool) → a ≡ true → (if a then None else Some misfit.BadLine) ≡ None
-line-fits true e = refl
-line-fits false e = cc
-
 -- a further clock line that may stand
 further-none : (m : Machine) (sections : List Section) (fs : List Further) (before : List LogLine) (b turn tick from : ℕ) → is_ended before ≡ false → MayStand m before (line.Line b turn tick from) → fault_at m sections (point m sections fs before) (line.Line b turn tick from) ≡ None
-further-none m sections fs before b turn tick from going stand = open-only m sections fs before (line.Line b turn tick from) going (line-fits (may_follow m (told_so m before) b turn tick from) stand)
+further-none m sections fs before b turn tick from going stand = open-only m sections fs before (line.Line b turn tick from) going (none-line (may_follow m (told_so m before) b turn tick from) stand)
 
 inner-none : (m : Machine) (sections : List Section) (fs : List Further) (i : ℕ) (before : List LogLine) (l : LogLine) → MayStand m before l → IsInner i l → is_ended before ≡ false → begun before ≡ suc i → (cuts l ≡ true → is_home (section_at sections i).kind ≡ true) → HasStepper m l
     → ((s : ℕ) → s < length m.steppers → FitsHere m sections fs (l ∷ before) s) → fault_at m sections (point m sections fs before) l ≡ None
@@ -272,7 +254,7 @@ inner-none m sections fs i before (line.Section j turn kind) stand inner going b
 inner-none m sections fs i before (line.Board b turn tick) stand inner going begins homes there fits = absurd inner
 inner-none m sections fs i before (line.Line b turn tick from) stand inner going begins homes there fits = further-none m sections fs before b turn tick from going stand
 inner-none m sections fs i before (line.Cut j) stand inner going begins homes there fits =
-    open-only m sections fs before (line.Cut j) going (cut-fits (may_cut sections (begun before) j) (may-be-cut sections (begun before) i j begins inner (homes refl)))
+    open-only m sections fs before (line.Cut j) going (none-if (may_cut sections (begun before) j) (may-be-cut sections (begun before) i j begins inner (homes refl)))
 inner-none m sections fs i before line.End stand inner going begins homes there fits = absurd inner
 
 line-cuts : (l : ReportLine) (lines : List ReportLine) → cuts (logged l) ≡ true → has_cut (l ∷ lines) ≡ true
@@ -402,7 +384,7 @@ notes-over m sections fs (report.Count stepper pulses ∷ lines) before stand ar
 notes-over m sections fs (report.Fit section stepper pulses planned early late ∷ lines) before stand are over = absurd are
 notes-over m sections fs (report.End c ∷ lines) before stand are over = absurd are
 
-stand-first : (m : Machine) (before xs ys : List LogLine) → AllMayStand m before (xs ++ ys) → AllMayStand m before xs × AllMayStand m (onto xs before) ys
+pub stand-first : (m : Machine) (before xs ys : List LogLine) → AllMayStand m before (xs ++ ys) → AllMayStand m before xs × AllMayStand m (onto xs before) ys
 stand-first m before [] ys stand = (tt, stand)
 stand-first m before (x ∷ xs) ys stand = (let rest = stand-first m (x ∷ before) xs ys stand.1 in ((stand.0, rest.0), rest.1))
 

@@ -2,11 +2,10 @@
 use Rattle.std.proofs.Common.{◌≡◌, ◌∙◌, ℕ, zero, suc, ◌<◌, ◌≤◌, ◌^◌, Bool, true, false, List, [], ◌∷◌, length, ap, sym, refl, arith, Option, Some, None}
 use Rattle.std.specs.Prelude.{◌&&◌, ◌==◌, codes, decimal, Ok, Err, if◌then◌else◌}
 use Rattle.std.specs.Str.{bytes_eq}
-use Rattle.std.proofs.lemmas.Bool.Decides.{nat_tests}
+use Rattle.laws_board.proofs.Names.{nat_tests, Cause, Machine, SectionKind, Moves, Home, IsValidMachine, board_at, stepper_at, ReportLine, and_from}
 use Rattle.plan_types.specs.Clock.{run_turns}
 use Rattle.text_core.specs.Bytes.{Text}
 use Rattle.text_core.specs.Numbers.{value_of}
-use Rattle.plan_types.specs.declared.cause.Cause.{Cause}
 use Rattle.plan_types.specs.declared.cause.Cause.TheVariants as cause
 use Rattle.plan_types.specs.declared.cause.CfgKind.{CfgKind}
 use Rattle.plan_types.specs.declared.cause.CfgKind.TheVariants as cfg
@@ -21,11 +20,7 @@ use Rattle.plan_types.specs.declared.cause.SceneKind.{SceneKind}
 use Rattle.plan_types.specs.declared.cause.SceneKind.TheVariants as scene
 use Rattle.plan_types.specs.declared.cause.TraceKind.{TraceKind}
 use Rattle.plan_types.specs.declared.cause.TraceKind.TheVariants as trace
-use Rattle.plan_types.specs.declared.machine.Machine.{Machine}
-use Rattle.plan_types.specs.declared.plan.SectionKind.{SectionKind}
-use Rattle.plan_types.specs.declared.plan.SectionKind.TheVariants.{Moves, Home}
-use Rattle.plan_types.specs.Machines.{IsValidMachine, board_at, no_board, no_stepper, stepper_at}
-use Rattle.report_text.specs.declared.line.ReportLine.{ReportLine}
+use Rattle.plan_types.specs.Machines.{no_board, no_stepper}
 use Rattle.report_text.specs.declared.line.ReportLine.TheVariants as report
 use Rattle.report_text.specs.Text.{end_text, kinematics_word, line_text, pin_name, section_text}
 use Rattle.report_text.specs.Words.{axis_word, cfg_word, line_word, mesh_word, misfit_word, scene_word, trace_word}
@@ -36,7 +31,7 @@ use Rattle.log_text.specs.Words.{is_turn, labelled, number, with_words}
 use Rattle.laws_report.specs.reports.Logged.{IsCauseOn, IsKind, IsOfRun, logged}
 use Rattle.laws_report.specs.reports.Names.{HasNames, is_word}
 use Rattle.laws_report.specs.reports.Spelled.{end_words, kind_words, sign, spaced, words_said}
-use Rattle.laws_report.proofs.reports.Digits.{both-true, decimal-word, number-decimal}
+use Rattle.laws_report.proofs.reports.Digits.{decimal-word, number-decimal}
 use Rattle.laws_report.proofs.reports.Naming.{board-at, same-text, stepper-at}
 use Rattle.laws_report.proofs.reports.Wording.{AreWords}
 
@@ -248,7 +243,7 @@ machine-said m corexy boards steppers valid c b s =
     ap (machine_boards m (kinematics_word corexy)) first
     ∙ (ap (machine_with m (is_corexy (kinematics_word corexy)) boards) second
     ∙ (ap (λ (k : Option Bool). machine_with m k boards (Some (steppers, []))) (kind-back corexy)
-    ∙ ap machine_if (both-true (same corexy m.corexy && (boards == length m.boards)) (steppers == length m.steppers) (both-true (same corexy m.corexy) (boards == length m.boards) (same-back corexy m.corexy c) same_boards) same_steppers))) where
+    ∙ ap machine_if (and_from (same corexy m.corexy && (boards == length m.boards)) (steppers == length m.steppers) (and_from (same corexy m.corexy) (boards == length m.boards) (same-back corexy m.corexy c) same_boards) same_steppers))) where
       kind-back : (b : Bool) → is_corexy (kinematics_word b) ≡ Some b
       kind-back true = refl
       kind-back false = refl

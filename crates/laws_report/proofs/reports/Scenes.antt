@@ -2,12 +2,9 @@
 use Rattle.std.proofs.Common.{◌≡◌, ◌∙◌, ℕ, suc, ◌+◌, ◌^◌, ◌<◌, ◌≤◌, Bool, true, false, List, [], ◌∷◌, ◌++◌, All, length, refl, ap, sym, subst, arith, inl, inr, Option, Some, None}
 use Rattle.std.specs.Prelude.{Result, Ok, Err, codes, if◌then◌else◌}
 use Rattle.std.specs.Str.{bytes_eq}
-use Rattle.std.proofs.lemmas.Bool.Decides.{leb_tells}
-use Rattle.std.proofs.lemmas.List.Elements.{All-cons, All-nil}
+use Rattle.laws_board.proofs.Names.{leb_tells, All-cons, All-nil, BoardDef, Machine, Scene, Switch, Down, Up}
 use Rattle.text_core.specs.Words.{words_of}
 use Rattle.plan_types.specs.declared.cause.SceneKind.TheVariants.{TooLarge}
-use Rattle.plan_types.specs.declared.machine.BoardDef.{BoardDef}
-use Rattle.plan_types.specs.declared.machine.Machine.{Machine}
 use Rattle.text_core.specs.Bytes.{before}
 use Rattle.text_core.specs.Lines.{lines_of}
 use Rattle.text_core.specs.Trims.{without_return}
@@ -16,10 +13,7 @@ use Rattle.wire_scene.specs.declared.fault.SceneFault.TheVariants.{At}
 use Rattle.wire_scene.specs.declared.line.Item.{Item}
 use Rattle.wire_scene.specs.declared.line.Item.TheVariants.{Nothing, OnLine, AtPin, Wrong}
 use Rattle.wire_scene.specs.declared.scene.Deed.{Deed}
-use Rattle.wire_scene.specs.declared.scene.Scene.{Scene}
-use Rattle.wire_scene.specs.declared.scene.Switch.{Switch}
 use Rattle.wire_scene.specs.declared.scene.Way.{Way}
-use Rattle.wire_scene.specs.declared.scene.Way.TheVariants.{Down, Up}
 use Rattle.wire_scene.specs.Entries.{at_board, at_pin, board_from, connect_item, deed_in, entry_item, line_item, meant, meant_by, moment_of, on_line, pin_from, pin_item, pins_on, switch_item}
 use Rattle.wire_scene.specs.Reading.{first_fault, items, scene_of_text, scene_of, switch_of, switches_among, scene_unless}
 use Rattle.wire_scene.specs.Words.{number_in}

@@ -3,25 +3,16 @@ use Rattle.std.proofs.Common.{◌≡◌, ◌∙◌, ℕ, zero, suc, ◌+◌, ◌
 use Rattle.std.specs.Prelude.{min}
 use Rattle.std.proofs.Math.Nat.{mul-mod_left}
 use Rattle.std.proofs.Math.Seq.{get_or-append_seam}
-use Rattle.std.proofs.lemmas.List.{length-map}
-use Rattle.plan_types.specs.declared.machine.Machine.{Machine}
-use Rattle.plan_types.specs.declared.plan.Held.{Held}
-use Rattle.plan_types.specs.declared.plan.Line.{Line}
-use Rattle.plan_types.specs.declared.plan.Move.{Move}
-use Rattle.plan_types.specs.declared.plan.Planned.{Planned}
-use Rattle.plan_types.specs.Clock.{tick, turn_ns}
-use Rattle.plan_types.specs.Lines.{AreHeld, Clocks, IsFit, last_from, lines_tick, one_line, tick_over}
-use Rattle.plan_types.specs.Machines.{IsValidMachine, board_at, stepper_at}
-use Rattle.plan_types.specs.Sections.{clocks_at, segment_of, stepper_plan, timed_moves}
+use Rattle.laws_board.proofs.Names.{length-map, Machine, Held, Line, Move, Planned, tick, turn_ns, Clocks, lines_tick, one_line, IsValidMachine, board_at, stepper_at, clocks_at, stepper_plan, AreKept, ReportLine}
+use Rattle.plan_types.specs.Lines.{AreHeld, IsFit, last_from, tick_over}
+use Rattle.plan_types.specs.Sections.{segment_of, timed_moves}
 use Rattle.plan_types.specs.Speeds.{greatest_speeds}
-use Rattle.clock_line.specs.Kept.{AreKept}
 use Rattle.section_plan.specs.Runs.{IsShortMove, move_ns}
 use Rattle.section_stream.proofs.Speeds.{joined-at, length-greatest}
 use Rattle.section_feed.specs.Boards.{IsLasting}
 use Rattle.section_feed.proofs.Lasts.{lines-small, tick-small}
 use Rattle.motion_work.specs.Seen.{AreBoardClocks}
 use Rattle.motion_stream.proofs.Bounding.{moves_few, planned_within}
-use Rattle.report_text.specs.declared.line.ReportLine.{ReportLine}
 use Rattle.report_text.specs.declared.line.ReportLine.TheVariants as report
 use Rattle.board_asking.specs.Connecting.{turn_tick}
 use Rattle.log_check.specs.declared.further.Further.{Further}
@@ -42,7 +33,7 @@ use Rattle.laws_run.specs.run_headline.Timely.{AreSound}
 use Rattle.laws_run.specs.run_lines.Due.{BoardsHave}
 use Rattle.laws_run.specs.run_limits.Limits.{AreLow, greatest_tick, start_limit}
 use Rattle.laws_report.proofs.reports.Clocked.{clocks-append, clocks-further, clocks-note}
-use Rattle.laws_report.proofs.reports.Further.{EachFurther, HaveTurns, IsLongFurther, IsLowFurther, all_furthers, boards_before, low_furthers, named, none_boards, own_furthers, told_furthers}
+use Rattle.laws_report.proofs.reports.Further.{EachFurther, HaveTurns, IsLongFurther, IsLowFurther, all_furthers, boards_before, low_furthers, named, none_boards, own_furthers, told_furthers, least}
 
 -- a board's clock line, among those of all boards
 line_here : (past cs all : List Clocks) (c : Clocks) (b : ℕ) → all ≡ past ++ c ∷ cs → b ≡ length past → clocks_at all b ≡ c
@@ -67,9 +58,6 @@ HasTick ready c = tick c.first (ready * turn_ns) < 2 ^ 64
 abbrev HaveTicks : ℕ → List Clocks → Type 0
 HaveTicks ready [] = Unit {0}
 HaveTicks ready (c ∷ cs) = HasTick ready c × HaveTicks ready cs
-
-least : (n : ℕ) → n < 2 ^ 64 → min n (2 ^ 64 - 1) ≡ n
-least n low = omega (arith, low)
 
 clocks_told : (m : Machine) (all : List Clocks) (ready : ℕ) (past cs : List Clocks) (b : ℕ) (lines : List ReportLine) → AreBoardClocks m all ready → all ≡ past ++ cs → b ≡ length past → AreHeads b lines → boards_of lines ≡ lines_at ready b cs → HaveTicks ready cs
     → clocks m [] (in_order (map logged lines)) ≡ map alone (all_retold ready cs)

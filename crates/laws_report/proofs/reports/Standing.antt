@@ -1,15 +1,7 @@
 -- The lines of a run over links stand as a log wants them.
 use Rattle.std.proofs.Common.{◌≡◌, ◌∙◌, ℕ, ◌+◌, ◌-◌, ◌*◌, ◌^◌, ◌<◌, Bool, true, false, List, [], ◌∷◌, ◌++◌, length, ap, sym, refl, subst, arith, inl, inr, Option, Some, append_assoc, length-append}
 use Rattle.std.specs.Prelude.{min, if◌then◌else◌}
-use Rattle.std.proofs.lemmas.Bool.Decides.{eqb_tells}
-use Rattle.plan_types.specs.declared.machine.Machine.{Machine}
-use Rattle.plan_types.specs.declared.plan.Pulse.{Pulse}
-use Rattle.plan_types.specs.declared.plan.Section.{Section}
-use Rattle.plan_types.specs.declared.plan.SectionKind.{SectionKind}
-use Rattle.plan_types.specs.Clock.{tick, turn_ns}
-use Rattle.plan_types.specs.Lines.{Clocks}
-use Rattle.plan_types.specs.Machines.{IsValidMachine, board_at}
-use Rattle.report_text.specs.declared.line.ReportLine.{ReportLine}
+use Rattle.laws_board.proofs.Names.{eqb_tells, Machine, Pulse, Section, SectionKind, tick, turn_ns, Clocks, IsValidMachine, board_at, ReportLine}
 use Rattle.report_text.specs.declared.line.ReportLine.TheVariants as report
 use Rattle.board_asking.specs.Connecting.{turn_tick}
 use Rattle.laws_report.specs.reports.Logged.{AreOfRun, IsKind}
@@ -26,6 +18,7 @@ use Rattle.laws_report.specs.reports.Shown.{begins, lines_behind, section_turn, 
 use Rattle.laws_report.specs.reports.Stands.{AreOfSections, IsPlannedAlike, StandInOrder}
 use Rattle.laws_report.proofs.reports.Limits.{AreSmall, KeepLimits}
 use Rattle.laws_report.proofs.reports.Shorts.{here_at}
+use Rattle.laws_run.proofs.home_headline.Cuts.{uncut as uncut_told}
 
 -- parts of lines
 pub told_parts : (homes : Bool) (m : Machine) (xs ys : List ReportLine) → AreTold homes m (xs ++ ys) → AreTold homes m xs × AreTold homes m ys
@@ -42,12 +35,6 @@ some_pulse board stepper tick up lines e = elim (eqb_tells stepper stepper) [
       cc
   | inr p ↦ p.1 refl
 ]
-
--- a run that doesn't home tells no cuts
-pub uncut_told : (m : Machine) (lines : List ReportLine) → AreTold false m lines → cuts_of lines ≡ []
-uncut_told m [] told = refl
-uncut_told m (report.Cut section board pin tick from ∷ lines) told = absurd (let e : false ≡ true = told.0 in cc)
-uncut_told m (l ∷ lines) told = uncut_told m lines told.1
 
 pub told_behind : (homes : Bool) (m : Machine) (i : ℕ) (lines : List ReportLine) → AreTold homes m lines → AreTold homes m (lines_behind i lines)
 told_behind homes m i [] told = tt
@@ -115,7 +102,7 @@ shown_kinds (report.Count stepper pulses ∷ lines) h = shown_kinds lines h
 shown_kinds (report.Fit section stepper pulses planned early late ∷ lines) h = shown_kinds lines h
 shown_kinds (report.End c ∷ lines) h = shown_kinds lines h
 
-capped : (n : ℕ) → min n (2 ^ 64 - 1) < 2 ^ 64
+pub capped : (n : ℕ) → min n (2 ^ 64 - 1) < 2 ^ 64
 capped n = omega arith
 
 -- each line is one of a run

@@ -1,24 +1,8 @@
 -- A board to which no units come makes no pulses, whatever its link does with what comes.
 use Rattle.std.proofs.Common.{◌≡◌, ◌≢◌, ℕ, ◌+◌, ◌-◌, ◌≤◌, List, [], ◌∷◌, ◌++◌, All, length, map, take, refl, ap, sym, ◌∙◌, subst, arith}
-use Rattle.std.proofs.lemmas.List.Elements.{All-nil}
-use Rattle.std.specs.List.{flat_map}
-use Rattle.plan_types.specs.declared.levels.Level.{Level}
-use Rattle.plan_types.specs.declared.machine.BoardDef.{BoardDef}
-use Rattle.plan_types.specs.declared.plan.Pulse.{Pulse}
-use Rattle.plan_types.specs.Clock.{board_tick, clock_of}
-use Rattle.plan_types.specs.Lines.{Clocks, one_line}
+use Rattle.laws_board.proofs.Names.{All-nil, flat_map, Level, BoardDef, Pulse, board_tick, clock_of, Clocks, one_line, State, Entry, StepUnit, Meant, plain, units_orders, Core, Step, run_world, new_world, queued_in, first_state, LinkState, Orders, BoardSection, of_stepper, units_of}
 use Rattle.plan_types.specs.Machines.{IsValidBoard}
-use Rattle.msg_code.specs.declared.talk.State.{State}
-use Rattle.wire_scene.specs.declared.scene.Entry.{Entry}
-use Rattle.step_feed.specs.Units.{StepUnit}
-use Rattle.board_sim.specs.Fair.{Meant}
-use Rattle.board_world.specs.Orders.{plain, units_orders}
-use Rattle.board_world.specs.World.{Core, Step, run_world, new_world}
-use Rattle.link_work.specs.Runs.{queued_in}
-use Rattle.link_work.specs.Stands.{first_state}
-use Rattle.link_work.specs.Turn.{LinkState, Orders}
-use Rattle.section_units.specs.Sections.{BoardSection, IsSection, of_stepper}
-use Rattle.step_feed.specs.Pacing.{units_of}
+use Rattle.section_units.specs.Sections.{IsSection}
 use Rattle.laws_board.specs.sections.Events.{AreTurnsOf}
 use Rattle.laws_board.specs.sections.Links.{AreTold, pulses_in, steps_of, turns_told}
 use Rattle.laws_board.specs.sections.Parts.{AreOrdersOf, AreTracked, IsControl, IsBoardRun, MakesIn}

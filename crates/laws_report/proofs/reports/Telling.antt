@@ -2,15 +2,9 @@
 use Rattle.std.proofs.Common.{◌≡◌, ◌∙◌, ℕ, suc, ◌*◌, ◌/◌, ◌%◌, ◌^◌, ◌<◌, ◌≤◌, Bool, true, false, List, [], ◌∷◌, ◌++◌, length, map, max, ap, sym, refl, subst, arith, inl, inr, append-nil, append_assoc}
 use Rattle.std.specs.Prelude.{◌==◌, ◌&&◌, nat_le, nat_lt, set, if◌then◌else◌}
 use Rattle.std.proofs.Math.Nat.{div-add-mod}
-use Rattle.std.proofs.lemmas.Bool.Decides.{eqb_tells, leb_tells, nat_tests}
-use Rattle.std.proofs.lemmas.List.{get_or-map, get_or-set_other, get_or-set_same, length-map, length-set}
-use Rattle.plan_types.specs.declared.machine.Machine.{Machine}
-use Rattle.plan_types.specs.declared.plan.Held.{Held}
-use Rattle.plan_types.specs.declared.plan.Line.{Line}
-use Rattle.plan_types.specs.Clock.{tick, turn_ns}
-use Rattle.plan_types.specs.Lines.{AreHeld, Clocks, IsFit, last_from, lines_tick, one_line, tick_over}
-use Rattle.plan_types.specs.Machines.{board_at}
-use Rattle.plan_types.specs.Sections.{clocks_at}
+use Rattle.laws_board.proofs.Names.{eqb_tells, leb_tells, nat_tests, get_or-set_same, length-map, Machine, Held, Line, tick, turn_ns, Clocks, lines_tick, one_line, board_at, clocks_at, and_from}
+use Rattle.std.proofs.lemmas.List.{get_or-map, get_or-set_other, length-set}
+use Rattle.plan_types.specs.Lines.{AreHeld, IsFit, last_from, tick_over}
 use Rattle.clock_line.specs.Fits.{added_where, are_small, is_later, is_like, may_hold}
 use Rattle.clock_line.specs.Kept.{added, clocks_of}
 use Rattle.clock_line.proofs.Holding.{above-all, chosen, tick-none}
@@ -22,6 +16,7 @@ use Rattle.log_check.specs.Behind.{clocks, told_clocks, told_line, with_further}
 use Rattle.log_check.specs.Faults.{may_follow}
 use Rattle.laws_report.proofs.logs.Standing.{onto}
 use Rattle.laws_report.specs.reports.Further.{AllMayStand, further_told}
+use Rattle.plan_types.proofs.Facts.{is_equal, is_le, is_less}
 
 -- those of a board among some further clock lines
 abbrev pub of_board : ℕ → List Further → List Further
@@ -94,19 +89,6 @@ small-at : (done : List Held) (h : Held) (rest : List Held) → AllSmall (done +
 small-at [] h rest small = (small.0, small.1, small.2)
 small-at (g ∷ done) h rest small = small-at done h rest small.3
 
-both-true : (a b : Bool) → a ≡ true → b ≡ true → (a && b) ≡ true
-both-true true b e f = f
-both-true false b e f = cc
-
-le-true : (a b : ℕ) → a ≤ b → nat_le a b ≡ true
-le-true a b low = elim (leb_tells a b) [ inl p ↦ p.0 | inr p ↦ absurd (omega (arith, p.1, low)) ]
-
-lt-true : (a b : ℕ) → a < b → nat_lt a b ≡ true
-lt-true a b low = elim (leb_tells (suc a) b) [ inl p ↦ p.0 | inr p ↦ absurd (omega (arith, p.1, low)) ]
-
-eq-true : (a b : ℕ) → a ≡ b → (a == b) ≡ true
-eq-true a b same = elim (eqb_tells a b) [ inl p ↦ p.0 | inr p ↦ absurd (p.1 same) ]
-
 may-hold : (first : Line) (done : List Held) (h : Held) (rest : List Held) → AreHeld first first 0 0 (done ++ h ∷ rest) → AllSmall (done ++ h ∷ rest) → may_hold (clocks_of first done) h.from h.line ≡ true
 may-hold first done h rest are small =
     let c = clocks_of first done in
@@ -119,11 +101,11 @@ may-hold first done h rest are small =
     let k0 = k.0 in
     let k1 = k.1 in
     let k2 = k.2 in
-    let like = both-true (h.line.freq == first.freq) (h.line.at % 1_000_000 == 0) (eq-true h.line.freq first.freq fit.same_freq) (eq-true (h.line.at % 1_000_000) 0 fit.whole_turn) in
-    let later = both-true (nat_lt (last_from 0 done) h.from) (nat_le h.line.at h.from && nat_le first.at h.from) (lt-true (last_from 0 done) h.from s.after) (both-true (nat_le h.line.at h.from) (nat_le first.at h.from) (le-true h.line.at h.from fit.before) (le-true first.at h.from fit.first_before)) in
-    let few = both-true (nat_lt (lines_tick c h.from) (2 ^ 64)) (nat_lt (tick h.line h.from) (2 ^ 64) && nat_lt (tick first h.from) (2 ^ 64)) (lt-true (lines_tick c h.from) (2 ^ 64) (omega (arith, most, k0)))
-    (both-true (nat_lt (tick h.line h.from) (2 ^ 64)) (nat_lt (tick first h.from) (2 ^ 64)) (lt-true (tick h.line h.from) (2 ^ 64) (omega (arith, start, k1))) (lt-true (tick first h.from) (2 ^ 64) (omega (arith, plan, k2)))) in
-    both-true (is_like first h.line) (is_later c h.from h.line && are_small c h.from h.line) like (both-true (is_later c h.from h.line) (are_small c h.from h.line) later few)
+    let like = and_from (h.line.freq == first.freq) (h.line.at % 1_000_000 == 0) (is_equal h.line.freq first.freq fit.same_freq) (is_equal (h.line.at % 1_000_000) 0 fit.whole_turn) in
+    let later = and_from (nat_lt (last_from 0 done) h.from) (nat_le h.line.at h.from && nat_le first.at h.from) (is_less (last_from 0 done) h.from s.after) (and_from (nat_le h.line.at h.from) (nat_le first.at h.from) (is_le h.line.at h.from fit.before) (is_le first.at h.from fit.first_before)) in
+    let few = and_from (nat_lt (lines_tick c h.from) (2 ^ 64)) (nat_lt (tick h.line h.from) (2 ^ 64) && nat_lt (tick first h.from) (2 ^ 64)) (is_less (lines_tick c h.from) (2 ^ 64) (omega (arith, most, k0)))
+    (and_from (nat_lt (tick h.line h.from) (2 ^ 64)) (nat_lt (tick first h.from) (2 ^ 64)) (is_less (tick h.line h.from) (2 ^ 64) (omega (arith, start, k1))) (is_less (tick first h.from) (2 ^ 64) (omega (arith, plan, k2)))) in
+    and_from (is_like first h.line) (is_later c h.from h.line && are_small c h.from h.line) like (and_from (is_later c h.from h.line) (are_small c h.from h.line) later few)
 
 -- it is the line that is told
 line-is : (m : Machine) (b : ℕ) (first : Line) (h : Held) → first.freq ≡ (board_at m b).freq → IsFit first h.line h.from → told_line m b (h.line.at / turn_ns) h.line.clock ≡ h.line
@@ -224,7 +206,7 @@ record Tells (m : Machine) (lines now : List Clocks) (fs : List Further) (b turn
 tells-one : (m : Machine) (lines now : List Clocks) (fs : List Further) (b turn tick from : ℕ) → b < length now → HoldWell m b (clocks_at lines b).first (clocks_at lines b).held → IsLeft lines now (record { board = b; turn = turn; tick = tick; from = from } ∷ fs) b → Tells m lines now fs b turn tick from
 tells-one m lines now fs b turn tick from inside ok l =
     let f : Further = record { board = b; turn = turn; tick = tick; from = from } in
-    let self : (b == b) ≡ true = eq-true b b refl in
+    let self : (b == b) ≡ true = is_equal b b refl in
     let own : f ∷ of_board b fs ≡ held_told b l.rest = ap (λ (t : Bool). if t then f ∷ of_board b fs else of_board b fs) (sym self) ∙ l.left in
     by l.rest l.are own
   where
@@ -287,7 +269,7 @@ stand-behind m lines now (line.Line b turn tick from ∷ ls) before none is long
     let next = set now b c in
     let count : length next ≡ length now = length-set now b c in
     let grown : told_clocks m (line.Line b turn tick from ∷ before) ≡ next = ap (λ (z : List Clocks). set z b (added_where (clocks_at z b) from (told_line m b turn tick))) is in
-    let stands : may_follow m (told_clocks m before) b turn tick from ≡ true = ap (λ (z : List Clocks). may_follow m z b turn tick from) is ∙ both-true (nat_lt b (length now)) (may_hold (clocks_at now b) from (told_line m b turn tick)) (lt-true b (length now) inside) one.may in (
+    let stands : may_follow m (told_clocks m before) b turn tick from ≡ true = ap (λ (z : List Clocks). may_follow m z b turn tick from) is ∙ and_from (nat_lt b (length now)) (may_hold (clocks_at now b) from (told_line m b turn tick)) (is_less b (length now) inside) one.may in (
       stands,
       stand-behind m lines next ls (line.Line b turn tick from ∷ before) none grown (count ∙ long) ok
           (λ k low. either k b {P = IsLeft lines next fs k} (λ same. subst (λ (n : ℕ). IsLeft lines next fs n) (sym same) one.left) (λ other. left-other lines now fs b k f c refl other (left k low))) among.1,

@@ -1,14 +1,6 @@
 -- The ticks that the boards' lines of a run tell are small, where a section was begun.
 use Rattle.std.proofs.Common.{◌≡◌, ◌≢◌, ℕ, ◌*◌, ◌<◌, ◌≤◌, All, List, [], ◌∷◌, ◌++◌, length, Option, Some, None, refl, subst}
-use Rattle.plan_types.specs.declared.cause.Cause.{Cause}
-use Rattle.plan_types.specs.declared.machine.Machine.{Machine}
-use Rattle.plan_types.specs.Clock.{tick, turn_ns}
-use Rattle.plan_types.specs.Machines.{IsValidMachine}
-use Rattle.plan_types.specs.Sections.{clocks_at}
-use Rattle.motion_work.specs.Told.{Told}
-use Rattle.wire_scene.specs.declared.scene.Scene.{Scene}
-use Rattle.session_work.specs.declared.table.MotionTurn.{MotionTurn}
-use Rattle.session_work.specs.declared.table.ReactorTurn.{ReactorTurn}
+use Rattle.laws_board.proofs.Names.{Cause, Machine, tick, turn_ns, IsValidMachine, clocks_at, Told, Scene, MotionTurn, ReactorTurn}
 use Rattle.laws_board.specs.plans.Planned.{AreToldBy, Plans}
 use Rattle.laws_run.specs.home_headline.Follow.{AllShowBegun}
 use Rattle.laws_run.specs.run_headline.Timely.{clocks_heard, ready_heard}

@@ -1,49 +1,20 @@
 -- The report of a run over links that begins no section.
 use Rattle.std.proofs.Common.{◌≡◌, ◌⊎◌, ◌∙◌, ℕ, zero, suc, ◌+◌, ◌-◌, ◌*◌, ◌^◌, ◌<◌, ◌≤◌, Bool, true, false, List, [], ◌∷◌, ◌++◌, All, length, map, ap, sym, refl, subst, arith, inl, inr, append_assoc, append-nil, length-append}
 use Rattle.std.specs.Prelude.{◌==◌, min, if◌then◌else◌}
-use Rattle.std.specs.List.{flat_map}
-use Rattle.std.proofs.lemmas.Grind.{flat_map-append}
-use Rattle.std.proofs.lemmas.Bool.Decides.{leb_tells}
-use Rattle.std.proofs.lemmas.List.{length-map}
-use Rattle.std.proofs.lemmas.List.Elements.{All-nil}
+use Rattle.laws_board.proofs.Names.{flat_map, flat_map-append, leb_tells, length-map, All-nil, Cause, Machine, IsOwn, Line, ReadStop, Moves, tick, turn_ns, Clocks, one_line, IsValidMachine, board_at, clocks_at, State, ReportLine, Scene, Switch, Asking, listen_all, ready_all, pins_of, Orders, Known, Connecting, noted, machine_line, Reacted, reacts, Came, known_by, Started, MotionTurn, ReactorTurn, gather, item}
 use Rattle.gcode_program.specs.Programs.{program_end}
-use Rattle.plan_types.specs.declared.cause.Cause.{Cause}
-use Rattle.plan_types.specs.declared.machine.Machine.{Machine}
-use Rattle.host_reactor.specs.Rows.{IsOwn}
-use Rattle.plan_types.specs.declared.plan.Line.{Line}
-use Rattle.plan_types.specs.declared.plan.ReadStop.{ReadStop}
 use Rattle.plan_types.specs.declared.plan.ReadStop.TheVariants as read
-use Rattle.plan_types.specs.declared.plan.SectionKind.TheVariants.{Moves}
-use Rattle.plan_types.specs.Clock.{tick, turn_ns}
-use Rattle.plan_types.specs.Lines.{Clocks, one_line}
-use Rattle.plan_types.specs.Machines.{IsValidMachine, board_at}
-use Rattle.plan_types.specs.Sections.{clocks_at, first_start}
-use Rattle.msg_code.specs.declared.talk.State.{State}
+use Rattle.plan_types.specs.Sections.{first_start}
 use Rattle.msg_code.specs.declared.talk.WordNews.TheVariants as word
-use Rattle.report_text.specs.declared.line.ReportLine.{ReportLine}
 use Rattle.report_text.specs.declared.line.ReportLine.TheVariants as report
-use Rattle.wire_scene.specs.declared.scene.Scene.{Scene}
-use Rattle.wire_scene.specs.declared.scene.Switch.{Switch}
-use Rattle.board_asking.specs.declared.asking.Asking.{Asking}
-use Rattle.board_asking.specs.Connecting.{board_lines, connected_lines, listen_all, ready_all, turn_tick}
-use Rattle.link_work.specs.Switches.{pins_of}
-use Rattle.link_work.specs.Turn.{Orders}
-use Rattle.host_reactor.specs.declared.ordered.Known.{Known}
-use Rattle.host_reactor.specs.declared.ordered.Phase.TheVariants.{Connecting, Running}
-use Rattle.host_reactor.specs.Notes.{noted}
-use Rattle.host_reactor.specs.Report.{machine_line, pulse_line, pulse_lines}
-use Rattle.host_reactor.specs.Reactor.{Reacted, reacts}
+use Rattle.board_asking.specs.Connecting.{board_lines, connected_lines, turn_tick}
+use Rattle.host_reactor.specs.declared.ordered.Phase.TheVariants.{Running}
+use Rattle.host_reactor.specs.Report.{pulse_line, pulse_lines}
 use Rattle.host_reactor.specs.Running.{text_end}
-use Rattle.host_reactor.specs.Runs.{Came, known_by}
 use Rattle.laws_board.specs.clocks.Runs.{IsInRun}
 use Rattle.laws_board.proofs.clocks.Lines.{noted_askings}
 use Rattle.laws_board.proofs.clocks.Turning as turning
-use Rattle.laws_run.proofs.clear_runs.Bare.{listened}
-use Rattle.motion_work.specs.Seen.{Started}
-use Rattle.session_work.specs.declared.table.MotionTurn.{MotionTurn}
-use Rattle.session_work.specs.declared.table.ReactorTurn.{ReactorTurn}
 use Rattle.session_work.specs.Heads.{IsRow}
-use Rattle.session_work.specs.Rows.{gather, item}
 use Rattle.session_run.specs.Boards.{AreReactorTurns, came_from, came_in}
 use Rattle.laws_run.specs.lanes.Boards.{turns_behind, orders_of, states_of}
 use Rattle.laws_board.specs.plans.Boards.{TookStates}
@@ -77,10 +48,13 @@ use Rattle.laws_report.specs.reports.Through.{AreHeads}
 use Rattle.laws_report.proofs.reports.Faulted.{going_none, last_lines, plain_none}
 use Rattle.laws_report.proofs.reports.Further.{EachFurther, IsLongFurther}
 use Rattle.laws_report.proofs.reports.Shorts.{longs, shorts}
-use Rattle.laws_report.proofs.reports.Standing.{are_heads, some_pulse, uncut_told}
+use Rattle.laws_report.proofs.reports.Standing.{are_heads, some_pulse, capped}
 use Rattle.laws_report.proofs.reports.Still.{AreStill, NonePulse, still_states}
 use Rattle.laws_run.proofs.run_headline.Drifts.{NoneDrifts}
 use Rattle.laws_run.proofs.run_headline.Asked.{whole_by}
+use Rattle.host_reactor.proofs.Rowing.{readied, listened}
+use Rattle.laws_run.proofs.run_limits.Early.{machine_none}
+use Rattle.laws_run.proofs.home_headline.Cuts.{uncut}
 
 -- clock lines of boards that are there, from a number on, each of its board's frequency
 abbrev HaveFreqs : Machine → ℕ → List Clocks → Type 0
@@ -91,10 +65,6 @@ HaveFreqs m b (c ∷ cs) = (b < length m.boards) × (c.first.freq ≡ (board_at 
 lines_freqs : (m : Machine) (b : ℕ) (askings : List Asking) → b + length askings ≡ length m.boards → HaveFreqs m b (map one_line (board_lines m b askings))
 lines_freqs m b [] e = tt
 lines_freqs m b (a ∷ askings) e = (omega (arith, e), refl, lines_freqs m (b + 1) askings (omega (arith, e)))
-
-pub readied : (m : Machine) (b : ℕ) (askings : List Asking) → length (ready_all m b askings) ≡ length askings
-readied m b [] = refl
-readied m b (a ∷ askings) = ap suc (readied m (b + 1) askings)
 
 -- The lines of boards among some lines: each board has one, in order, of one turn, and tells its board's frequency; or there are none.
 record TellsEach (m : Machine) (most : ℕ) (lines : List ReportLine) : Type 0 where
@@ -172,12 +142,6 @@ no_item j [] h = refl
 no_item zero (s ∷ states) h = absurd (omega (arith, h))
 no_item (suc j) (s ∷ states) h = no_item j states (omega (arith, h))
 
-pub machine_heads : (m : Machine) (k : ℕ) → heads_of (machine_line m k) ≡ []
-machine_heads m k = by (k == 0) where
-  by : (b : Bool) → heads_of (if b then report.Machine m.corexy (length m.boards) (length m.steppers) ∷ [] else []) ≡ []
-  by true = refl
-  by false = refl
-
 machine_pulses : (m : Machine) (k place : ℕ) → pulses_of place (machine_line m k) ≡ []
 machine_pulses m k place = by (k == 0) where
   by : (b : Bool) → pulses_of place (if b then report.Machine m.corexy (length m.boards) (length m.steppers) ∷ [] else []) ≡ []
@@ -199,7 +163,7 @@ both_empty xs ys a b =
 turn_empty : (m : Machine) (k : ℕ) (t : ReactorTurn) → TellsTurn m [] k t → ((j : ℕ) (s : State) → item j t.states ≡ s ∷ [] → s.pulses ≡ []) → AreEmpty t.lines
 turn_empty m k t tells still =
     let none = states_still m 0 t.states still in
-    let both = both_empty (machine_line m k) tells.rest (machine_heads m k, machine_pulses m k) (tells.heads, λ place. tells.pulses place ∙ ap (pulses_of place) none) in
+    let both = both_empty (machine_line m k) tells.rest (machine_none m k, machine_pulses m k) (tells.heads, λ place. tells.pulses place ∙ ap (pulses_of place) none) in
     subst AreEmpty (sym tells.are) both
 
 -- a state of each board came in each of some turns
@@ -230,10 +194,6 @@ turns_empty m n k (t ∷ ts) tells full still =
 still_given : (os : List Orders) → NoUnits os → TookControls os → AreStill os
 still_given [] given controls = tt
 still_given (o ∷ os) given controls = (controls.0, given.0, still_given os given.1 controls.1)
-
--- lines without sections and pulses are those of a run
-capped : (n : ℕ) → min n (2 ^ 64 - 1) < 2 ^ 64
-capped n = omega arith
 
 bare_run : (m : Machine) (ready b : ℕ) (cs : List Clocks) (lines : List ReportLine) → ready < 2 ^ 62 → AreTold false m lines → AreBare m lines → AreLow (counts_of lines) → EachFurther IsLongFurther (further_told (map logged lines)) → AreNamed m lines → boards_of lines ≡ lines_at ready b cs → HaveFreqs m b cs → AreOfRun m lines
 bare_run m ready b cs [] soon told empty low long names boards freqs = tt
@@ -401,7 +361,7 @@ module _ (m : Machine) (v : IsValidMachine m) (s : Scene) (ts : List MotionTurn)
   -- where they tell no section, no pulse and no cut
   module _ (told_all : AreTold false m All_lines) (bare : AreBare m All_lines) where
     heads : AreHeads 0 All_lines
-    heads = are_heads false m each.ready 0 each.clocks All_lines told_all (uncut_told m All_lines told_all) bare.0 bare.1 each.are
+    heads = are_heads false m each.ready 0 each.clocks All_lines told_all (uncut m All_lines told_all) bare.0 bare.1 each.are
 
     of_lines : EachFurther IsLongFurther (further_told (map logged All_lines)) → AreNamed m All_lines → AreOfRun m All_lines
     of_lines long names =

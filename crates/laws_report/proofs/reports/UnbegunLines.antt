@@ -1,16 +1,7 @@
 -- The clock lines that a run tells which begins no section.
 use Rattle.std.proofs.Common.{◌≡◌, ◌⊎◌, ◌∙◌, List, [], ◌∷◌, ◌++◌, length, Option, None, Some, ap, refl, sym, arith, inl, inr, append-nil, length-append}
-use Rattle.std.proofs.lemmas.Grind.{flat_map-append}
-use Rattle.std.proofs.lemmas.List.{length-map}
+use Rattle.laws_board.proofs.Names.{flat_map-append, length-map, Cause, Machine, IsValidMachine, Scene, Told, MotionTurn, ReactorTurn, gather}
 use Rattle.plan_types.specs.Sections.{first_start}
-use Rattle.plan_types.specs.declared.cause.Cause.{Cause}
-use Rattle.plan_types.specs.declared.machine.Machine.{Machine}
-use Rattle.plan_types.specs.Machines.{IsValidMachine}
-use Rattle.wire_scene.specs.declared.scene.Scene.{Scene}
-use Rattle.motion_work.specs.Told.{Told}
-use Rattle.session_work.specs.declared.table.MotionTurn.{MotionTurn}
-use Rattle.session_work.specs.declared.table.ReactorTurn.{ReactorTurn}
-use Rattle.session_work.specs.Rows.{gather}
 use Rattle.session_run.specs.Boards.{came_from}
 use Rattle.laws_board.specs.plans.Planned.{Plans, put_of}
 use Rattle.laws_run.specs.run_ends.Boards.{board_in, boards_of}
@@ -18,11 +9,11 @@ use Rattle.laws_run.proofs.run_headline.Boarded.{ready, sound_of}
 use Rattle.laws_run.proofs.run_headline.Facts.{came_long}
 use Rattle.laws_run.proofs.run_headline.Reporting.{told_further}
 use Rattle.laws_run.proofs.run_headline.Showing.{Facts, few, told_boards}
-use Rattle.laws_run.proofs.run_limits.Keeping.{gather_both}
 use Rattle.laws_run.proofs.run_limits.Ticks.{board_low}
 use Rattle.laws_report.proofs.reports.Unbegun.{ShowsLines}
 use Rattle.laws_report.proofs.reports.Untold.{untold_none}
 use Rattle.laws_run.proofs.run_headline.Drifts.{NoneDrifts}
+use Rattle.laws_run.proofs.run_lines.Heads.{gather_lines}
 
 module _ (m : Machine) (v : IsValidMachine m) (s : Scene) (ts : List MotionTurn) (p : Plans m (length m.boards) ts) (end : ReactorTurn) (c : Cause) (first : ReactorTurn) (rest : List ReactorTurn) (f : Facts m s ts (first ∷ rest) end c) where
   -- those of the boards that the planner heard
@@ -33,7 +24,7 @@ module _ (m : Machine) (v : IsValidMachine m) (s : Scene) (ts : List MotionTurn)
       let turns = first ∷ (rest ++ end ∷ []) in
       let tells = told_further m v s ts p end c first rest f t e turns [] (sym (append-nil turns)) (length turns) (omega arith) in
       let lines = λ (z : List ReactorTurn). gather (λ (x : ReactorTurn). x.lines) z in
-      let cut = ap boards_of (ap lines told.are ∙ gather_both told.past told.later) ∙ flat_map-append board_in (lines told.past) (lines told.later) ∙ ap (λ z. boards_of (lines told.past) ++ z) told.rest ∙ append-nil (boards_of (lines told.past)) ∙ told.lines in
+      let cut = ap boards_of (ap lines told.are ∙ gather_lines told.past told.later) ∙ flat_map-append board_in (lines told.past) (lines told.later) ∙ ap (λ z. boards_of (lines told.past) ++ z) told.rest ∙ append-nil (boards_of (lines told.past)) ∙ told.lines in
       let start : t.first ≡ first_start (length (came_from [] r.past)) = r.first_is in
       let number = came_long [] r.past in
       let place = ap length r.are ∙ length-append r.past (r.turn ∷ r.later) in

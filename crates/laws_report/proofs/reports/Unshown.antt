@@ -1,37 +1,17 @@
 -- The report of a run over links that has no line of a section.
 use Rattle.std.specs.Prelude.{if◌then◌else◌}
 use Rattle.std.proofs.Common.{◌≡◌, ◌∙◌, ℕ, ◌+◌, ◌<◌, ◌≤◌, Bool, true, false, List, [], ◌∷◌, ◌++◌, length, Option, Some, None, ap, sym, refl, subst, arith, append-nil, inl, inr}
-use Rattle.std.proofs.lemmas.Grind.{flat_map-append}
+use Rattle.laws_board.proofs.Names.{flat_map-append, eqb_tells, Cause, Machine, IsValidMachine, ReportLine, BoardDef, Scene, Switch, Asking, all_connected, giving_up, listen_all, ready_all, Connecting, Stopping, Known, news_of, noted, IsOwn, known_by, Started, MotionTurn, ReactorTurn, gather, Note, State, reacts, first_lines, machine_line}
 use Rattle.std.proofs.lemmas.Bool.{cases_lt}
-use Rattle.std.proofs.lemmas.Bool.Decides.{eqb_tells}
-use Rattle.plan_types.specs.declared.cause.Cause.{Cause}
 use Rattle.plan_types.specs.declared.cause.Cause.TheVariants as cause
-use Rattle.plan_types.specs.declared.machine.Machine.{Machine}
-use Rattle.plan_types.specs.Machines.{IsValidMachine}
-use Rattle.report_text.specs.declared.line.ReportLine.{ReportLine}
 use Rattle.report_text.specs.declared.line.ReportLine.TheVariants as report
-use Rattle.plan_types.specs.declared.machine.BoardDef.{BoardDef}
-use Rattle.wire_scene.specs.declared.scene.Scene.{Scene}
-use Rattle.wire_scene.specs.declared.scene.Switch.{Switch}
-use Rattle.board_asking.specs.declared.asking.Asking.{Asking}
-use Rattle.board_asking.specs.Connecting.{all_connected, giving_up, listen_all, ready_all}
-use Rattle.host_reactor.specs.declared.ordered.Phase.TheVariants.{Connecting, Running, Stopping}
-use Rattle.host_reactor.specs.declared.ordered.Known.{Known}
-use Rattle.host_reactor.specs.Notes.{news_of, noted}
+use Rattle.host_reactor.specs.declared.ordered.Phase.TheVariants.{Running}
 use Rattle.host_reactor.specs.Running.{late}
-use Rattle.host_reactor.specs.Rows.{IsOwn}
-use Rattle.host_reactor.specs.Runs.{known_by}
 use Rattle.laws_board.proofs.clocks.Lines.{noted_phase}
-use Rattle.motion_work.specs.Seen.{Started}
-use Rattle.session_work.specs.declared.table.MotionTurn.{MotionTurn}
-use Rattle.session_work.specs.declared.table.ReactorTurn.{ReactorTurn}
 use Rattle.session_work.specs.Heads.{IsRow}
-use Rattle.session_work.specs.Rows.{gather}
-use Rattle.msg_code.specs.declared.talk.Note.{Note}
-use Rattle.msg_code.specs.declared.talk.State.{State}
 use Rattle.host_reactor.specs.declared.ordered.Begun.{Begun}
-use Rattle.host_reactor.specs.Reactor.{asks_boards, is_connected_now, new_askings, reacts, unless_given_up}
-use Rattle.host_reactor.specs.Report.{drift_lines, first_lines, machine_line, pulse_lines, section_line}
+use Rattle.host_reactor.specs.Reactor.{asks_boards, is_connected_now, new_askings, unless_given_up}
+use Rattle.host_reactor.specs.Report.{drift_lines, pulse_lines, section_line}
 use Rattle.session_run.specs.Boards.{IsReactorTurn}
 use Rattle.laws_run.proofs.run_headline.Joining.{row_none}
 use Rattle.laws_board.specs.plans.Lines.{TellTurns, head_in, heads_of, starts_at}

@@ -2,45 +2,22 @@
 use Rattle.std.proofs.Common.{◌≡◌, ◌∙◌, ℕ, suc, ◌+◌, ◌*◌, ◌%◌, ◌^◌, ◌<◌, ◌≤◌, Bool, true, false, List, [], ◌∷◌, ◌++◌, ◌⊎◌, All, get_or, length, map, max, ap, sym, refl, subst, arith, inl, inr, Option, None, Some, append_assoc, length-append}
 use Rattle.std.specs.Prelude.{◌==◌, ◌&&◌, nat_le, nat_lt, if◌then◌else◌}
 use Rattle.std.proofs.Math.Nat.{mul-mod_left}
-use Rattle.std.proofs.lemmas.Bool.Decides.{eqb_tells, leb_tells}
-use Rattle.std.proofs.lemmas.List.{length-map}
-use Rattle.std.proofs.lemmas.List.Elements.{All-head}
+use Rattle.laws_board.proofs.Names.{eqb_tells, leb_tells, length-map, All-head, Cause, BoardClock, BoardDef, Machine, Line, clock_of, turn_ns, Clocks, one_line, IsValidMachine, board_at, State, WordMsg, Scene, Switch, Asking, listen_all, ready_all, pins_of, Known, Connecting, noted, Reacted, Came, known_by, last_reacted, Told, MotionTurn, ReactorTurn, gather, and_from}
 use Rattle.plan_types.specs.Sections.{first_start}
-use Rattle.plan_types.specs.declared.cause.Cause.{Cause}
-use Rattle.plan_types.specs.declared.clock.BoardClock.{BoardClock}
-use Rattle.plan_types.specs.declared.machine.BoardDef.{BoardDef}
-use Rattle.plan_types.specs.declared.machine.Machine.{Machine}
-use Rattle.plan_types.specs.declared.plan.Line.{Line}
-use Rattle.plan_types.specs.Clock.{clock_of, turn_ns}
-use Rattle.plan_types.specs.Lines.{Clocks, one_line}
-use Rattle.plan_types.specs.Machines.{IsValidMachine, board_at, no_board}
-use Rattle.msg_code.specs.declared.talk.State.{State}
-use Rattle.msg_code.specs.declared.talk.WordMsg.{WordMsg}
+use Rattle.plan_types.specs.Machines.{no_board}
 use Rattle.msg_code.specs.declared.talk.WordNews.{WordNews}
 use Rattle.msg_code.specs.declared.talk.WordNews.TheVariants as word
-use Rattle.wire_scene.specs.declared.scene.Scene.{Scene}
-use Rattle.wire_scene.specs.declared.scene.Switch.{Switch}
-use Rattle.board_asking.specs.declared.asking.Asking.{Asking}
-use Rattle.board_asking.specs.Connecting.{board_lines, listen_all, ready_all}
-use Rattle.link_work.specs.Switches.{pins_of}
-use Rattle.host_reactor.specs.declared.ordered.Known.{Known}
-use Rattle.host_reactor.specs.declared.ordered.Phase.TheVariants.{Connecting, Running}
-use Rattle.host_reactor.specs.Notes.{noted}
-use Rattle.host_reactor.specs.Reactor.{Reacted}
-use Rattle.host_reactor.specs.Runs.{Came, known_by, last_reacted}
+use Rattle.board_asking.specs.Connecting.{board_lines}
+use Rattle.host_reactor.specs.declared.ordered.Phase.TheVariants.{Running}
 use Rattle.laws_board.specs.turns.Turns.{BoardTurn}
 use Rattle.laws_board.specs.clocks.Runs.{IsInRun}
 use Rattle.laws_board.specs.clocks.Samples.{IsSampled, line_at, lines_told}
 use Rattle.laws_board.proofs.clocks.Clear.{told_before}
 use Rattle.laws_board.proofs.clocks.Lines as lining
 use Rattle.laws_board.proofs.clocks.Turning as turning
-use Rattle.laws_run.proofs.clear_runs.Bare.{listened}
 use Rattle.motion_work.specs.Further.{WasHeard, noted_lines, told_on}
-use Rattle.motion_work.specs.Told.{Told, are_fit, first_told, heard, is_fit, lines_in, told_at, told_in, told_of}
-use Rattle.session_work.specs.declared.table.MotionTurn.{MotionTurn}
-use Rattle.session_work.specs.declared.table.ReactorTurn.{ReactorTurn}
+use Rattle.motion_work.specs.Told.{are_fit, first_told, heard, is_fit, lines_in, told_at, told_in, told_of}
 use Rattle.session_work.specs.Leads.{last_words}
-use Rattle.session_work.specs.Rows.{gather}
 use Rattle.session_run.specs.Boards.{AreReactorTurns, came_from, came_in}
 use Rattle.laws_run.specs.lanes.Boards.{turns_behind}
 use Rattle.laws_run.specs.lanes.Turns.{came_before}
@@ -52,11 +29,14 @@ use Rattle.laws_run.proofs.run_headline.Facts.{came_long, turns_cut}
 use Rattle.laws_run.proofs.run_headline.Fronts.{front_of, one_less}
 use Rattle.laws_run.proofs.run_headline.Noting.{IsOf, all_noted, heard_running, word_said}
 use Rattle.laws_run.proofs.run_headline.Showing.{Facts, few}
-use Rattle.laws_run.proofs.run_headline.Words.{Among, among_either, among_number, gather_words, made_numbered}
+use Rattle.laws_run.proofs.run_headline.Words.{Among, among_either, among_number, gather_words, made_numbered, words_long}
 use Rattle.laws_report.proofs.reports.Quiet.{made_quiet, plans_quiet, runs_plain}
-use Rattle.laws_report.proofs.reports.Unbegun.{readied, told_lines}
+use Rattle.laws_report.proofs.reports.Unbegun.{told_lines}
 use Rattle.laws_run.proofs.run_headline.Drifts.{NoneDrifts}
 use Rattle.laws_run.proofs.run_headline.Asked.{whole_by}
+use Rattle.plan_types.proofs.Facts.{is_equal, is_le, is_less}
+use Rattle.laws_board.proofs.plans.Planning.{heard_some}
+use Rattle.host_reactor.proofs.Rowing.{listened, readied}
 
 -- the turn of the reactor in which connecting ended
 record Ended (m : Machine) (switches : List Switch) (before : List Came) (rs : List ReactorTurn) : Type 0 where
@@ -80,20 +60,6 @@ find_ended m switches before (t ∷ rs) h p q =
       | inr x ↦ record { past = []; turn = t; later = rs; are = refl; goes_on = h.0.goes_on; word_is = h.0.word_is; ends = x }
     ]
 
--- lines that are sampled fit their boards
-both_true : (a b : Bool) → a ≡ true → b ≡ true → (a && b) ≡ true
-both_true true b e f = f
-both_true false b e f = cc
-
-le_true : (a b : ℕ) → a ≤ b → nat_le a b ≡ true
-le_true a b low = elim (leb_tells a b) [ inl p ↦ p.0 | inr p ↦ absurd (omega (arith, p.1, low)) ]
-
-lt_true : (a b : ℕ) → a < b → nat_lt a b ≡ true
-lt_true a b low = elim (leb_tells (suc a) b) [ inl p ↦ p.0 | inr p ↦ absurd (omega (arith, p.1, low)) ]
-
-eq_true : (a b : ℕ) → a ≡ b → (a == b) ≡ true
-eq_true a b same = elim (eqb_tells a b) [ inl p ↦ p.0 | inr p ↦ absurd (p.1 same) ]
-
 fit_one : (b : BoardDef) (clock : BoardClock) (turns : List BoardTurn) (k : ℕ) (l : Line) → clock.freq ≡ b.freq → length turns ≤ k → IsSampled clock turns l → is_fit b k l ≡ true
 fit_one b clock turns k l freq long x =
     let s = x.0 in
@@ -102,14 +68,14 @@ fit_one b clock turns k l freq long x =
     let to = i.to in
     let got = told_before (i.block + 1) s.clock s.got turns i.told in
     subst (λ (y : Line). is_fit b k y ≡ true) (sym x.2)
-    (both_true ((clock.freq == b.freq) && nat_le (s.sent * turn_ns) (k * turn_ns)) (s.sent * turn_ns % 1_000_000 == 0) (both_true (clock.freq == b.freq) (nat_le (s.sent * turn_ns) (k * turn_ns)) (eq_true clock.freq b.freq freq) (le_true (s.sent * turn_ns) (k * turn_ns) (omega (arith, got, from, to, long))))
-    (eq_true (s.sent * turn_ns % 1_000_000) 0 (mul-mod_left s.sent 1_000_000)))
+    (and_from ((clock.freq == b.freq) && nat_le (s.sent * turn_ns) (k * turn_ns)) (s.sent * turn_ns % 1_000_000 == 0) (and_from (clock.freq == b.freq) (nat_le (s.sent * turn_ns) (k * turn_ns)) (is_equal clock.freq b.freq freq) (is_le (s.sent * turn_ns) (k * turn_ns) (omega (arith, got, from, to, long))))
+    (is_equal (s.sent * turn_ns % 1_000_000) 0 (mul-mod_left s.sent 1_000_000)))
 
 fit_all : (boards : List BoardDef) (k : ℕ) (lines : List Line) → length lines ≡ length boards → ((b : ℕ) → b < length boards → (l : Line) → line_at b lines ≡ l ∷ [] → is_fit (get_or boards b no_board) k l ≡ true) → are_fit boards k lines ≡ true
 fit_all [] k [] long each = refl
 fit_all [] k (l ∷ lines) long each = absurd (omega (arith, long))
 fit_all (d ∷ boards) k [] long each = absurd (omega (arith, long))
-fit_all (d ∷ boards) k (l ∷ lines) long each = both_true (is_fit d k l) (are_fit boards k lines) (each 0 (omega arith) l refl) (fit_all boards k lines (omega (arith, long)) (λ b low x e. each (suc b) (omega (arith, low)) x e))
+fit_all (d ∷ boards) k (l ∷ lines) long each = and_from (is_fit d k l) (are_fit boards k lines) (each 0 (omega arith) l refl) (fit_all boards k lines (omega (arith, long)) (λ b low x e. each (suc b) (omega (arith, low)) x e))
 
 lines_long : (m : Machine) (b : ℕ) (askings : List Asking) → length (board_lines m b askings) ≡ length askings
 lines_long m b [] = refl
@@ -124,18 +90,9 @@ early_word (x ∷ xs) ys (b ∷ before) w later e low =
     let rest : xs ++ ys ≡ before ++ w ∷ later = cc in
     inr (early_word xs ys before w later rest (omega (arith, low)))
 
-words_long : (rs : List ReactorTurn) → length (gather (λ x. x.word ∷ []) rs) ≡ length rs
-words_long [] = refl
-words_long (r ∷ rs) = ap suc (words_long rs)
-
 words_cut : (past : List ReactorTurn) (turn : ReactorTurn) (later : List ReactorTurn) → gather (λ x. x.word ∷ []) (past ++ turn ∷ later) ≡ gather (λ x. x.word ∷ []) past ++ turn.word ∷ gather (λ x. x.word ∷ []) later
 words_cut [] turn later = refl
 words_cut (r ∷ past) turn later = ap (λ (z : List WordMsg). r.word ∷ z) (words_cut past turn later)
-
--- what is told of connecting stays so
-heard_some : (m : Machine) (k : ℕ) (ws : List WordMsg) (t : Told) → connecting_heard m k ws (Some t) ≡ Some t
-heard_some m k [] t = refl
-heard_some m k (w ∷ ws) t = heard_some m k ws t
 
 word_heard : (m : Machine) (k : ℕ) (w : WordMsg) (ws : List WordMsg) (clocks : List Clocks) → told_of m w ≡ Some clocks → Among w ws → (o : Option Told) → connecting_heard m k ws o ≡ None → ⊥
 word_heard m k w [] clocks tells among o e = among
@@ -175,7 +132,7 @@ word_tells : (m : Machine) (w : WordMsg) (k : ℕ) (lines : List Line) → w.tur
 word_tells m w k lines at low news fit =
     ap (λ n. if nat_lt n (2 ^ 61) then told_in m n w.news else None) at
     ∙ (ap (λ (ns : List WordNews). if nat_lt k (2 ^ 61) then told_in m k ns else None) news
-    ∙ (ap (λ (b : Bool). if b then told_in m k (word.Lines lines ∷ []) else None) (lt_true k (2 ^ 61) low)
+    ∙ (ap (λ (b : Bool). if b then told_in m k (word.Lines lines ∷ []) else None) (is_less k (2 ^ 61) low)
     ∙ ap (λ (b : Bool). first_told (if b then Some (map one_line lines) else None) None) fit))
 
 module _ (m : Machine) (v : IsValidMachine m) (s : Scene) (ts : List MotionTurn) (p : Plans m (length m.boards) ts) (end : ReactorTurn) (c : Cause) (first : ReactorTurn) (rest : List ReactorTurn) (f : Facts m s ts (first ∷ rest) end c) (untold : p.seen.told ≡ None) where

@@ -1,23 +1,13 @@
 -- What the report of a run over links shows that ended for want of memory: its lines are those of the turns before the last one.
 use Rattle.std.proofs.Common.{take-append-drop, ◌≡◌, ◌∙◌, ℕ, ◌<◌, ◌^◌, All, List, [], ◌∷◌, ◌++◌, length, map, take, drop, Some, ap, sym, refl, subst, arith, append-nil, inl, inr, None, length-append}
-use Rattle.std.proofs.Math.Logic.{∥∥₁_map}
+use Rattle.laws_board.proofs.Names.{∥∥₁_map, Cause, Machine, Section, Clocks, IsValidMachine, ReportLine, Started, MotionTurn, ReactorTurn, Scene}
 use Rattle.gcode_program.specs.Programs.{program_sections}
 use Rattle.io_core.specs.declared.traits.Files.{Ghosts as Files}
 use Rattle.io_core.specs.declared.traits.Sink.{Ghosts as Sink}
-use Rattle.plan_types.specs.declared.cause.Cause.{Cause}
 use Rattle.plan_types.specs.declared.cause.Cause.TheVariants as cause
-use Rattle.plan_types.specs.declared.machine.Machine.{Machine}
-use Rattle.plan_types.specs.declared.plan.Section.{Section}
-use Rattle.plan_types.specs.Lines.{Clocks}
-use Rattle.plan_types.specs.Machines.{IsValidMachine}
-use Rattle.report_text.specs.declared.line.ReportLine.{ReportLine}
-use Rattle.motion_work.specs.Seen.{Started}
 use Rattle.session_lanes.specs.declared.near.LinkLog.{LinkLog}
-use Rattle.session_work.specs.declared.table.MotionTurn.{MotionTurn}
-use Rattle.session_work.specs.declared.table.ReactorTurn.{ReactorTurn}
 use Rattle.session_run.specs.Boards.{AreReactorTurns}
 use Rattle.session_run.specs.Reported.{IsReported}
-use Rattle.wire_scene.specs.declared.scene.Scene.{Scene}
 use Rattle.laws_board.specs.causes.Short.{HaveShortDictionaries}
 use Rattle.laws_board.specs.plans.Lines.{TellTurns}
 use Rattle.laws_board.specs.plans.Planned.{Plans, PlannerInput}
@@ -38,6 +28,7 @@ use Rattle.laws_run.proofs.home_headline.Switched.{AreSwitched, turns_switched}
 use Rattle.laws_report.proofs.reports.Homing.{ShowsLog, none-prints, shown-prints}
 use Rattle.laws_report.proofs.reports.Inside.{have_cuts}
 use Rattle.laws_report.proofs.reports.Linked.{KeepsUp, front_written, homes_shown, lines_of, none_through, none_written, numbered_said, some_turns}
+use Rattle.plan_types.proofs.Facts.{none_some}
 
 -- the section lines of sections that were begun
 lines_begun : (m : Machine) (seen : PlannerInput) (clocks : List Clocks) (ready : ℕ) (own : Cause) (turns : List ReactorTurn) → AllShowBegun m seen clocks ready own turns → TellTurns m seen.begun 0 turns
@@ -55,9 +46,6 @@ front_cuts m s seen clocks ready own c text said rest (first ∷ later) some sam
     let of_text : sections ≡ map (λ (x : Started). x.section) switched.known ++ drop n sections = sym (take-append-drop n sections) ∙ ap (λ (z : List Section). z ++ drop n sections) front in
     have_cuts m s.switches sections (drop n sections) switched.known of_text switched.spread switched.at switched.row (first ∷ later) switched.lines switched.ends c said rest are
     (numbered_said m seen clocks ready own first later said rest h are) (λ g. absurd (not g))
-
-no_turn : (turn : ℕ) → None ≡ Some turn → ⊥
-no_turn turn e = cc
 
 no_cause : (board turn : ℕ) → cause.ReadFault ≡ cause.Connect board turn → ⊥
 no_cause board turn e = cc
@@ -94,7 +82,7 @@ module _ {F S : Type 0} (f : Files F) (o : Sink S) (m : Machine) (s : Scene) (gc
   none_wanted r text memory none =
       let not = none_through f o m s gcode files files' out out' c lines counts links valid short r memory in
       let Said : List ReportLine → Type 0 = λ z. HaveCuts m s.switches c (sections_over m text) z × ShowsLog m text c z in
-      let cuts : HaveCuts m s.switches c (sections_over m text) [] = record { before = refl; moves = λ i kind. refl; homes = λ i axis kind. inl refl; ended = λ i axis kind why. absurd (elim why [ inl next ↦ no_turn next.0 next.1 | inr g ↦ not g ]) } in
+      let cuts : HaveCuts m s.switches c (sections_over m text) [] = record { before = refl; moves = λ i kind. refl; homes = λ i axis kind. inl refl; ended = λ i axis kind why. absurd (elim why [ inl next ↦ none_some next.0 next.1 | inr g ↦ not g ]) } in
       let both = subst Said (sym (none_written f o m s gcode files files' out out' c lines counts links valid short r memory none)) (cuts, none-prints m text c [] valid (record { of_run = tt; may = tt; heads = tt }) (λ g. absurd (not g))) in
       (both.0, λ scene little. both.1)
 

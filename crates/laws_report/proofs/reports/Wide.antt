@@ -1,63 +1,33 @@
 -- The cut lines of a run have numbers of 64 bits.
 use Rattle.std.proofs.Common.{◌≡◌, ◌∙◌, ◌⊎◌, inl, inr, ℕ, suc, ◌+◌, ◌<◌, ◌^◌, Bool, true, false, cond, All, List, [], ◌∷◌, ◌++◌, length, map, ap, sym, refl, subst, arith, Option, Some, None}
 use Rattle.std.specs.Prelude.{◌&&◌, ◌==◌, nat_le, nat_lt, if◌then◌else◌}
-use Rattle.std.proofs.lemmas.Bool.Decides.{leb_tells}
-use Rattle.std.proofs.lemmas.List.Elements.{All-head, All-tail}
-use Rattle.plan_types.specs.declared.cause.Cause.{Cause}
-use Rattle.plan_types.specs.declared.machine.AxisDef.{AxisDef}
-use Rattle.plan_types.specs.declared.machine.Machine.{Machine}
-use Rattle.plan_types.specs.declared.plan.ReadStop.{ReadStop}
+use Rattle.laws_board.proofs.Names.{leb_tells, All-head, All-tail, Cause, AxisDef, Machine, ReadStop, SectionKind, Home, Moves, nearest, Clocks, axis_at, turn_tick, Cmd, News, Note, NoteNews, State, ReportLine, Switch, End, Member, Goes, Rests, Sends, Fired, Seen, GroupState, all_fired, phase, unseen, Homing, HomingTurn, answer_in, goes_on_homing, hears_all, homing_after, homing_turn, members_from, Asking, all_connected, giving_up, listen_all, ready_all, stale, Known, Phase, Connecting, Stopping, is_out, news_of, noted, known_behind, told_all, Reacted, by_phase, cut_line, reacts, unless_ended, unless_stale, first_lines, first_cause, stop_of, Came, GoesOn, known_by, ReactorTurn, gather}
 use Rattle.plan_types.specs.declared.plan.ReadStop.TheVariants as read
-use Rattle.plan_types.specs.declared.plan.SectionKind.{SectionKind}
-use Rattle.plan_types.specs.declared.plan.SectionKind.TheVariants.{Home, Moves}
 use Rattle.plan_types.specs.declared.plan.TrigState.{TrigState}
-use Rattle.plan_types.specs.Board.{nearest}
-use Rattle.plan_types.specs.Lines.{Clocks, lines_turn}
-use Rattle.plan_types.specs.Machines.{axis_at}
-use Rattle.clock_line.specs.Early.{is_in_run, turn_tick}
-use Rattle.msg_code.specs.declared.cmd.Cmd.{Cmd}
+use Rattle.plan_types.specs.Lines.{lines_turn}
+use Rattle.clock_line.specs.Early.{is_in_run}
 use Rattle.msg_code.specs.declared.cmd.Cmd.TheVariants as cmd
-use Rattle.msg_code.specs.declared.talk.News.{News}
-use Rattle.msg_code.specs.declared.talk.Note.{Note}
-use Rattle.msg_code.specs.declared.talk.NoteNews.{NoteNews}
 use Rattle.msg_code.specs.declared.talk.NoteNews.TheVariants as news
-use Rattle.msg_code.specs.declared.talk.State.{State}
-use Rattle.report_text.specs.declared.line.ReportLine.{ReportLine}
 use Rattle.report_text.specs.declared.line.ReportLine.TheVariants as report
-use Rattle.wire_scene.specs.declared.scene.Switch.{Switch}
 use Rattle.wire_scene.specs.Scenes.{is_of, last_where, line_of, or_earlier}
-use Rattle.trigger_group.specs.declared.order.End.{End}
 use Rattle.trigger_group.specs.declared.order.End.TheVariants as end
-use Rattle.trigger_group.specs.declared.order.Member.{Member}
-use Rattle.trigger_group.specs.declared.round.Phase.TheVariants.{Goes, Rests, Sends}
 use Rattle.trigger_group.specs.declared.round.Phase.{Phase as GroupPhase}
-use Rattle.trigger_group.specs.declared.seen.Fired.{Fired}
-use Rattle.trigger_group.specs.declared.seen.Seen.{Seen}
-use Rattle.trigger_group.specs.Group.{GroupState, after_in, all_fired, answer, came, ended, expired, first_fired, first_expired, first_switched, hears_from, later, new_group, or_else, or_none, phase, switched, unseen}
+use Rattle.trigger_group.specs.Group.{after_in, answer, came, ended, expired, first_fired, first_expired, first_switched, hears_from, later, new_group, or_else, or_none, switched}
 use Rattle.trigger_group.specs.Kept.{may_be}
-use Rattle.axis_homing.specs.declared.homing.Homing.{Homing}
-use Rattle.axis_homing.specs.declared.homing.HomingTurn.{HomingTurn}
-use Rattle.axis_homing.specs.Homing.{answer_in, came_at, goes_on_homing, hears_all, hears_answer, hears_news, hears_report, hears_state, hears_states, homing_after, homing_of, homing_turn, homing_with, members_from}
-use Rattle.board_asking.specs.declared.asking.Asking.{Asking}
-use Rattle.board_asking.specs.Connecting.{all_connected, board_lines, connected_lines, giving_up, listen_all, ready_all}
-use Rattle.board_asking.specs.Drift.{stale}
-use Rattle.host_reactor.specs.declared.ordered.Known.{Known}
-use Rattle.host_reactor.specs.declared.ordered.Phase.{Phase}
-use Rattle.host_reactor.specs.declared.ordered.Phase.TheVariants.{Connecting, Running, Stopping}
+use Rattle.axis_homing.specs.Homing.{came_at, hears_answer, hears_news, hears_report, hears_state, hears_states, homing_of, homing_with}
+use Rattle.board_asking.specs.Connecting.{board_lines, connected_lines}
+use Rattle.host_reactor.specs.declared.ordered.Phase.TheVariants.{Running}
 use Rattle.host_reactor.specs.declared.ordered.Reading.{Reading}
-use Rattle.host_reactor.specs.Notes.{is_out, news_of, noted, known_behind, told_all}
-use Rattle.host_reactor.specs.Reactor.{Reacted, after_homing, asks_boards, by_phase, carries_on, cut_line, finishes, is_connected_now, reacts, unless_ended, unless_given_up, unless_homing_ends, unless_late_stale, unless_stale}
-use Rattle.host_reactor.specs.Report.{count_lines, first_lines}
-use Rattle.host_reactor.specs.Running.{first_cause, is_finished, stop_of}
-use Rattle.host_reactor.specs.Runs.{Came, GoesOn, known_by}
+use Rattle.host_reactor.specs.Reactor.{after_homing, asks_boards, carries_on, finishes, is_connected_now, unless_given_up, unless_homing_ends, unless_late_stale}
+use Rattle.host_reactor.specs.Report.{count_lines}
+use Rattle.host_reactor.specs.Running.{is_finished}
 use Rattle.laws_board.proofs.clocks.Turning as turning
-use Rattle.session_work.specs.declared.table.ReactorTurn.{ReactorTurn}
-use Rattle.session_work.specs.Rows.{gather}
 use Rattle.session_run.specs.Boards.{AreReactorTurns, came_from, came_in}
 use Rattle.laws_run.specs.run_headline.Told.{AreTold}
 use Rattle.laws_run.proofs.run_headline.Telling.{boards_told, first_told}
 use Rattle.laws_run.proofs.home_headline.Cuts.{answer_of}
 use Rattle.laws_report.proofs.reports.Limits.{HaveLongCuts}
+use Rattle.plan_types.proofs.Facts.{first_of_both, was_less}
 
 -- the ticks at which members of a group triggered are of 64 bits
 abbrev HasSmall : Option Fired → Type 0
@@ -95,20 +65,13 @@ came_small board s tick turn g low h = by (nat_lt turn g.start)
     by true = h
     by false = all_hear board s tick turn g.members low h
 
-first_true : (a b : Bool) → (a && b) ≡ true → a ≡ true
-first_true true b e = refl
-first_true false b e = cc
-
-less_than : (a b : ℕ) → nat_lt a b ≡ true → a < b
-less_than a b e = elim (leb_tells (suc a) b) [ inl p ↦ let low = p.1 in omega (arith, low) | inr p ↦ absurd (let f : false ≡ true = sym p.0 ∙ e in cc) ]
-
 -- a report counts only where its tick is one of the run
 report_small : (clocks : Clocks) (b turn : ℕ) (s : TrigState) (g : GroupState) → AllSmall g.members → AllSmall (hears_report clocks b turn s g).members
 report_small clocks b turn s g h = by (is_in_run clocks (nearest (turn_tick clocks turn) s.clock)) refl
   where
     by : (c : Bool) → is_in_run clocks (nearest (turn_tick clocks turn) s.clock) ≡ c
         → AllSmall (came_at b s (nearest (turn_tick clocks turn) s.clock) (if c then Some (lines_turn clocks (nearest (turn_tick clocks turn) s.clock)) else None) g).members
-    by true e = came_small b s (nearest (turn_tick clocks turn) s.clock) (lines_turn clocks (nearest (turn_tick clocks turn) s.clock)) g (less_than (nearest (turn_tick clocks turn) s.clock) (2 ^ 64) (first_true _ _ e)) h
+    by true e = came_small b s (nearest (turn_tick clocks turn) s.clock) (lines_turn clocks (nearest (turn_tick clocks turn) s.clock)) g (was_less (nearest (turn_tick clocks turn) s.clock) (2 ^ 64) (first_of_both _ _ e)) h
     by false e = h
 
 answer_small : (clocks : Clocks) (b turn : ℕ) (c : Cmd) (g : GroupState) → AllSmall g.members → AllSmall (hears_answer clocks b turn c g).members

@@ -1,16 +1,12 @@
 -- The report of a run over links of a text without sections checks.
 use Rattle.std.proofs.Common.{◌≡◌, ◌∙◌, ℕ, List, [], ◌∷◌, ◌++◌, length, map, ap, sym, refl, subst, arith, append-nil, Some}
-use Rattle.std.proofs.Math.Logic.{∥∥₁_elim, ∥∥₁_map}
+use Rattle.laws_board.proofs.Names.{∥∥₁_map, Cause, Machine, Section, IsValidMachine, ReportLine, ReactorTurn, gather, Run, Scene, Started}
+use Rattle.std.proofs.Math.Logic.{∥∥₁_elim}
 use Rattle.std.proofs.Props.{props}
 use Rattle.io_core.specs.declared.traits.Files.{Ghosts as Files}
 use Rattle.io_core.specs.declared.traits.Sink.{Ghosts as Sink}
 use Rattle.gcode_program.specs.Programs.{program_sections}
-use Rattle.plan_types.specs.declared.cause.Cause.{Cause}
 use Rattle.plan_types.specs.declared.cause.Cause.TheVariants as cause
-use Rattle.plan_types.specs.declared.machine.Machine.{Machine}
-use Rattle.plan_types.specs.declared.plan.Section.{Section}
-use Rattle.plan_types.specs.Machines.{IsValidMachine}
-use Rattle.report_text.specs.declared.line.ReportLine.{ReportLine}
 use Rattle.report_text.specs.declared.line.ReportLine.TheVariants as report
 use Rattle.report_text.specs.Text.{report_text}
 use Rattle.log_check.specs.Behind.{clocks}
@@ -24,14 +20,9 @@ use Rattle.laws_report.specs.reports.Within.{GoWithin}
 use Rattle.laws_report.proofs.reports.Running.{within-checks}
 use Rattle.session_lanes.specs.declared.near.LinkLog.{LinkLog}
 use Rattle.session_lanes.specs.declared.near.Told.{Told}
-use Rattle.session_work.specs.declared.table.ReactorTurn.{ReactorTurn}
-use Rattle.session_work.specs.Rows.{gather}
 use Rattle.session_run.specs.declared.tell.Kept.{Kept}
 use Rattle.session_run.specs.Reported.{IsReported}
 use Rattle.session_run.specs.Runs.{RunsOver}
-use Rattle.host_reactor.specs.Reactor.{Run}
-use Rattle.wire_scene.specs.declared.scene.Scene.{Scene}
-use Rattle.motion_work.specs.Seen.{Started}
 use Rattle.laws_board.specs.plans.Planned.{Plans}
 use Rattle.laws_run.specs.run_ends.Ends.{GoesThrough}
 use Rattle.laws_run.proofs.run_ends.Ending.{own_cause}

@@ -2,26 +2,21 @@
 use Rattle.std.proofs.Common.{◌≡◌, ◌∙◌, ℕ, ◌<◌, Bool, true, false, List, [], ◌∷◌, ◌++◌, length, ap, sym, refl, arith, append_assoc}
 use Rattle.std.specs.Prelude.{◌&&◌, ◌||◌, ◌==◌, nat_lt}
 use Rattle.std.specs.List.{list_all}
-use Rattle.std.proofs.lemmas.Bool.Decides.{nat_tests}
+use Rattle.laws_board.proofs.Names.{nat_tests, both_parts, and_from}
 use Rattle.text_core.specs.Bytes.{before, begins, is_blank, Text}
 use Rattle.text_core.specs.Lines.{lines_of}
 use Rattle.text_core.specs.Trims.{without_return}
 use Rattle.text_core.specs.Words.{is_inside, line_words, words_of}
 use Rattle.laws_report.specs.reports.Names.{is_plain, is_word}
 use Rattle.laws_report.specs.reports.Spelled.{spaced}
-use Rattle.laws_report.proofs.reports.Digits.{both-true}
 
 -- each of some texts is a word
 abbrev pub AreWords : List Text → Type 0
 AreWords [] = Unit {0}
 AreWords (w ∷ words) = (is_word w ≡ true) × AreWords words
 
-pub both-parts : (a b : Bool) → (a && b) ≡ true → (a ≡ true) × (b ≡ true)
-both-parts true b e = (refl, e)
-both-parts false b e = cc
-
 word-parts : (w : Text) → is_word w ≡ true → (0 < length w) × (list_all is_plain w ≡ true)
-word-parts w is = (let h = both-parts (nat_lt 0 (length w)) (list_all is_plain w) is in let some = h.0 in (grind (arith, nat_tests), h.1))
+word-parts w is = (let h = both_parts (nat_lt 0 (length w)) (list_all is_plain w) is in let some = h.0 in (grind (arith, nat_tests), h.1))
 
 plain-blank : (b : ℕ) → is_plain b ≡ true → is_blank b ≡ false
 plain-blank b h = grind (arith, nat_tests)
@@ -30,12 +25,12 @@ plain-blank b h = grind (arith, nat_tests)
 words-first : (w rest : Text) → 0 < length w → list_all is_plain w ≡ true → begins is_inside rest ≡ false → words_of (w ++ rest) ≡ w ∷ words_of rest
 words-first [] rest some plain apart = absurd (omega arith)
 words-first (b ∷ []) rest some plain apart =
-    let h = both-parts (is_plain b) true plain in
+    let h = both_parts (is_plain b) true plain in
     let inside = plain-blank b h.0 in
     rw (inside, apart) refl
 words-first (b ∷ c ∷ cs) rest some plain apart =
-    let h = both-parts (is_plain b) (list_all is_plain (c ∷ cs)) plain in
-    let next = both-parts (is_plain c) (list_all is_plain cs) h.1 in
+    let h = both_parts (is_plain b) (list_all is_plain (c ∷ cs)) plain in
+    let next = both_parts (is_plain c) (list_all is_plain cs) h.1 in
     let inside = plain-blank b h.0 in
     let more = plain-blank c next.0 in
     let later = words-first (c ∷ cs) rest (omega arith) h.1 apart in
@@ -67,8 +62,8 @@ printed-plain b h = grind (arith, nat_tests)
 all-printed : (w rest : Text) → list_all is_plain w ≡ true → list_all is_printed rest ≡ true → list_all is_printed (w ++ rest) ≡ true
 all-printed [] rest plain printed = printed
 all-printed (b ∷ bs) rest plain printed =
-    let h = both-parts (is_plain b) (list_all is_plain bs) plain in
-    both-true (is_printed b) (list_all is_printed (bs ++ rest)) (printed-plain b h.0) (all-printed bs rest h.1 printed)
+    let h = both_parts (is_plain b) (list_all is_plain bs) plain in
+    and_from (is_printed b) (list_all is_printed (bs ++ rest)) (printed-plain b h.0) (all-printed bs rest h.1 printed)
 
 printed-words : (words : List Text) → AreWords words → list_all is_printed (spaced words []) ≡ true
 printed-words [] are = refl
@@ -88,7 +83,7 @@ not-return b h = grind (arith, nat_tests)
 line-first : (line rest : Text) → list_all is_printed line ≡ true → lines_of (line ++ (10 ∷ rest)) ≡ line ∷ lines_of rest
 line-first [] rest printed = refl
 line-first (b ∷ bs) rest printed =
-    let h = both-parts (is_printed b) (list_all is_printed bs) printed in
+    let h = both_parts (is_printed b) (list_all is_printed bs) printed in
     let inside = not-end b h.0 in
     let later = line-first bs rest h.1 in
     rw (inside, later) refl
@@ -96,7 +91,7 @@ line-first (b ∷ bs) rest printed =
 no-comment : (line : Text) → list_all is_printed line ≡ true → before 35 line ≡ line
 no-comment [] printed = refl
 no-comment (b ∷ bs) printed =
-    let h = both-parts (is_printed b) (list_all is_printed bs) printed in
+    let h = both_parts (is_printed b) (list_all is_printed bs) printed in
     let inside = not-comment b h.0 in
     let later = no-comment bs h.1 in
     rw (inside, later) refl
@@ -104,11 +99,11 @@ no-comment (b ∷ bs) printed =
 no-return : (line : Text) → list_all is_printed line ≡ true → without_return line ≡ line
 no-return [] printed = refl
 no-return (b ∷ []) printed =
-    let h = both-parts (is_printed b) true printed in
+    let h = both_parts (is_printed b) true printed in
     let inside = not-return b h.0 in
     rw inside refl
 no-return (b ∷ c ∷ cs) printed =
-    let h = both-parts (is_printed b) (list_all is_printed (c ∷ cs)) printed in
+    let h = both_parts (is_printed b) (list_all is_printed (c ∷ cs)) printed in
     ap (λ (t : Text). b ∷ t) (no-return (c ∷ cs) h.1)
 
 -- the words of a line, as a log takes it

@@ -1,19 +1,9 @@
 -- Each board of a whole run in which axes home, as the laws of boards ask for it.
 use Rattle.std.proofs.Common.{◌≡◌, ℕ, ◌<◌, ◌≤◌, List, [], ◌∷◌, ◌++◌, length, map, Some, refl, subst, arith, length-append}
-use Rattle.plan_types.specs.declared.cause.Cause.{Cause}
-use Rattle.plan_types.specs.declared.machine.Machine.{Machine}
-use Rattle.plan_types.specs.Clock.{clock_of}
-use Rattle.plan_types.specs.Machines.{IsValidMachine, board_at}
-use Rattle.plan_types.specs.Sections.{clocks_at}
-use Rattle.wire_scene.specs.declared.scene.Scene.{Scene}
-use Rattle.link_work.specs.Switches.{pins_of}
-use Rattle.host_reactor.specs.Runs.{Came}
+use Rattle.laws_board.proofs.Names.{Cause, Machine, clock_of, IsValidMachine, board_at, clocks_at, Scene, pins_of, Came, Told, MotionTurn, ReactorTurn}
 use Rattle.laws_board.specs.turns.Turns.{BoardTurn}
 use Rattle.laws_board.specs.clocks.Runs.{IsInRun}
 use Rattle.laws_board.proofs.clocks.Orders.{order_length}
-use Rattle.motion_work.specs.Told.{Told}
-use Rattle.session_work.specs.declared.table.MotionTurn.{MotionTurn}
-use Rattle.session_work.specs.declared.table.ReactorTurn.{ReactorTurn}
 use Rattle.session_run.specs.Boards.{came_from}
 use Rattle.laws_board.specs.sections.Boards.{OnBoard}
 use Rattle.laws_board.specs.sections.Homes.{IsHomeBoard}

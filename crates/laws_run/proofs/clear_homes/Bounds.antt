@@ -1,10 +1,6 @@
 -- A homing section that was told starts before the turn of its last planned step, or in it.
 use Rattle.std.proofs.Common.{◌≡◌, ℕ, ◌≤◌, List, ◌∷◌, ◌++◌, length, Some, subst, arith}
-use Rattle.plan_types.specs.declared.machine.Machine.{Machine}
-use Rattle.plan_types.specs.declared.plan.SectionKind.TheVariants.{Home}
-use Rattle.motion_work.specs.Seen.{AreStarted, Started}
-use Rattle.motion_work.specs.Told.{Told}
-use Rattle.session_work.specs.declared.table.MotionTurn.{MotionTurn}
+use Rattle.laws_board.proofs.Names.{Machine, Home, AreStarted, Started, Told, MotionTurn}
 use Rattle.laws_board.specs.plans.Planned.{Plans}
 use Rattle.laws_board.proofs.plans.Cutting.{homed_of}
 use Rattle.laws_board.proofs.plans.Running.{started_in}

@@ -1,26 +1,16 @@
 -- A whole run in which axes home, in a scene without entries, whatever threads it went in.
 use Rattle.std.proofs.Common.{All, ◌≡◌, ◌⊎◌, ℕ, List, [], ◌∷◌, ◌++◌, length, Some, refl, sym, ◌∙◌, arith, subst, inl, inr}
-use Rattle.std.proofs.Math.Logic.{∥∥₁_elim, ∥∥₁_map}
-use Rattle.std.proofs.lemmas.List.Elements.{All-head, All-tail}
-use Rattle.plan_types.specs.declared.plan.SectionKind.TheVariants.{Home, Moves}
-use Rattle.session_work.specs.declared.table.MotionTurn.{MotionTurn}
+use Rattle.laws_board.proofs.Names.{∥∥₁_map, All-head, All-tail, Home, Moves, MotionTurn, Cause, Machine, IsValidMachine, Started, Scene, Run, IsOwn, ReactorTurn}
+use Rattle.std.proofs.Math.Logic.{∥∥₁_elim}
 use Rattle.laws_run.specs.run_headline.Timely.{AreOfMoves}
 use Rattle.laws_run.proofs.run_headline.Facts.{kinds_of}
 use Rattle.laws_run.proofs.run_headline.Joining.{of_sections}
 use Rattle.gcode_program.specs.Programs.{program_end, program_sections}
-use Rattle.plan_types.specs.declared.cause.Cause.{Cause}
 use Rattle.plan_types.specs.declared.cause.Cause.TheVariants as cause
-use Rattle.plan_types.specs.declared.machine.Machine.{Machine}
 use Rattle.plan_types.specs.declared.plan.ReadStop.TheVariants as read
-use Rattle.plan_types.specs.Machines.{IsValidMachine}
 use Rattle.io_core.specs.declared.traits.Files.{Ghosts as Files}
 use Rattle.io_core.specs.declared.traits.Sink.{Ghosts as Sink}
-use Rattle.motion_work.specs.Seen.{Started}
-use Rattle.wire_scene.specs.declared.scene.Scene.{Scene}
-use Rattle.host_reactor.specs.Reactor.{Run}
-use Rattle.host_reactor.specs.Rows.{IsOwn}
 use Rattle.session_lanes.specs.declared.near.Told.{Told}
-use Rattle.session_work.specs.declared.table.ReactorTurn.{ReactorTurn}
 use Rattle.session_run.specs.declared.tell.Kept.{Kept}
 use Rattle.session_run.specs.Runs.{RunsOver}
 use Rattle.laws_run.specs.run_ends.Ends.{GoesThrough}

@@ -1,36 +1,23 @@
 -- A run that ends as a board expired does so for the first member of the group that told so.
 use Rattle.std.proofs.Common.{◌≡◌, ◌⊎◌, ℕ, ◌≤◌, ◌==◌, Bool, true, false, cond, List, [], ◌∷◌, length, map, Option, Some, None, refl, ap, sym, ◌∙◌, subst, arith, inl, inr}
 use Rattle.std.specs.Prelude.{◌&&◌, nat_le}
-use Rattle.std.proofs.lemmas.Bool.Decides.{eqb_tells, leb_tells}
+use Rattle.laws_board.proofs.Names.{eqb_tells, leb_tells, Machine, axis_at, Scene, End, Member, Fired, Seen, all_fired, Homing, hears_all, members_of, noted, Run, GoesOn, known_by, states-kept, both_parts}
 use Rattle.plan_types.specs.declared.cause.Cause.TheVariants as cause
-use Rattle.plan_types.specs.declared.machine.Machine.{Machine}
-use Rattle.plan_types.specs.Machines.{axis_at}
 use Rattle.io_core.specs.declared.traits.Files.{Ghosts as Files}
 use Rattle.io_core.specs.declared.traits.Sink.{Ghosts as Sink}
-use Rattle.wire_scene.specs.declared.scene.Scene.{Scene}
-use Rattle.trigger_group.specs.declared.order.End.{End}
 use Rattle.trigger_group.specs.declared.order.End.TheVariants.{Endstop, Expired, NoSwitch}
-use Rattle.trigger_group.specs.declared.order.Member.{Member}
-use Rattle.trigger_group.specs.declared.seen.Fired.{Fired}
-use Rattle.trigger_group.specs.declared.seen.Seen.{Seen}
 use Rattle.trigger_group.specs.Kept.{BoardsRise}
-use Rattle.trigger_group.specs.Group.{all_fired, answer, ended, expired, first_expired, first_switched, has_fired, or_else, or_none, switched}
-use Rattle.axis_homing.specs.declared.homing.Homing.{Homing}
-use Rattle.axis_homing.specs.Homing.{hears_all}
-use Rattle.axis_homing.specs.Rising.{HomingRises, members_of}
-use Rattle.host_reactor.specs.Notes.{noted}
-use Rattle.host_reactor.specs.Reactor.{Run}
-use Rattle.host_reactor.specs.Runs.{GoesOn, known_by}
+use Rattle.trigger_group.specs.Group.{answer, ended, expired, first_expired, first_switched, has_fired, or_else, or_none, switched}
+use Rattle.axis_homing.specs.Rising.{HomingRises}
 use Rattle.session_lanes.specs.declared.near.Told.{Told}
 use Rattle.session_run.specs.declared.tell.Kept.{Kept}
 use Rattle.session_run.specs.Boards.{came_from, came_in}
 use Rattle.session_run.specs.Runs.{RunsOver}
 use Rattle.laws_homing.proofs.clear_boards.Keeping.{hears_keep}
-use Rattle.laws_homing.proofs.home_runs.Grouped.{members_states}
 use Rattle.laws_homing.proofs.home_runs.Joining.{known_rises, noted_rises}
 use Rattle.laws_homing.specs.switch_runs.Reports.{WasReported}
 use Rattle.laws_homing.proofs.fired_runs.Reported.{Each, all_told}
-use Rattle.laws_homing.proofs.missed_groups.Answering.{Missed, both_parts, else_none, fired_some, missed, none_expired, none_switched, rest_missed}
+use Rattle.laws_homing.proofs.missed_groups.Answering.{Missed, else_none, fired_some, missed, none_expired, none_switched, rest_missed}
 use Rattle.laws_homing.proofs.missed_groups.Axes.{of_axis}
 use Rattle.laws_run.specs.clear_homes.First.{HaveTold, IsFirstExpired, IsFirstOf, IsUnswitched, NoneSwitched}
 use Rattle.laws_run.proofs.clear_homes.Expired.{ended_so, expired_of, goes_so, missed_of}
@@ -177,7 +164,7 @@ module _ {F S : Type 0} (f : Files F) (o : Sink S) (m : Machine) (s : Scene) (na
       record {
         rise = rises;
         each = all_told m s.switches (came_in last) came h goes is;
-        members = members_states n.clocks 0 h.start last.states h.group;
+        members = states-kept n.clocks 0 h.start last.states h.group;
         last = (hears_keep n.clocks last.states h).last;
         goes = goes;
       }

@@ -2,25 +2,8 @@
 -- a round late: the first unit that is left of a section of moves is taken in the turn in which it is queued, and shuts the board down.
 use Rattle.std.proofs.Common.{◌≡◌, ◌⊎◌, ℕ, ◌+◌, ◌≤◌, List, [], ◌∷◌, ◌++◌, length, Option, Some, None, refl, ap, sym, ◌∙◌, subst, arith, inl, inr, append_assoc, length-append, take}
 use Rattle.std.proofs.lemmas.List.{take-append-le}
-use Rattle.plan_types.specs.declared.clock.BoardClock.{BoardClock}
-use Rattle.plan_types.specs.declared.levels.Level.{Level}
-use Rattle.plan_types.specs.declared.machine.Machine.{Machine}
-use Rattle.plan_types.specs.declared.plan.BoardState.{BoardState}
-use Rattle.plan_types.specs.declared.plan.BoardState.TheVariants.{Running, Shut}
-use Rattle.plan_types.specs.declared.plan.SectionKind.TheVariants.{Home}
-use Rattle.plan_types.specs.Clock.{clock_of}
-use Rattle.plan_types.specs.Lines.{Clocks}
-use Rattle.plan_types.specs.Machines.{IsValidMachine, board_at}
-use Rattle.plan_types.specs.Sections.{clocks_at}
-use Rattle.wire_scene.specs.declared.scene.Entry.{Entry}
-use Rattle.wire_scene.specs.declared.scene.Switch.{Switch}
-use Rattle.board_world.specs.World.{Core, run_world, new_world}
-use Rattle.link_work.specs.Limits.{AllKeepLimits}
-use Rattle.link_work.specs.Runs.{AreTurns}
-use Rattle.link_work.specs.Stands.{first_state}
-use Rattle.link_work.specs.Turn.{LinkState, Orders}
+use Rattle.laws_board.proofs.Names.{BoardClock, Level, Machine, BoardState, Running, Shut, Home, clock_of, Clocks, IsValidMachine, board_at, clocks_at, Entry, Switch, Core, run_world, new_world, AllKeepLimits, AreTurns, first_state, LinkState, Orders, Came, last_reacted, state_at, Started, Told, MotionTurn, parts_on}
 use Rattle.link_work.proofs.Late.{limits_split}
-use Rattle.host_reactor.specs.Runs.{Came, last_reacted, state_at}
 use Rattle.laws_board.specs.turns.Turns.{BoardTurn, latest_state, stands_after}
 use Rattle.laws_board.specs.clocks.Runs.{IsInRun, UnitsFit, orders_in}
 use Rattle.laws_board.specs.sections.Courses.{IsGoodRun, courses, AllHeed}
@@ -40,13 +23,9 @@ use Rattle.laws_board.proofs.sections.HomeAll.{run_split}
 use Rattle.laws_board.proofs.sections.HomeBoards.{settled_head, settled_owned}
 use Rattle.laws_board.proofs.sections.HomeCut.{front_queued, split_soon}
 use Rattle.laws_board.proofs.sections.Linking.{own_first, turns_are, turns_owned}
-use Rattle.laws_board.proofs.sections.Lists.{cuts}
+use Rattle.laws_board.proofs.sections.Lists.{cuts, orders_long}
 use Rattle.laws_board.proofs.sections.Timing.{timely_join}
 use Rattle.laws_board.proofs.sections.Turning.{timely_behind, timely_front}
-use Rattle.laws_board.proofs.sections.Wholes.{none_long, orders_length}
-use Rattle.motion_work.specs.Seen.{Started}
-use Rattle.motion_work.specs.Told.{Told}
-use Rattle.session_work.specs.declared.table.MotionTurn.{MotionTurn}
 use Rattle.laws_homing.specs.home_plans.Notes.{CameNotes}
 use Rattle.laws_board.specs.plans.Rows.{AreInARow}
 use Rattle.laws_homing.specs.home_runs.Ended.{AreToldIn, IsToldIn}
@@ -70,12 +49,13 @@ use Rattle.laws_run.proofs.home_wholes.Lost.{board_heeds}
 use Rattle.laws_run.proofs.run_ends.Unstopped.{not_before}
 use Rattle.laws_board.specs.sections.Runs.{AreSpilled}
 use Rattle.link_work.specs.Ends.{spoiled}
-use Rattle.motion_work.specs.Boards.{parts_on}
 use Rattle.laws_board.proofs.sections.Calm.{calm_links}
 use Rattle.laws_board.proofs.sections.HomeHeeding.{home_timely}
 use Rattle.laws_board.proofs.sections.Spoiled.{ten_seconds}
 use Rattle.laws_homing.proofs.home_parts.Cut.{cuts_spilled}
 use Rattle.laws_run.proofs.run_headline.Fronts.{controls_limited}
+use Rattle.laws_board.proofs.sections.Heeding.{shut_runs}
+use Rattle.plan_types.proofs.Facts.{none_long}
 
 -- the first turns of a board's part of a run, of the same sections
 orders_less : (clocks : Clocks) (ss : List RunSection) (turn : ℕ) (os ps : List Orders) → AreOrdersIn clocks ss turn (os ++ ps) → AreOrdersIn clocks ss turn os
@@ -137,9 +117,6 @@ told_less m switches pins entries b start end turns later past cut low x =
       }
       | inr p ↦ let e = ap length p.3 in let f = length-append p.1 past in let long = x.long in absurd (omega (arith, e, f, low, long))
     ]
-
-no_shut : (o : BoardState) (reason tick first : ℕ) → o ≡ Running → o ≡ Shut reason tick first → ⊥
-no_shut o reason tick first e f = let g : Running ≡ Shut reason tick first = sym e ∙ f in cc
 
 module _ (m : Machine) (v : IsValidMachine m) (switches : List Switch) (pins : List (List Level)) (entries : List Entry) (none : entries ≡ []) (b ready until : ℕ) (own : ℕ → ℕ) (ts : List MotionTurn) (p : Plans m (length m.boards) ts) (t : Told)
     (told : p.seen.told ≡ Some t) (early : ready + 260 ≤ t.first) (may : MayHome m p.seen.begun) (came : List Came) (turns : List BoardTurn) (run_is : IsInRun m switches pins entries b came turns) (by : IsPlannedBy m switches (length m.boards) ts p came)
@@ -269,14 +246,14 @@ module _ (m : Machine) (v : IsValidMachine m) (switches : List Switch) (pins : L
         let none_left : split.tail ≡ [] = elim keeps.state [
           | inl g ↦
               let taken = ap length (g.taken ∙ ap (λ (h : Core). h.taken) is ∙ took ∙ ap (λ (h : Core). h.queued) (sym is) ∙ sym keeps.queued) in
-              let done = orders_length g.done in
-              let all = orders_length (sent_in 0 os) in
+              let done = orders_long g.done in
+              let all = orders_long (sent_in 0 os) in
               let both = ap length split.are in
               let parts = length-append split.front split.tail in
               let front = ap length g.front_is in
               let more = length-append g.done g.more in
               none_long split.tail (omega (arith, taken, done, all, both, parts, front, more))
-          | inr gone ↦ let s = gone.shut in absurd (no_shut (stands_after First past).core.board.controller.state s.0 s.1 s.2 runs (ap (λ (h : Core). h.board.controller.state) (sym is) ∙ s.3))
+          | inr gone ↦ let s = gone.shut in absurd (shut_runs (stands_after First past).core.board.controller.state s.0 s.1 s.2 runs (ap (λ (h : Core). h.board.controller.state) (sym is) ∙ s.3))
         ] in
         let Soon : List Sent → Type 0 = λ xs. AreSoon (lost_at (length os) xs) Sections in
         let soon : AreSoon (length os) Sections = subst Soon none_left (split_soon Line d.freq d.slots here.tracked.until (length os) ready Stops Sections (courses split.front) split.tail here.row here.sections split.begun) in

@@ -1,18 +1,10 @@
 -- The clock lines of a board in a run in which axes home: they track it until any turn before that up to which they do, and turns begin by those that the
 -- reactor knows as by all.
 use Rattle.std.proofs.Common.{◌≡◌, ℕ, suc, ◌+◌, ◌-◌, ◌*◌, ◌^◌, ◌<◌, ◌≤◌, inl, inr, List, [], ◌∷◌, length, map, refl, ap, sym, ◌∙◌, subst, arith}
-use Rattle.std.proofs.lemmas.Bool.Decides.{leb_tells}
-use Rattle.std.proofs.lemmas.List.{length-map}
-use Rattle.plan_types.specs.declared.machine.Machine.{Machine}
-use Rattle.plan_types.specs.declared.plan.Held.{Held}
-use Rattle.plan_types.specs.Clock.{turn_ns, run_turns}
-use Rattle.plan_types.specs.Lines.{Clocks, last_from, lines_tick}
-use Rattle.plan_types.specs.Sections.{clocks_at}
-use Rattle.clock_line.specs.Kept.{AreKept}
+use Rattle.laws_board.proofs.Names.{leb_tells, length-map, Machine, Held, turn_ns, Clocks, lines_tick, clocks_at, AreKept, Switch, noted, Came, known_by}
+use Rattle.plan_types.specs.Clock.{run_turns}
+use Rattle.plan_types.specs.Lines.{last_from}
 use Rattle.clock_line.proofs.Turns.{turn-after, turn_within}
-use Rattle.wire_scene.specs.declared.scene.Switch.{Switch}
-use Rattle.host_reactor.specs.Notes.{noted}
-use Rattle.host_reactor.specs.Runs.{Came, known_by}
 use Rattle.laws_board.specs.sections.Parts.{AreTracked}
 use Rattle.laws_homing.specs.home_parts.Known.{KnowsLately}
 use Rattle.motion_work.specs.Known.{held_by, lines_by}

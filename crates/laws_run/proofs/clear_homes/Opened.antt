@@ -1,15 +1,6 @@
 -- Notes that begin sections begin them where no homing section is known, and so that their groups answer of no expiry.
 use Rattle.std.proofs.Common.{◌≡◌, ◌⊎◌, ℕ, ◌+◌, ◌<◌, ◌≤◌, List, [], ◌∷◌, ◌++◌, length, append_assoc, Option, Some, None, refl, sym, ◌∙◌, subst, arith, inl, inr}
-use Rattle.plan_types.specs.declared.machine.Machine.{Machine}
-use Rattle.plan_types.specs.declared.plan.SectionKind.TheVariants.{Home}
-use Rattle.plan_types.specs.Lines.{Clocks}
-use Rattle.wire_scene.specs.declared.scene.Switch.{Switch}
-use Rattle.axis_homing.specs.declared.homing.Homing.{Homing}
-use Rattle.host_reactor.specs.declared.ordered.Phase.TheVariants.{Connecting}
-use Rattle.host_reactor.specs.Notes.{news_of, noted}
-use Rattle.host_reactor.specs.Runs.{Came, GoesOn, known_by}
-use Rattle.motion_work.specs.Seen.{Started}
-use Rattle.session_work.specs.declared.table.MotionTurn.{MotionTurn}
+use Rattle.laws_board.proofs.Names.{Machine, Home, Clocks, Switch, Homing, Connecting, news_of, noted, Came, GoesOn, known_by, Started, MotionTurn}
 use Rattle.laws_board.specs.plans.Planned.{Plans}
 use Rattle.laws_homing.specs.home_runs.Words.{BeginsNone}
 use Rattle.laws_homing.specs.home_plans.Notes.{CameNotes, IsNoteOf}

@@ -1,27 +1,11 @@
 -- In a run in which axes home, units that are released before the turn in which they are due are never late on a clear link.
 use Rattle.std.proofs.Common.{◌≡◌, ℕ, suc, ◌+◌, ◌*◌, ◌<◌, ◌≤◌, Bool, true, false, List, [], ◌∷◌, ◌++◌, All, length, map, Option, ap, sym, ◌∙◌, subst, arith, inl, inr, length-append}
-use Rattle.std.specs.List.{flat_map}
-use Rattle.std.proofs.lemmas.Bool.Decides.{leb_tells}
-use Rattle.std.proofs.lemmas.List.Elements.{All-head, All-tail}
-use Rattle.plan_types.specs.declared.machine.Machine.{Machine}
-use Rattle.plan_types.specs.Clock.{clock_of, turn_ns}
-use Rattle.plan_types.specs.Lines.{Clocks, lines_tick}
-use Rattle.msg_code.specs.declared.cmd.Cmd.{Cmd}
+use Rattle.laws_board.proofs.Names.{flat_map, leb_tells, All-head, All-tail, Machine, clock_of, turn_ns, Clocks, lines_tick, Cmd, StepUnit, Release, batch_at, units_of, BoardSection, base_of, of_stepper, section_steps, Entry, Meant, plain, units_orders, world_after, new_world, queued_in, first_state, Orders, parts_on, Started}
 use Rattle.msg_code.specs.declared.cmd.Cmd.TheVariants as cmd
-use Rattle.step_feed.specs.Units.{StepUnit}
-use Rattle.step_feed.specs.Pacing.{Release, batch_at, units_of}
-use Rattle.section_units.specs.Sections.{BoardSection, base_of, of_stepper, section_steps}
-use Rattle.wire_scene.specs.declared.scene.Entry.{Entry}
-use Rattle.board_sim.specs.Fair.{Meant}
-use Rattle.board_world.specs.Orders.{plain, units_orders}
-use Rattle.board_world.specs.World.{AllFair, world_after, new_world}
+use Rattle.board_world.specs.World.{AllFair}
 use Rattle.link_work.specs.Late.{IsLate}
-use Rattle.link_work.specs.Runs.{queued_in}
-use Rattle.link_work.specs.Stands.{first_state}
-use Rattle.link_work.specs.Turn.{Orders}
-use Rattle.motion_work.specs.Boards.{parts_on}
 use Rattle.motion_work.specs.Homes.{before_turn}
-use Rattle.motion_work.specs.Seen.{Started, part_on}
+use Rattle.motion_work.specs.Seen.{part_on}
 use Rattle.laws_board.specs.sections.Boards.{OnBoard}
 use Rattle.laws_board.specs.sections.Events.{AreTicks}
 use Rattle.laws_board.specs.sections.Homes.{AreInTurn, AreOrdersIn, IsControlIn, IsHomeBoard, IsSectionBy, RunSection}

@@ -1,17 +1,6 @@
 -- A board of a run in which axes home runs in all its turns, where it isn't told to stop and no unit comes too late to it.
 use Rattle.std.proofs.Common.{◌≡◌, ℕ, List, [], ◌∷◌, ◌++◌, Option, Some, None, ap, sym, ◌∙◌, subst}
-use Rattle.std.specs.List.{flat_map}
-use Rattle.plan_types.specs.declared.levels.Level.{Level}
-use Rattle.plan_types.specs.declared.machine.BoardDef.{BoardDef}
-use Rattle.plan_types.specs.declared.plan.BoardState.{BoardState}
-use Rattle.plan_types.specs.declared.plan.BoardState.TheVariants.{Running, Shut}
-use Rattle.plan_types.specs.Clock.{clock_of}
-use Rattle.msg_code.specs.declared.talk.ShutNews.{ShutNews}
-use Rattle.msg_code.specs.declared.talk.State.{State}
-use Rattle.wire_scene.specs.declared.scene.Entry.{Entry}
-use Rattle.board_world.specs.World.{Core, run_world, new_world}
-use Rattle.link_work.specs.Runs.{queued_in}
-use Rattle.link_work.specs.Stands.{first_state}
+use Rattle.laws_board.proofs.Names.{flat_map, Level, BoardDef, BoardState, Running, Shut, clock_of, ShutNews, State, Entry, Core, run_world, new_world, queued_in, first_state}
 use Rattle.link_work.specs.Told.{IsShutNews}
 use Rattle.laws_board.specs.turns.Turns.{AreBoardTurns, BoardTurn, latest_state, stands_after}
 use Rattle.laws_board.specs.sections.Boards.{OnBoard}
@@ -26,9 +15,7 @@ use Rattle.laws_run.proofs.home_headline.Good.{board_good, board_may}
 use Rattle.laws_run.proofs.home_headline.Stop.{never_shut, runs_so}
 use Rattle.laws_homing.proofs.home_runs.Staging.{ran_turns}
 use Rattle.laws_homing.specs.clear_groups.Sections.{ShutNone}
-
-none_told : (o : BoardState) (news : Option ShutNews) → IsShutNews o news → o ≡ Running → news ≡ None
-none_told o news is e = let At : BoardState → Type 0 = λ z. IsShutNews z news in subst At e is
+use Rattle.laws_board.proofs.sections.Passing.{still}
 
 -- what it tells last is no shutdown
 pub end_none : (place : ℕ) (entries : List Entry) (ready turns : ℕ) (ss : List RunSection) (x : OnBoard) (k : IsHomeBoard place entries ready turns ss x) (front : List State) (last : State) → x.states ≡ front ++ last ∷ [] → NeverStop x.orders
@@ -47,14 +34,14 @@ end_none place entries ready turns ss x k front last are never late =
     never_shut x.board x.pins x.orders steps tick first keeps.ordered queue never (ap (λ (h : Core). h.board.controller.state) (sym is) ∙ shut) in
     let Told : List State → Type 0 = λ y. AreTold clock 0 x.orders y l k.end in
     let ends = last_told clock 0 x.orders front last l k.end (subst Told are k.told) in
-    none_told k.end.core.board.controller.state last.shut ends.1 (runs_so k.end.core.board.controller.state last.shut may ends.1 late stop)
+    still k.end.core.board.controller.state last.shut ends.1 (runs_so k.end.core.board.controller.state last.shut may ends.1 late stop)
 
 -- a board that runs behind some turns ran in each of them
 pub none_before : (b : BoardDef) (pins : List (List Level)) (place : ℕ) (entries : List Entry) (turns : List BoardTurn) → AreBoardTurns (clock_of b) (first_state b pins place entries) turns
     → (stands_after (first_state b pins place entries) turns).core.board.controller.state ≡ Running → ShutNone turns
 none_before b pins place entries [] are runs = tt
 none_before b pins place entries (t ∷ before) are runs =
-    let shut = none_told t.after.core.board.controller.state t.state.shut are.0.1.shut runs in
+    let shut = still t.after.core.board.controller.state t.state.shut are.0.1.shut runs in
     (shut, none_before b pins place entries before are.1 (ran_turns (clock_of b) (first_state b pins place entries) (t ∷ []) before are runs))
 
 pub all_none : (b : BoardDef) (pins : List (List Level)) (place : ℕ) (entries : List Entry) (turns : List BoardTurn) (last : State) → AreBoardTurns (clock_of b) (first_state b pins place entries) turns

@@ -1,57 +1,27 @@
 -- A run in which axes home, in a scene without entries, goes through, or ends as it homes.
 use Rattle.std.proofs.Common.{All, ◌≡◌, ◌⊎◌, ℕ, pos, ◌+◌, ◌*◌, ◌^◌, ◌<◌, ◌≤◌, List, [], ◌∷◌, ◌++◌, length, map, Option, Some, None, refl, ap, sym, ◌∙◌, subst, arith, inl, inr}
-use Rattle.std.proofs.lemmas.List.{length-map}
+use Rattle.laws_board.proofs.Names.{length-map, Cause, Machine, Shut, board_tick, clock_of, turn_ns, lines_tick, IsValidMachine, axis_at, board_at, clocks_at, ShutNews, State, Scene, listen_all, stale, AllKeepLimits, first_state, orders, pins_of, LinkState, Orders, Homing, answer_in, hears_all, homing_turn, Known, Connecting, Stopping, is_out, noted, reacts, IsOwn, first_cause, stop_of, Came, known_by, state_at, parts_on, Started, Told, MotionTurn, ReactorTurn, item, All-nil, BoardDef, Level, Moves}
 use Rattle.gcode_program.specs.Programs.{program_end}
-use Rattle.plan_types.specs.declared.cause.Cause.{Cause}
 use Rattle.plan_types.specs.declared.cause.Cause.TheVariants as cause
-use Rattle.plan_types.specs.declared.machine.Machine.{Machine}
-use Rattle.plan_types.specs.declared.plan.BoardState.TheVariants.{Shut}
 use Rattle.plan_types.specs.declared.plan.ReadStop.TheVariants as read
-use Rattle.plan_types.specs.Clock.{board_tick, clock_of, turn_ns}
-use Rattle.plan_types.specs.Lines.{lines_tick}
-use Rattle.plan_types.specs.Machines.{IsValidMachine, axis_at, board_at}
-use Rattle.plan_types.specs.Sections.{clocks_at}
-use Rattle.msg_code.specs.declared.talk.ShutNews.{ShutNews}
-use Rattle.msg_code.specs.declared.talk.State.{State}
-use Rattle.wire_scene.specs.declared.scene.Scene.{Scene}
-use Rattle.board_asking.specs.Connecting.{listen_all}
-use Rattle.board_asking.specs.Drift.{stale}
 use Rattle.link_work.specs.Ends.{spoiled}
 use Rattle.link_work.specs.Late.{IsLate}
-use Rattle.link_work.specs.Limits.{AllKeepLimits}
-use Rattle.link_work.specs.Stands.{first_state, orders}
-use Rattle.link_work.specs.Switches.{pins_of}
-use Rattle.link_work.specs.Turn.{LinkState, Orders}
 use Rattle.link_work.proofs.Shut.{late_shutdown}
-use Rattle.axis_homing.specs.declared.homing.Homing.{Homing}
-use Rattle.axis_homing.specs.Homing.{answer_in, hears_all, homing_turn}
-use Rattle.host_reactor.specs.declared.ordered.Known.{Known}
-use Rattle.host_reactor.specs.declared.ordered.Phase.TheVariants.{Connecting, Running, Stopping}
+use Rattle.host_reactor.specs.declared.ordered.Phase.TheVariants.{Running}
 use Rattle.host_reactor.specs.declared.ordered.Reading.{Reading}
-use Rattle.host_reactor.specs.Notes.{is_out, noted}
-use Rattle.host_reactor.specs.Reactor.{reacts}
-use Rattle.host_reactor.specs.Rows.{IsOwn}
-use Rattle.host_reactor.specs.Running.{first_cause, late, stop_of}
-use Rattle.host_reactor.specs.Runs.{Came, HaveStates, known_by, state_at, told_by}
+use Rattle.host_reactor.specs.Running.{late}
+use Rattle.host_reactor.specs.Runs.{HaveStates, told_by}
 use Rattle.host_reactor.proofs.Connects.{silent-eight}
-use Rattle.host_reactor.proofs.Rowing.{stays-whole}
+use Rattle.host_reactor.proofs.Rowing.{stays-whole, listened}
 use Rattle.laws_board.specs.turns.Turns.{BoardTurn, latest_state, stands_after}
 use Rattle.laws_board.specs.clocks.Runs.{IsInRun, UnitsFit}
 use Rattle.laws_board.proofs.clocks.Lines.{as_long, noted_phase}
 use Rattle.laws_board.proofs.clocks.Orders.{all_limits}
-use Rattle.motion_work.specs.Boards.{parts_on}
-use Rattle.motion_work.specs.Seen.{Started}
-use Rattle.motion_work.specs.Told.{Told}
-use Rattle.session_work.specs.declared.table.MotionTurn.{MotionTurn}
-use Rattle.session_work.specs.declared.table.ReactorTurn.{ReactorTurn}
 use Rattle.session_run.specs.Boards.{AreReactorTurns, came_from, came_in}
 use Rattle.laws_board.specs.sections.Links.{AreTold, ends_of, turns_told}
 use Rattle.laws_board.specs.sections.Parts.{AreOrdersOf}
 use Rattle.laws_board.proofs.sections.Boarding.{last_told}
-use Rattle.laws_board.proofs.sections.Each.{shut_as}
 use Rattle.laws_run.specs.lanes.Boards.{IsInWhole, turns_behind, orders_of, states_of}
-use Rattle.laws_run.proofs.lanes.Items.{item_state}
-use Rattle.session_work.specs.Rows.{item}
 use Rattle.laws_board.specs.plans.Given.{TookControls}
 use Rattle.laws_board.specs.plans.Lines.{TookNotes}
 use Rattle.laws_board.specs.plans.Planned.{Plans}
@@ -69,17 +39,13 @@ use Rattle.laws_run.proofs.run_headline.Going.{Lasts, lasts}
 use Rattle.laws_run.proofs.run_headline.Plain.{AllMoves, all_moves}
 use Rattle.laws_run.proofs.run_headline.Runs.{row_full}
 use Rattle.laws_run.proofs.run_headline.Showing.{Facts, ends_own}
-use Rattle.laws_run.proofs.clear_runs.Bare.{few_turns, have_more, late_at, latest_behind, listened, no_steps, stale_low, unbegun_units, units_fit}
+use Rattle.laws_run.proofs.clear_runs.Bare.{few_turns, have_more, late_at, latest_behind, no_steps, stale_low, unbegun_units, units_fit}
 use Rattle.laws_run.proofs.clear_runs.Clearing.{run_unhindered}
 use Rattle.laws_run.proofs.clear_runs.Exact.{not_behind}
 use Rattle.laws_run.proofs.clear_runs.Punctual.{AreNear, NoUnits, all_soon_led, all_spilled_led, end_so, last_end, none_not_late}
-use Rattle.std.proofs.lemmas.List.Elements.{All-nil}
-use Rattle.plan_types.specs.declared.machine.BoardDef.{BoardDef}
-use Rattle.plan_types.specs.declared.levels.Level.{Level}
-use Rattle.plan_types.specs.declared.plan.SectionKind.TheVariants.{Moves}
 use Rattle.laws_board.specs.clocks.Runs.{orders_in}
 use Rattle.laws_board.specs.sections.Homes.{IsHomeBoard}
-use Rattle.laws_run.proofs.run_headline.Boarded.{Ready, came_cut, came_split, lined, ready, took, took_long, valid_at}
+use Rattle.laws_run.proofs.run_headline.Boarded.{Ready, came_cut, came_split, lined, ready, took, valid_at}
 use Rattle.laws_run.proofs.run_headline.Plain.{all_moves}
 use Rattle.laws_run.proofs.run_headline.Showing.{came_long, cut_last, front_notes, in_none, long_own, not_told, took_notes, turns_cut}
 use Rattle.laws_homing.specs.home_plans.Notes.{CameNotes, WasBegun}
@@ -103,6 +69,9 @@ use Rattle.laws_homing.specs.missed_groups.Ticks.{IsSwitchTick}
 use Rattle.laws_run.proofs.clear_runs.Through.{first_none, spilled}
 use Rattle.laws_run.proofs.run_headline.Asked.{whole_by}
 use Rattle.laws_board.specs.sections.Runs.{AreSpilled}
+use Rattle.link_work.proofs.Spilled.{state_by}
+use Rattle.laws_homing.proofs.missed_groups.Told.{same_state}
+use Rattle.laws_run.proofs.run_headline.Earlier.{states_long}
 
 -- those that are sent soon are sent in time
 pub soon_all : (m : Machine) (text : List ℕ) (ts : List MotionTurn) → SendsAllSoon m text ts → SendsAllInTime m text ts
@@ -243,7 +212,7 @@ module _ (m : Machine) (v : IsValidMachine m) (short : HaveShortDictionaries m) 
 
       count : length (orders_of w.made) ≡ length (rest ++ end ∷ [])
       count =
-          length-map w.made (λ (x : BoardTurn). orders x.control x.batch) ∙ sym (length-map w.made (λ (x : BoardTurn). x.state)) ∙ took_long b (rest ++ end ∷ []) (states_of w.made) w.states
+          length-map w.made (λ (x : BoardTurn). orders x.control x.batch) ∙ sym (length-map w.made (λ (x : BoardTurn). x.state)) ∙ states_long b (rest ++ end ∷ []) (states_of w.made) w.states
 
       -- where the planner was told no clock lines, no units are sent
       none_controls : p.seen.told ≡ None → TookControls (orders_of w.made)
@@ -295,7 +264,7 @@ module _ (m : Machine) (v : IsValidMachine m) (short : HaveShortDictionaries m) 
       unhindered k h = run_unhindered m s.switches (pins_of (board_at m b) b s.switches) s.entries b (came_from [] (first ∷ rest)) (turns_behind [] w.made) k v run clear not_stopping fits h
 
       heard : state_at b end.states ≡ latest_state (turns_behind [] w.made)
-      heard = item_state b end.states ∙ last.at ∙ sym (latest_behind [] w.made last.front last.last last.are)
+      heard = same_state b end.states ∙ last.at ∙ sym (latest_behind [] w.made last.front last.last last.are)
 
       few_came : length (came_from [] (first ∷ rest)) < 2 ^ 59
       few_came =
@@ -323,7 +292,7 @@ module _ (m : Machine) (v : IsValidMachine m) (short : HaveShortDictionaries m) 
           shut_of os l told_so =
               let To : List State → Type 0 = λ y. AreTold (clock_of (board_at m b)) 0 os y (link_of m s b) l in
               let told = last_told (clock_of (board_at m b)) 0 os last.front last.last (link_of m s b) l (subst To last.are told_so) in
-              shut_as l.core.board.controller.state last.last.shut n told.1 (ap (λ (x : State). x.shut) same ∙ shut) ∙ ap (λ r. Shut r n.tick n.first) one
+              state_by l.core.board.controller.state last.last.shut n told.1 (ap (λ (x : State). x.shut) same ∙ shut) ∙ ap (λ r. Shut r n.tick n.first) one
 
           late_of : (os : List Orders) (l : LinkState) (told_so : AreTold (clock_of (board_at m b)) 0 os (states_of w.made) (link_of m s b) l) → AllKeepLimits os
               → IsLate (clock_of (board_at m b)) os (link_of m s b) (ends_of (clock_of (board_at m b)) 0 os (link_of m s b) l (turns_told (clock_of (board_at m b)) 0 os (states_of w.made) (link_of m s b) l told_so)) n.tick n.first

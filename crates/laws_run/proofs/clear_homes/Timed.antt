@@ -1,40 +1,16 @@
 -- In a scene without entries each report of a board is read true, and each board takes the set-ups in time, in a whole run whose boards are all timely.
 use Rattle.std.proofs.Common.{◌≡◌, ◌≢◌, ◌⊎◌, ℕ, ◌+◌, ◌<◌, ◌≤◌, ◌==◌, Bool, true, cond, List, [], ◌∷◌, ◌++◌, All, length, Option, Some, None, refl, ap, sym, ◌∙◌, subst, arith, inl, inr, length-append}
-use Rattle.std.proofs.Math.Logic.{∥∥₁_map}
+use Rattle.laws_board.proofs.Names.{∥∥₁_map, eqb_tells, leb_tells, length-map, All-nil, Cause, Level, Machine, Running, Home, Moves, board_tick, clock_of, Clocks, IsValidMachine, board_at, clocks_at, Scene, Switch, new_world, AreTurns, pins_of, LinkState, Orders, Homing, noted, Run, Came, GoesOn, known_by, Started, Told, MotionTurn, ReactorTurn, parts_on}
 use Rattle.std.proofs.Props.{props}
-use Rattle.std.proofs.lemmas.Bool.Decides.{eqb_tells, leb_tells}
-use Rattle.std.proofs.lemmas.List.{length-map}
-use Rattle.std.proofs.lemmas.List.Elements.{All-nil}
-use Rattle.plan_types.specs.declared.cause.Cause.{Cause}
 use Rattle.plan_types.specs.declared.cause.Cause.TheVariants as cause
-use Rattle.plan_types.specs.declared.levels.Level.{Level}
-use Rattle.plan_types.specs.declared.machine.Machine.{Machine}
-use Rattle.plan_types.specs.declared.plan.BoardState.TheVariants.{Running}
-use Rattle.plan_types.specs.declared.plan.SectionKind.TheVariants.{Home, Moves}
-use Rattle.plan_types.specs.Clock.{board_tick, clock_of, run_turns}
-use Rattle.plan_types.specs.Lines.{Clocks}
-use Rattle.plan_types.specs.Machines.{IsValidMachine, board_at}
-use Rattle.plan_types.specs.Sections.{clocks_at}
+use Rattle.plan_types.specs.Clock.{run_turns}
 use Rattle.io_core.specs.declared.traits.Files.{Ghosts as Files}
 use Rattle.io_core.specs.declared.traits.Sink.{Ghosts as Sink}
-use Rattle.wire_scene.specs.declared.scene.Scene.{Scene}
-use Rattle.wire_scene.specs.declared.scene.Switch.{Switch}
-use Rattle.board_world.specs.World.{new_world}
-use Rattle.link_work.specs.Runs.{AreTurns}
-use Rattle.link_work.specs.Switches.{pins_of}
-use Rattle.link_work.specs.Turn.{LinkState, Orders}
-use Rattle.axis_homing.specs.declared.homing.Homing.{Homing}
-use Rattle.host_reactor.specs.Notes.{noted}
-use Rattle.host_reactor.specs.Reactor.{Run}
-use Rattle.host_reactor.specs.Runs.{Came, GoesOn, HaveStates, known_by}
+use Rattle.host_reactor.specs.Runs.{HaveStates}
 use Rattle.laws_board.specs.turns.Turns.{BoardTurn, latest_state, stands_after}
 use Rattle.laws_board.specs.clocks.Runs.{IsInRun, UnitsFit, orders_in}
 use Rattle.laws_board.proofs.clocks.Lines.{as_long}
 use Rattle.laws_board.proofs.clocks.Orders.{all_limits}
-use Rattle.motion_work.specs.Seen.{Started}
-use Rattle.motion_work.specs.Told.{Told}
-use Rattle.session_work.specs.declared.table.MotionTurn.{MotionTurn}
-use Rattle.session_work.specs.declared.table.ReactorTurn.{ReactorTurn}
 use Rattle.session_lanes.specs.declared.near.Told as near
 use Rattle.session_run.specs.declared.tell.Kept.{Kept}
 use Rattle.session_run.specs.Boards.{came_from, came_in}
@@ -81,7 +57,6 @@ use Rattle.laws_run.proofs.home_wholes.Lines as whole
 use Rattle.laws_run.proofs.run_ends.Unstopped.{not_before}
 use Rattle.laws_run.specs.home_headline.Little.{SendsNear}
 use Rattle.laws_board.specs.sections.Runs.{AreSpilled}
-use Rattle.motion_work.specs.Boards.{parts_on}
 use Rattle.laws_run.proofs.home_headline.Following.{timely_by}
 
 -- what came in some turns, of which there is a last one

@@ -1,7 +1,5 @@
 -- All boards of a whole run in which axes home, in any scene: what each did, turn by turn, and what the reactor knows with it.
-use Rattle.host_reactor.specs.Notes.{noted}
-use Rattle.host_reactor.specs.Runs.{Came, GoesOn, known_by, state_at}
-use Rattle.host_reactor.specs.declared.ordered.Phase.TheVariants.{Connecting, Stopping}
+use Rattle.laws_board.proofs.Names.{noted, Came, GoesOn, known_by, state_at, Connecting, Stopping, pins_of, Started, Told, ShutNews, State, board_tick, clock_of, Clocks, IsValidMachine, board_at, clocks_at, Cause, Level, Machine, Home, item, MotionTurn, ReactorTurn, leb_tells, length-map, Scene}
 use Rattle.laws_board.specs.causes.Short.{HaveShortDictionaries}
 use Rattle.laws_board.specs.clocks.Runs.{IsInRun}
 use Rattle.laws_board.specs.plans.Lines.{TookNotes}
@@ -23,44 +21,23 @@ use Rattle.laws_run.proofs.home_headline.Clocks.{end_knows}
 use Rattle.laws_run.proofs.home_headline.Planned.{all_notes}
 use Rattle.laws_run.proofs.home_headline.Ranges.{own_small}
 use Rattle.laws_run.proofs.home_headline.Unasked.{never_stop}
-use Rattle.laws_run.proofs.lanes.Items.{item_state}
 use Rattle.laws_run.proofs.run_headline.Boarded.{Ready, came_split, lines_renewed, ready, took, valid_at}
 use Rattle.laws_run.proofs.run_headline.Going.{Lasts, lasts}
 use Rattle.laws_run.proofs.run_headline.Showing.{Facts, came_long}
 use Rattle.laws_run.specs.home_headline.Near.{KeepsUp}
 use Rattle.laws_run.specs.lanes.Boards.{IsInWhole, turns_behind, states_of}
 use Rattle.laws_run.specs.run_headline.Timely.{link_of}
-use Rattle.link_work.specs.Switches.{pins_of}
 use Rattle.motion_work.specs.Known.{lines_by}
-use Rattle.motion_work.specs.Seen.{Started}
-use Rattle.motion_work.specs.Told.{Told}
-use Rattle.msg_code.specs.declared.talk.ShutNews.{ShutNews}
-use Rattle.msg_code.specs.declared.talk.State.{State}
-use Rattle.plan_types.specs.Clock.{board_tick, clock_of}
-use Rattle.plan_types.specs.Lines.{Clocks}
-use Rattle.plan_types.specs.Machines.{IsValidMachine, board_at}
-use Rattle.plan_types.specs.Sections.{clocks_at}
-use Rattle.plan_types.specs.declared.cause.Cause.{Cause}
-use Rattle.plan_types.specs.declared.levels.Level.{Level}
-use Rattle.plan_types.specs.declared.machine.Machine.{Machine}
-use Rattle.plan_types.specs.declared.plan.SectionKind.TheVariants.{Home}
 use Rattle.session_run.specs.Boards.{came_from, came_in}
-use Rattle.session_work.specs.Rows.{item}
-use Rattle.session_work.specs.declared.table.MotionTurn.{MotionTurn}
-use Rattle.session_work.specs.declared.table.ReactorTurn.{ReactorTurn}
 use Rattle.std.proofs.Common.{◌≡◌, ◌⊎◌, ℕ, ◌+◌, ◌^◌, ◌<◌, ◌≤◌, List, [], ◌∷◌, ◌++◌, length, map, Some, refl, ap, sym, ◌∙◌, subst, arith, inl, inr, length-append}
 use Rattle.std.proofs.Props.{props}
-use Rattle.std.proofs.lemmas.Bool.Decides.{leb_tells}
-use Rattle.std.proofs.lemmas.List.{length-map}
-use Rattle.wire_scene.specs.declared.scene.Scene.{Scene}
+use Rattle.plan_types.proofs.Facts.{less_or_from}
+use Rattle.laws_homing.proofs.missed_groups.Told.{same_state}
 
 -- what each of some boards did; of no other board anything
 pub turns_by : (b n : ℕ) (f : (i : ℕ) → i < n → List BoardTurn) → ((b < n) ⊎ (n ≤ b)) → List BoardTurn
 turns_by b n f (inl low) = f b low
 turns_by b n f (inr far) = []
-
-pub is_low : (b n : ℕ) → (b < n) ⊎ (n ≤ b)
-is_low b n = elim (leb_tells (b + 1) n) [ inl p ↦ (let q = p.1 in inl (omega (arith, q))) | inr p ↦ (let q = p.1 in inr (omega (arith, q))) ]
 
 pub turns_same : (b n : ℕ) (f : (i : ℕ) → i < n → List BoardTurn) (o : (b < n) ⊎ (n ≤ b)) (low : b < n) → turns_by b n f o ≡ f b low
 unfolding turns_by
@@ -180,9 +157,9 @@ module _ (m : Machine) (v : IsValidMachine m) (s : Scene) (ts : List MotionTurn)
       let own = count 0 some in
       let more = length-append rest (end ∷ []) in
       let d = some_turn (Turns 0 some) (omega (arith, own, more)) in
-      let js = join n (length Came_all) d (λ i. turns_by i n Turns (is_low i n)) (λ i low. ap length (turns_same i n Turns (is_low i n) low) ∙ count i low ∙ sym size) in
-      (js.0, js.1, λ i low. js.2 i low ∙ turns_same i n Turns (is_low i n) low)
+      let js = join n (length Came_all) d (λ i. turns_by i n Turns (less_or_from i n)) (λ i low. ap length (turns_same i n Turns (less_or_from i n) low) ∙ count i low ∙ sym size) in
+      (js.0, js.1, λ i low. js.2 i low ∙ turns_same i n Turns (less_or_from i n) low)
 
   -- the state that came last
   pub here : (i : ℕ) (low : i < length m.boards) → state_at i end.states ≡ latest_state (Turns i low)
-  here i low = item_state i end.states ∙ (last i low).at ∙ sym (latest i low)
+  here i low = same_state i end.states ∙ (last i low).at ∙ sym (latest i low)

@@ -1,39 +1,26 @@
 -- Boards to which no units are sent, and what a reactor's turn takes of its boards.
 use Rattle.std.proofs.Common.{◌≡◌, ℕ, suc, ◌+◌, ◌*◌, ◌^◌, ◌<◌, ◌≤◌, ℤ, pos, negsuc, ◌≤ℤ◌, Bool, true, false, cond, List, [], ◌∷◌, ◌++◌, length, map, Option, Some, None, refl, ap, sym, subst, arith}
 use Rattle.std.specs.Prelude.{◌==◌, if◌then◌else◌}
-use Rattle.std.proofs.lemmas.Bool.{eqb-true}
+use Rattle.laws_board.proofs.Names.{eqb-true, Cause, BoardDef, Machine, board_tick, clock_of, ShutNews, State, Switch, Asking, listen_all, stale, units_orders, StepUnit, orders, Orders, Came, GoesOn, ReactorTurn, item}
 use Rattle.std.proofs.lemmas.Int.{ints}
 use Rattle.std.proofs.Math.Nat.{mul-le-mul, mul-le-mul_left}
-use Rattle.plan_types.specs.declared.cause.Cause.{Cause}
 use Rattle.plan_types.specs.declared.cause.Cause.TheVariants as cause
-use Rattle.plan_types.specs.declared.machine.BoardDef.{BoardDef}
-use Rattle.plan_types.specs.declared.machine.Machine.{Machine}
-use Rattle.plan_types.specs.Clock.{board_tick, clock_of, own_tick, rate, tick_limit}
+use Rattle.plan_types.specs.Clock.{own_tick, rate, tick_limit}
 use Rattle.plan_types.specs.Machines.{IsValidBoard}
-use Rattle.msg_code.specs.declared.talk.ShutNews.{ShutNews}
-use Rattle.msg_code.specs.declared.talk.State.{State}
-use Rattle.wire_scene.specs.declared.scene.Switch.{Switch}
-use Rattle.board_asking.specs.declared.asking.Asking.{Asking}
-use Rattle.board_asking.specs.Connecting.{listen_all}
-use Rattle.board_asking.specs.Drift.{gives_up, stale}
-use Rattle.board_world.specs.Orders.{units_orders}
+use Rattle.board_asking.specs.Drift.{gives_up}
 use Rattle.board_world.specs.World.{on_wire}
-use Rattle.step_feed.specs.Units.{StepUnit}
 use Rattle.link_work.specs.Limits.{bytes_in}
-use Rattle.link_work.specs.Stands.{orders}
-use Rattle.link_work.specs.Turn.{Orders}
 use Rattle.host_reactor.specs.Running.{late, late_of, or_cause}
-use Rattle.host_reactor.specs.Runs.{Came, GoesOn, HaveStates}
+use Rattle.host_reactor.specs.Runs.{HaveStates}
 use Rattle.laws_board.specs.turns.Turns.{BoardTurn, latest_state}
 use Rattle.laws_board.specs.clocks.Runs.{UnitsFit, orders_in}
-use Rattle.session_work.specs.declared.table.ReactorTurn.{ReactorTurn}
-use Rattle.session_work.specs.Rows.{item}
 use Rattle.session_run.specs.Boards.{AreReactorTurns, came_from, came_in}
 use Rattle.laws_board.specs.sections.Parts.{AreOrdersOf}
 use Rattle.laws_run.specs.lanes.Boards.{turns_behind}
 use Rattle.laws_run.proofs.run_headline.Boarded.{AllFit, fit_of}
 use Rattle.laws_board.specs.causes.Causes.{BringNoSteps}
 use Rattle.laws_run.proofs.clear_runs.Punctual.{NoUnits}
+use Rattle.host_reactor.proofs.Rowing.{listened}
 
 -- the batches of a planner that begun no section
 pub unbegun_units : (turn : ℕ) (os : List Orders) → AreOrdersOf [] turn os → NoUnits os
@@ -79,12 +66,6 @@ goes_of m switches before (r ∷ rs) h g = goes_of m switches (came_in r ∷ bef
 pub have_more : (m : Machine) (c : Came) (came : List Came) → 0 < length came → length c.states ≡ length m.boards → HaveStates m came → HaveStates m (c ∷ came)
 have_more m c [] some e h = absurd (omega (arith, some))
 have_more m c (d ∷ before) some e h = (e, h)
-
--- which board is stale
-pub listened : (askings : List Asking) (states : List State) → length (listen_all askings states) ≡ length askings
-listened [] states = refl
-listened (a ∷ askings) [] = ap suc (listened askings [])
-listened (a ∷ askings) (s ∷ states) = ap suc (listened askings states)
 
 pub stale_low : (k i : ℕ) (askings : List Asking) (board turn : ℕ) → stale k i askings ≡ Some (cause.Stale board turn) → board < i + length askings
 stale_low k i [] board turn e = absurd (let f : None ≡ Some (cause.Stale board turn) = e in cc)

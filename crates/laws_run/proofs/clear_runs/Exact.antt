@@ -1,14 +1,9 @@
 -- The clock lines of a board whose clock is exact are never behind it.
 use Rattle.std.proofs.Common.{◌≡◌, ℕ, pos, ◌+◌, ◌*◌, ◌≤◌, List, [], ◌∷◌, ap, sym, subst, arith, inl, inr}
-use Rattle.std.proofs.lemmas.Bool.Decides.{leb_tells}
+use Rattle.laws_board.proofs.Names.{leb_tells, BoardClock, Held, Line, board_tick, tick, turn_ns, Clocks, lines_tick, AreKept}
 use Rattle.std.specs.Prelude.{max}
-use Rattle.plan_types.specs.declared.clock.BoardClock.{BoardClock}
-use Rattle.plan_types.specs.declared.plan.Held.{Held}
-use Rattle.plan_types.specs.declared.plan.Line.{Line}
-use Rattle.plan_types.specs.Clock.{board_tick, tick, turn_ns}
-use Rattle.plan_types.specs.Lines.{AreHeld, Clocks, lines_tick, tick_over}
+use Rattle.plan_types.specs.Lines.{AreHeld, tick_over}
 use Rattle.plan_types.specs.Machines.{IsValidFreq}
-use Rattle.clock_line.specs.Kept.{AreKept}
 use Rattle.laws_board.specs.turns.Turns.{BoardTurn}
 use Rattle.laws_board.specs.clocks.Samples.{IsSampled}
 use Rattle.laws_board.proofs.clocks.Near.{exact_near}

@@ -1,31 +1,15 @@
 -- Units that are released before the turn in which they are due are never late on a clear link.
 use Rattle.std.proofs.Common.{◌≡◌, ℕ, suc, ◌+◌, ◌*◌, ◌<◌, ◌≤◌, Bool, List, [], ◌∷◌, ◌++◌, All, length, map, take, Option, Some, None, refl, ap, sym, ◌∙◌, subst, arith, inl, inr, append_assoc}
 use Rattle.std.specs.Prelude.{◌-◌}
-use Rattle.std.proofs.lemmas.Bool.Decides.{eqb_tells, leb_tells}
-use Rattle.std.proofs.lemmas.List.Elements.{All-head, All-tail}
-use Rattle.plan_types.specs.declared.clock.BoardClock.{BoardClock}
-use Rattle.plan_types.specs.declared.machine.BoardDef.{BoardDef}
-use Rattle.plan_types.specs.declared.levels.Level.{Level}
-use Rattle.plan_types.specs.Clock.{board_tick, clock_of, turn_ns}
-use Rattle.plan_types.specs.Lines.{Clocks, lines_tick}
+use Rattle.laws_board.proofs.Names.{eqb_tells, leb_tells, All-head, All-tail, BoardClock, BoardDef, Level, board_tick, clock_of, turn_ns, Clocks, lines_tick, Cmd, dir_commands, reset_commands, step_command, StepUnit, Release, batch_at, BoardSection, Entry, Down, Up, Meant, plain, unit_orders, units_orders, Core, Do, Step, world_after, run_world, AreTurns, queued_in, first_state, IsTurn, LinkState, Orders, after_board, after_host, come}
 use Rattle.clock_line.proofs.Turns.{turn-below}
-use Rattle.msg_code.specs.declared.cmd.Cmd.{Cmd}
 use Rattle.msg_code.specs.declared.cmd.Cmd.TheVariants as cmd
-use Rattle.msg_code.specs.Units.{dir_commands, reset_commands, step_command}
-use Rattle.step_feed.specs.Units.{StepUnit}
-use Rattle.step_feed.specs.Pacing.{Release, batch_at}
-use Rattle.section_units.specs.Sections.{BoardSection}
-use Rattle.wire_scene.specs.declared.scene.Entry.{Entry}
-use Rattle.wire_scene.specs.declared.scene.Way.TheVariants.{Down, Up}
-use Rattle.board_sim.specs.Fair.{Meant}
 use Rattle.board_world.specs.declared.event.Event.TheVariants.{Pass}
-use Rattle.board_world.specs.Orders.{plain, unit_orders, unit_ticks, units_orders}
-use Rattle.board_world.specs.World.{AllFair, Core, Do, Step, world_after, run_world}
+use Rattle.board_world.specs.Orders.{unit_ticks}
+use Rattle.board_world.specs.World.{AllFair}
 use Rattle.link_work.specs.Ends.{EndSo, Ended, last_link, stretch, up_to}
 use Rattle.link_work.specs.Late.{AreFairTurns, BeginsAt, IsLate, IsSteps, turn_steps}
-use Rattle.link_work.specs.Runs.{AreTurns, queued_in}
-use Rattle.link_work.specs.Stands.{first_state}
-use Rattle.link_work.specs.Turn.{IsTurn, LinkState, Orders, after_board, after_host, come, host_steps}
+use Rattle.link_work.specs.Turn.{host_steps}
 use Rattle.link_work.proofs.Shut.{unit_begins}
 use Rattle.laws_board.specs.sections.Links.{ends_of, steps_of, steps_of_turn}
 use Rattle.laws_board.specs.sections.Parts.{IsControl}

@@ -2,12 +2,10 @@
 use Rattle.std.proofs.Common.{◌≡◌, ◌⊎◌, ℕ, List, [], length, Option, Some, refl, sym, ◌∙◌, subst, inl, inr}
 use Rattle.io_core.specs.declared.traits.Files.{Ghosts as Files}
 use Rattle.io_core.specs.declared.traits.Sink.{Ghosts as Sink}
-use Rattle.plan_types.specs.declared.cause.Cause.{Cause}
+use Rattle.laws_board.proofs.Names.{Cause, Machine, Scene, Run, IsOwn}
 use Rattle.plan_types.specs.declared.cause.Cause.TheVariants as cause
-use Rattle.plan_types.specs.declared.machine.Machine.{Machine}
-use Rattle.wire_scene.specs.declared.scene.Scene.{Scene}
-use Rattle.host_reactor.specs.Reactor.{Run, first_run}
-use Rattle.host_reactor.specs.Rows.{MayEndFor, IsOwn}
+use Rattle.host_reactor.specs.Reactor.{first_run}
+use Rattle.host_reactor.specs.Rows.{MayEndFor}
 use Rattle.host_reactor.proofs.Blames.{blames}
 use Rattle.session_lanes.specs.declared.near.Told.{Told}
 use Rattle.session_lanes.specs.Runs.{head_at, ran_at}

@@ -1,28 +1,17 @@
 -- A run in a scene without entries goes through.
 use Rattle.std.proofs.Common.{◌≡◌, ℕ, ◌<◌, ◌≤◌, Bool, true, false, List, [], ◌∷◌, Option, Some, None, refl, ap, sym, ◌∙◌, arith, inl}
 use Rattle.std.specs.Prelude.{◌||◌}
-use Rattle.plan_types.specs.declared.cause.Cause.{Cause}
+use Rattle.laws_board.proofs.Names.{Cause, Machine, Note, State, Scene, Switch, Release, BoardSection, Known, is_out, noted, reacts, first_cause, MotionTurn, ReactorTurn}
 use Rattle.plan_types.specs.declared.cause.Cause.TheVariants as cause
-use Rattle.plan_types.specs.declared.machine.Machine.{Machine}
-use Rattle.msg_code.specs.declared.talk.Note.{Note}
-use Rattle.msg_code.specs.declared.talk.State.{State}
-use Rattle.wire_scene.specs.declared.scene.Scene.{Scene}
-use Rattle.wire_scene.specs.declared.scene.Switch.{Switch}
-use Rattle.step_feed.specs.Pacing.{Release}
-use Rattle.section_units.specs.Sections.{BoardSection}
 use Rattle.link_work.specs.Ends.{spoiled}
-use Rattle.host_reactor.specs.declared.ordered.Known.{Known}
-use Rattle.host_reactor.specs.Notes.{is_out, noted}
-use Rattle.host_reactor.specs.Reactor.{reacts}
-use Rattle.host_reactor.specs.Running.{any_out, first_cause, late}
+use Rattle.host_reactor.specs.Running.{any_out, late}
 use Rattle.host_reactor.proofs.Ends.{first-ends, late-is-next, memory-is-first}
-use Rattle.session_work.specs.declared.table.MotionTurn.{MotionTurn}
-use Rattle.session_work.specs.declared.table.ReactorTurn.{ReactorTurn}
 use Rattle.laws_board.specs.sections.Runs.{AreSpilled, IsSpilled}
 use Rattle.laws_run.specs.run_ends.Ends.{order}
-use Rattle.laws_run.proofs.run_ends.Ending.{IsLate as IsLateCause, late_is, note_stays, of_some}
+use Rattle.laws_run.proofs.run_ends.Ending.{IsLate as IsLateCause, late_is, of_some}
 use Rattle.laws_run.specs.run_headline.Timely.{HoldsNothingLong}
 use Rattle.laws_run.specs.clear_runs.Clear.{AllSoon, AreSoon}
+use Rattle.host_reactor.proofs.Blames.{note-stays}
 
 -- a cause that comes behind a late board, where nothing was to stop the run
 pub first_none : (m : Machine) (switches : List Switch) (r : Known) (k : ℕ) (states : List State) (note : Option Note) (c : Cause) → 2 < order c → r.stopped ≡ None → (reacts m switches r k states note).ordered.end ≡ Some c
@@ -30,7 +19,7 @@ pub first_none : (m : Machine) (switches : List Switch) (r : Known) (k : ℕ) (s
 first_none m switches r k states note c high untold e = by_out (is_out note || any_out states) refl
   where
     none : (noted m note r).stopped ≡ None
-    none = note_stays m note r ∙ untold
+    none = note-stays m note r ∙ untold
 
     same : (d : Cause) → order d ≤ 2 → Some d ≡ Some c → ⊥
     same d low f = let g : d ≡ c = cc in let n = ap order g in omega (arith, n, low, high)

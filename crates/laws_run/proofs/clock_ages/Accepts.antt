@@ -1,15 +1,11 @@
 -- A board whose clock lines are near it may take up a new one.
 use Rattle.std.proofs.Common.{◌≡◌, ℕ, ℤ, pos, negsuc, ◌+◌, ◌-◌, ◌*◌, ◌/◌, ◌%◌, ◌^◌, ◌<◌, ◌≤◌, List, [], ◌∷◌, max, refl, ap, sym, ◌∙◌, subst, arith, inl, inr}
 use Rattle.std.proofs.Math.Nat.{mul-le-mul, mul-le-mul_left}
-use Rattle.std.proofs.lemmas.Bool.Decides.{leb_tells}
-use Rattle.plan_types.specs.declared.clock.BoardClock.{BoardClock}
-use Rattle.plan_types.specs.declared.plan.Held.{Held}
-use Rattle.plan_types.specs.declared.plan.Line.{Line}
-use Rattle.plan_types.specs.Clock.{board_tick, own_tick, rate, tick, turn_ns}
-use Rattle.plan_types.specs.Lines.{AreHeld, Clocks, last_from, lines_tick, tick_over}
+use Rattle.laws_board.proofs.Names.{leb_tells, BoardClock, Held, Line, board_tick, tick, turn_ns, Clocks, lines_tick, AreKept}
+use Rattle.plan_types.specs.Clock.{own_tick, rate}
+use Rattle.plan_types.specs.Lines.{AreHeld, last_from, tick_over}
 use Rattle.plan_types.specs.Machines.{IsValidFreq}
 use Rattle.plan_types.specs.Plan.{max_error}
-use Rattle.clock_line.specs.Kept.{AreKept}
 use Rattle.clock_line.specs.Samples.{ppm_size}
 use Rattle.clock_line.proofs.Holding.{tick-mono}
 use Rattle.clock_line.proofs.Turns.{last_from-above, tick-turn}
@@ -20,6 +16,7 @@ use Rattle.laws_board.proofs.clocks.Near.{keeps_up}
 use Rattle.laws_board.specs.sections.Parts.{AreTracked}
 use Rattle.laws_board.specs.orders.Renewed.{AreSampled, ComeInTime, NoneBefore}
 use Rattle.laws_board.proofs.orders.Followed.{lines_in_time}
+use Rattle.laws_homing.proofs.clear_boards.Clocking.{rate_low}
 
 -- the last line of a board, and the tick below which its own never falls
 abbrev pub last_line : Line → List Held → Line
@@ -69,11 +66,6 @@ line_apart line k whole freq begun =
     let more : k + 1 - a ≡ (k - a) + 1 = omega (arith, begun, at) in
     let grows : (k + 1 - a) * q ≡ (k - a) * q + q = ap (λ n. n * q) more ∙ times_one (k - a) q in
     omega (arith, one, two, grows, is)
-
--- and so is one of the board's own
-rate_low : (drift : ℤ) → ppm_size drift ≤ 200 → 999_800 ≤ rate drift
-rate_low (pos n) few = omega arith
-rate_low (negsuc n) few = omega (arith, few)
 
 own_apart : (start freq : ℕ) (drift : ℤ) (k : ℕ) → ppm_size drift ≤ 200 → own_tick start freq drift k + max_error freq ≤ own_tick start freq drift (k + 1)
 unfolding own_tick

@@ -1,28 +1,17 @@
 -- How old the clock lines become that a planner takes up.
 use Rattle.std.proofs.Common.{◌≡◌, ◌⊎◌, ℕ, ◌+◌, ◌*◌, ◌^◌, ◌<◌, ◌≤◌, All, List, [], ◌∷◌, ◌++◌, length, Option, Some, None, refl, ap, sym, ◌∙◌, subst, arith, inl, inr, append_assoc, append-nil, length-append}
-use Rattle.std.proofs.lemmas.Bool.Decides.{leb_tells}
-use Rattle.plan_types.specs.declared.clock.BoardClock.{BoardClock}
-use Rattle.plan_types.specs.declared.machine.Machine.{Machine}
-use Rattle.plan_types.specs.declared.plan.Held.{Held}
-use Rattle.plan_types.specs.declared.plan.Line.{Line}
-use Rattle.plan_types.specs.Clock.{clock_of, turn_ns}
-use Rattle.plan_types.specs.Lines.{AreHeld, Clocks, last_from}
-use Rattle.plan_types.specs.Machines.{IsValidBoard, board_at}
-use Rattle.plan_types.specs.Sections.{clocks_at}
+use Rattle.laws_board.proofs.Names.{leb_tells, BoardClock, Machine, Held, Line, clock_of, turn_ns, Clocks, board_at, clocks_at, AreKept, NoteNews, WordMsg, Started, Told, MotionTurn}
+use Rattle.plan_types.specs.Lines.{AreHeld, last_from}
+use Rattle.plan_types.specs.Machines.{IsValidBoard}
 use Rattle.plan_types.specs.Valid.{IsValidLine}
-use Rattle.clock_line.specs.Kept.{AreKept, clocks_of}
+use Rattle.clock_line.specs.Kept.{clocks_of}
 use Rattle.clock_line.specs.Samples.{ppm_size}
-use Rattle.msg_code.specs.declared.talk.NoteNews.{NoteNews}
-use Rattle.msg_code.specs.declared.talk.WordMsg.{WordMsg}
 use Rattle.section_feed.specs.Boards.{MayTake}
 use Rattle.laws_board.specs.turns.Turns.{BoardTurn}
 use Rattle.motion_work.specs.declared.told.BoardLine.{BoardLine}
 use Rattle.motion_work.specs.Further.{WasHeard, noted_lines, told_on}
 use Rattle.motion_work.specs.Puts.{ArePut}
-use Rattle.motion_work.specs.Seen.{Started}
-use Rattle.motion_work.specs.Told.{Told}
 use Rattle.motion_stream.specs.Uptakes.{IsNotLost, TellsOf}
-use Rattle.session_work.specs.declared.table.MotionTurn.{MotionTurn}
 use Rattle.host_reactor.specs.Report.{drift_lines}
 use Rattle.laws_board.specs.clocks.Samples.{IsSampled}
 use Rattle.laws_board.specs.orders.Renewed.{AreSampled, ComeInTime, NoneBefore}
@@ -30,13 +19,15 @@ use Rattle.laws_board.specs.plans.Answers.{TookNoneAhead}
 use Rattle.laws_board.specs.plans.Lines.{drifts_of, held_lines}
 use Rattle.laws_board.specs.plans.Planned.{LoseNone, TakeUpLines, TookInTime, fresh_in, connecting_heard, put_of, puts_of, told_behind, told_of, words_in}
 use Rattle.laws_run.proofs.clock_ages.Saying.{TellFirst, TellNew, TellsAgain, TellsIn}
-use Rattle.laws_run.proofs.run_headline.Further.{EachHeld, EachTold, noted_append, noted_grown, noted_long, none_asked}
+use Rattle.laws_run.proofs.run_headline.Further.{EachHeld, EachTold, noted_grown, noted_long, none_asked}
 use Rattle.laws_run.proofs.run_headline.Noting.{both_told, note_from, were_told}
-use Rattle.laws_run.proofs.run_headline.Words.{heard_on, news_in, told_grows}
+use Rattle.laws_run.proofs.run_headline.Words.{news_in, told_grows}
 use Rattle.laws_run.proofs.run_limits.Own.{sample_small}
 use Rattle.laws_run.proofs.clock_ages.Accepts.{AreReady, IsReady, last_line, may_take}
 use Rattle.laws_run.proofs.clock_ages.Growing.{AreYoung, IsTaken, age_least, come_young, each_held, held_front, last_more, none_more, sampled_more, young_more}
 use Rattle.laws_run.proofs.clock_ages.Heard.{first_parts, fresh_among, fresh_heard, heard_all, heard_line, lines_heard, new_parts, none_high, none_low, tells_drift, tells_either, told_first, told_line}
+use Rattle.motion_stream.proofs.Uptaking.{noted_both}
+use Rattle.laws_board.proofs.plans.Planning.{heard_some}
 
 -- what is asked of a board
 pub record IsDrifting (m : Machine) (b : ℕ) : Type 0 where
@@ -295,7 +286,7 @@ module _ (m : Machine) (b ended running : ℕ) (turns : List BoardTurn) (ws : Li
       let mid = behind now x.note.news in
       let all : Some (record { first = now.first; clocks = noted_lines (news_in ts) mid.clocks }) ≡ Some t = sym (told_grows m (k + 1) ts mid) ∙ ap (told_of m (k + 1) ts) (sym (behind_is k x told now e)) ∙ is in
       let same : (record { first = now.first; clocks = noted_lines (news_in ts) mid.clocks }) ≡ t = cc in
-      noted_append x.note.news (news_in ts) now.clocks ∙ ap (λ (y : Told). y.clocks) same
+      noted_both x.note.news (news_in ts) now.clocks ∙ ap (λ (y : Told). y.clocks) same
 
   goes_to : (ns : List NoteNews) (clocks : List Clocks) → b < length clocks → noted_lines ns clocks ≡ t.clocks → GoesTo (clocks_at clocks b)
   goes_to ns clocks inside e =
@@ -349,7 +340,7 @@ module _ (m : Machine) (b ended running : ℕ) (turns : List BoardTurn) (ws : Li
       (subst (λ (n : ℕ). Stands k n (before ++ []) (clocks_at t.clocks b)) words_are
       (subst (λ (z : List WordMsg). Stands k taken z (clocks_at t.clocks b)) (sym (append-nil before)) (subst (λ (y : Told). Stands k taken before (clocks_at y.clocks b)) same s)))
   on k taken before (x ∷ ts) now g s =
-      let e = heard_on m k x.words now in
+      let e = heard_some m k x.words now in
       let kept = subst (λ (o : Option Told). LoseNone m k x.note.news (fresh_in m k x.words (Some now)) o) e g.lines.1 in
       let lines : All (IsNotLost m now.clocks k x.note.news) (lines_heard x.words) = subst (All (IsNotLost m now.clocks k x.note.news)) (fresh_heard m k x.words now) kept in
       let more = one k taken before x ts (Some now) now e (inl lines) g s in

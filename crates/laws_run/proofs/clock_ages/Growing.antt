@@ -1,9 +1,6 @@
 -- Lines of a board behind which more are taken up.
 use Rattle.std.proofs.Common.{◌≡◌, ℕ, ℤ, ◌+◌, ◌*◌, ◌<◌, ◌≤◌, List, [], ◌∷◌, ◌++◌, arith, inr, le-div_iff_mul-le}
-use Rattle.plan_types.specs.declared.clock.BoardClock.{BoardClock}
-use Rattle.plan_types.specs.declared.plan.Held.{Held}
-use Rattle.plan_types.specs.declared.plan.Line.{Line}
-use Rattle.plan_types.specs.Clock.{turn_ns}
+use Rattle.laws_board.proofs.Names.{BoardClock, Held, Line, turn_ns}
 use Rattle.plan_types.specs.Lines.{AreHeld, last_from}
 use Rattle.clock_line.specs.Samples.{ppm_size}
 use Rattle.laws_board.specs.turns.Turns.{BoardTurn}

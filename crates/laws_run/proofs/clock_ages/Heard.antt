@@ -1,16 +1,9 @@
 -- What the words of some turns tell of a board's clock.
 use Rattle.std.proofs.Common.{◌≡◌, ◌⊎◌, ℕ, zero, suc, ◌+◌, ◌<◌, ◌≤◌, Bool, true, false, List, [], ◌∷◌, ◌++◌, All, map, max, length, Option, Some, None, refl, ap, sym, ◌∙◌, subst, arith, inl, inr}
 use Rattle.std.specs.Prelude.{nat_lt, if◌then◌else◌}
-use Rattle.std.proofs.lemmas.Bool.Decides.{eqb_tells}
-use Rattle.std.proofs.lemmas.List.Elements.{All-head, All-tail}
-use Rattle.plan_types.specs.declared.clock.BoardClock.{BoardClock}
-use Rattle.plan_types.specs.declared.machine.Machine.{Machine}
-use Rattle.plan_types.specs.declared.plan.Line.{Line}
-use Rattle.plan_types.specs.Lines.{Clocks, one_line}
-use Rattle.plan_types.specs.Sections.{clocks_at, first_start}
-use Rattle.msg_code.specs.declared.talk.NoteNews.{NoteNews}
+use Rattle.laws_board.proofs.Names.{eqb_tells, All-head, All-tail, BoardClock, Machine, Line, Clocks, one_line, clocks_at, NoteNews, WordMsg, Told}
+use Rattle.plan_types.specs.Sections.{first_start}
 use Rattle.msg_code.specs.declared.talk.NoteNews.TheVariants as news
-use Rattle.msg_code.specs.declared.talk.WordMsg.{WordMsg}
 use Rattle.msg_code.specs.declared.talk.WordNews.{WordNews}
 use Rattle.msg_code.specs.declared.talk.WordNews.TheVariants as word
 use Rattle.report_text.specs.declared.line.ReportLine.TheVariants as report
@@ -18,7 +11,7 @@ use Rattle.host_reactor.specs.Report.{drift_lines, turn_at}
 use Rattle.laws_board.specs.turns.Turns.{BoardTurn}
 use Rattle.motion_work.specs.declared.told.BoardLine.{BoardLine}
 use Rattle.motion_work.specs.Further.{WasHeard}
-use Rattle.motion_work.specs.Told.{Told, are_fit, first_told, heard, lines_in, told_at, clocks_in_news, told_in, told_of}
+use Rattle.motion_work.specs.Told.{are_fit, first_told, heard, lines_in, told_at, clocks_in_news, told_in, told_of}
 use Rattle.motion_work.specs.Told.{word_limit as last_word}
 use Rattle.motion_stream.specs.Uptakes.{TellsOf}
 use Rattle.laws_board.specs.plans.Lines.{drifts_of}
@@ -26,7 +19,7 @@ use Rattle.motion_stream.specs.Motions.{lines_kept}
 use Rattle.laws_board.specs.plans.Planned.{fresh_in, connecting_heard}
 use Rattle.laws_run.proofs.clock_ages.Saying.{IsNew, TellFirst, TellNew, TellsIn}
 use Rattle.laws_run.proofs.run_headline.Noting.{heard_either}
-use Rattle.laws_run.proofs.run_headline.Words.{heard_on}
+use Rattle.laws_board.proofs.plans.Planning.{heard_some}
 
 -- the further clock lines that some words tell
 abbrev pub lines_heard : List WordMsg → List BoardLine
@@ -198,6 +191,6 @@ told_first m k ended j (w ∷ ws) now f e = by (told_of m w) refl f.0 e (λ g. t
     by (Some clocks) is (inl not) e rec = absurd (let f : None ≡ Some clocks = sym not ∙ is in cc)
     by (Some clocks) is (inr at) e rec =
         let told : Told = record { first = first_start (max k w.turn); clocks = clocks } in
-        let g : Some told ≡ Some now = sym (heard_on m k ws told) ∙ e in
+        let g : Some told ≡ Some now = sym (heard_some m k ws told) ∙ e in
         let same : told ≡ now = cc in
         record { late = omega (arith, at); soon = omega (arith, at); none = λ c. subst (λ (t : Told). (clocks_at t.clocks c).held ≡ []) same (of_held m w clocks c is) }

@@ -1,23 +1,12 @@
 -- The further clock lines of boards hold soon behind the words that tell them.
 use Rattle.std.proofs.Common.{◌≡◌, ℕ, zero, suc, ◌+◌, ◌*◌, ◌<◌, ◌≤◌, Bool, true, false, List, [], ◌∷◌, ◌++◌, length, Option, None, Some, refl, ap, sym, ◌∙◌, subst, arith, inl, inr, append_assoc}
-use Rattle.plan_types.specs.declared.machine.Machine.{Machine}
-use Rattle.plan_types.specs.declared.plan.Held.{Held}
-use Rattle.plan_types.specs.declared.plan.Line.{Line}
-use Rattle.plan_types.specs.Clock.{turn_ns}
-use Rattle.plan_types.specs.Lines.{Clocks, last_from, one_line}
-use Rattle.plan_types.specs.Machines.{IsValidMachine}
-use Rattle.plan_types.specs.Sections.{clocks_at}
-use Rattle.msg_code.specs.declared.talk.WordMsg.{WordMsg}
-use Rattle.wire_scene.specs.declared.scene.Scene.{Scene}
+use Rattle.laws_board.proofs.Names.{Machine, Held, Line, turn_ns, Clocks, one_line, IsValidMachine, clocks_at, WordMsg, Scene, Started, Told, MotionTurn, ReactorTurn, gather}
+use Rattle.plan_types.specs.Lines.{last_from}
 use Rattle.motion_work.specs.Further.{WasHeard, noted_lines}
 use Rattle.motion_work.specs.Puts.{ArePut}
-use Rattle.motion_work.specs.Seen.{Started}
-use Rattle.motion_work.specs.Told.{Told, lines_in}
-use Rattle.session_work.specs.declared.table.MotionTurn.{MotionTurn}
-use Rattle.session_work.specs.declared.table.ReactorTurn.{ReactorTurn}
+use Rattle.motion_work.specs.Told.{lines_in}
 use Rattle.session_work.specs.Bares.{bare_word}
 use Rattle.session_work.specs.Leads.{each_turn, last_words, still_word}
-use Rattle.session_work.specs.Rows.{gather}
 use Rattle.session_run.specs.Boards.{came_from}
 use Rattle.laws_board.specs.plans.Planned.{AreKnown, Plans, TakeUpLines, TookInTime, fresh_in, put_of, puts_of, told_behind, words_in}
 use Rattle.laws_run.proofs.run_headline.Boarded.{Ready}

@@ -1,10 +1,7 @@
 -- The ticks of a board in a run, which go on behind it, and its clock lines, which follow them.
 use Rattle.std.proofs.Common.{◌≡◌, ℕ, ◌+◌, ◌*◌, ◌≤◌, List, arith}
-use Rattle.plan_types.specs.declared.machine.Machine.{Machine}
-use Rattle.plan_types.specs.Clock.{board_tick, clock_of, turn_ns}
-use Rattle.plan_types.specs.Lines.{Clocks}
-use Rattle.plan_types.specs.Machines.{IsValidFreq, board_at}
-use Rattle.clock_line.specs.Kept.{AreKept}
+use Rattle.laws_board.proofs.Names.{Machine, board_tick, clock_of, turn_ns, Clocks, board_at, AreKept}
+use Rattle.plan_types.specs.Machines.{IsValidFreq}
 use Rattle.laws_board.specs.turns.Turns.{BoardTurn}
 use Rattle.laws_board.specs.clocks.Samples.{IsSampled}
 use Rattle.laws_board.specs.sections.Parts.{AreTracked}

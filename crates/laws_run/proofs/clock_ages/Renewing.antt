@@ -1,31 +1,22 @@
 -- The clock lines of the boards in a whole run are renewed in time.
 use Rattle.std.proofs.Common.{◌≡◌, ◌≢◌, ◌⊎◌, ℕ, ℤ, zero, suc, pos, negsuc, ◌+◌, ◌<◌, ◌≤◌, List, [], ◌∷◌, ◌++◌, length, Some, refl, sym, ◌∙◌, arith, inl, inr}
-use Rattle.std.proofs.lemmas.List.{length-map}
-use Rattle.plan_types.specs.declared.machine.Machine.{Machine}
-use Rattle.plan_types.specs.Clock.{clock_of}
-use Rattle.plan_types.specs.Machines.{IsValidMachine, board_at}
-use Rattle.plan_types.specs.Sections.{clocks_at}
-use Rattle.msg_code.specs.declared.talk.WordMsg.{WordMsg}
-use Rattle.wire_scene.specs.declared.scene.Scene.{Scene}
+use Rattle.laws_board.proofs.Names.{length-map, Machine, clock_of, IsValidMachine, board_at, clocks_at, WordMsg, Scene, Told, MotionTurn, ReactorTurn, gather}
 use Rattle.laws_board.specs.causes.Short.{HaveShortDictionaries}
 use Rattle.laws_board.proofs.clocks.Lines.{as_long}
 use Rattle.laws_homing.specs.home_plans.Notes.{CameNotes}
-use Rattle.motion_work.specs.Told.{Told}
-use Rattle.session_work.specs.declared.table.MotionTurn.{MotionTurn}
-use Rattle.session_work.specs.declared.table.ReactorTurn.{ReactorTurn}
-use Rattle.session_work.specs.Rows.{gather}
 use Rattle.session_run.specs.Boards.{AreReactorTurns, came_from}
 use Rattle.laws_run.specs.lanes.Boards.{IsInWhole, turns_behind}
 use Rattle.laws_board.specs.orders.Renewed.{ComeInTime}
 use Rattle.laws_board.specs.plans.Planned.{Plans, put_of, words_in}
 use Rattle.laws_run.specs.clock_ages.Renewed.{StayYoung}
 use Rattle.laws_run.specs.run_headline.Timely.{link_of}
-use Rattle.laws_run.proofs.run_headline.Boarded.{Ready, drift_few, ready, run_of, valid_at}
+use Rattle.laws_run.proofs.run_headline.Boarded.{Ready, ready, run_of, valid_at}
 use Rattle.laws_run.proofs.run_headline.Facts.{came_long}
 use Rattle.laws_run.proofs.clock_ages.Near.{last_near, words_cut}
 use Rattle.laws_run.proofs.clock_ages.Running.{run_tells, words_of}
 use Rattle.laws_run.proofs.clock_ages.Runs.{again, ended_soon}
 use Rattle.laws_run.proofs.clock_ages.Whole.{plan_young}
+use Rattle.laws_homing.proofs.clear_groups.Noted.{drift_small}
 
 drift_or : (d : ℤ) → (d ≡ pos 0) ⊎ (d ≢ pos 0)
 drift_or (pos zero) = inl refl
@@ -59,6 +50,6 @@ module _ (m : Machine) (v : IsValidMachine m) (s : Scene) (ts : List MotionTurn)
         last_near m v s ts p t first rest end told Ready_in b n left inside words,
         elim (drift_or (board_at m b).drift) [
           | inl e ↦ inl e
-          | inr d ↦ inr (drift_few (board_at m b).drift valid.drift_low valid.drift_high, drifting b (whole b inside) inside soon d)
+          | inr d ↦ inr (drift_small (board_at m b).drift valid.drift_low valid.drift_high, drifting b (whole b inside) inside soon d)
         ],
       )

@@ -1,14 +1,7 @@
 -- So are those of a run that has ended.
 use Rattle.std.proofs.Common.{◌≡◌, ℕ, ◌<◌, ◌≤◌, List, ◌∷◌, length, map, Some, refl}
-use Rattle.plan_types.specs.declared.cause.Cause.{Cause}
-use Rattle.plan_types.specs.declared.machine.Machine.{Machine}
-use Rattle.plan_types.specs.Machines.{IsValidMachine}
-use Rattle.plan_types.specs.Sections.{clocks_at}
-use Rattle.wire_scene.specs.declared.scene.Scene.{Scene}
+use Rattle.laws_board.proofs.Names.{Cause, Machine, IsValidMachine, clocks_at, Scene, Told, MotionTurn, ReactorTurn}
 use Rattle.laws_board.specs.causes.Short.{HaveShortDictionaries}
-use Rattle.motion_work.specs.Told.{Told}
-use Rattle.session_work.specs.declared.table.MotionTurn.{MotionTurn}
-use Rattle.session_work.specs.declared.table.ReactorTurn.{ReactorTurn}
 use Rattle.laws_board.specs.plans.Lines.{TookNotes}
 use Rattle.laws_board.specs.plans.Planned.{Plans}
 use Rattle.laws_run.specs.clock_ages.Renewed.{StayYoung}

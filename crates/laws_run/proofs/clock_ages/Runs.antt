@@ -1,20 +1,10 @@
 -- A board that drifts tells its clock again and again in a whole run.
 use Rattle.std.proofs.Common.{◌≡◌, ◌⊎◌, ℕ, zero, suc, pos, ◌+◌, ◌-◌, ◌<◌, ◌≤◌, Bool, List, [], ◌∷◌, ◌++◌, length, Some, refl, ap, sym, ◌∙◌, subst, arith, inl, inr, length-append}
 use Rattle.std.specs.Prelude.{if◌then◌else◌}
-use Rattle.std.proofs.lemmas.Bool.Decides.{eqb_tells, leb_tells}
-use Rattle.plan_types.specs.declared.machine.Machine.{Machine}
-use Rattle.plan_types.specs.Clock.{clock_of}
-use Rattle.plan_types.specs.Machines.{IsValidMachine, board_at}
-use Rattle.plan_types.specs.declared.plan.Line.{Line}
-use Rattle.msg_code.specs.declared.talk.WordMsg.{WordMsg}
+use Rattle.laws_board.proofs.Names.{eqb_tells, leb_tells, Machine, clock_of, IsValidMachine, board_at, Line, WordMsg, Scene, Switch, pins_of, Phase, Connecting, Stopping, Came, known_by, last_reacted, Started, Told, MotionTurn, ReactorTurn, gather}
 use Rattle.msg_code.specs.declared.talk.WordNews.{WordNews}
 use Rattle.msg_code.specs.declared.talk.WordNews.TheVariants as word
-use Rattle.wire_scene.specs.declared.scene.Scene.{Scene}
-use Rattle.wire_scene.specs.declared.scene.Switch.{Switch}
-use Rattle.link_work.specs.Switches.{pins_of}
-use Rattle.host_reactor.specs.declared.ordered.Phase.{Phase}
-use Rattle.host_reactor.specs.declared.ordered.Phase.TheVariants.{Connecting, Running, Stopping}
-use Rattle.host_reactor.specs.Runs.{Came, known_by, last_reacted}
+use Rattle.host_reactor.specs.declared.ordered.Phase.TheVariants.{Running}
 use Rattle.laws_board.specs.turns.Turns.{BoardTurn}
 use Rattle.laws_board.specs.clocks.Runs.{IsInRun}
 use Rattle.laws_board.specs.clocks.Samples.{further_lines}
@@ -27,12 +17,8 @@ use Rattle.laws_board.proofs.causes.Turns.{came_all, came_less}
 use Rattle.laws_homing.specs.home_plans.Notes.{CameNotes}
 use Rattle.laws_homing.proofs.home_plans.Starting.{all_room}
 use Rattle.motion_work.specs.Further.{WasHeard}
-use Rattle.motion_work.specs.Seen.{Started}
-use Rattle.motion_work.specs.Told.{Told, lines_in}
-use Rattle.session_work.specs.declared.table.MotionTurn.{MotionTurn}
-use Rattle.session_work.specs.declared.table.ReactorTurn.{ReactorTurn}
+use Rattle.motion_work.specs.Told.{lines_in}
 use Rattle.session_work.specs.Leads.{last_words}
-use Rattle.session_work.specs.Rows.{gather}
 use Rattle.session_run.specs.Boards.{AreReactorTurns, came_from, came_in}
 use Rattle.laws_run.specs.lanes.Boards.{IsInWhole, turns_behind}
 use Rattle.laws_board.specs.plans.Planned.{Plans}

@@ -1,11 +1,6 @@
 -- What the words of a run tell of the clock of a board that drifts.
 use Rattle.std.specs.Prelude.{◌≡◌, ◌⊎◌, ℕ, ◌+◌, ◌*◌, ◌^◌, ◌<◌, ◌≤◌, List, [], ◌∷◌, length, None}
-use Rattle.plan_types.specs.declared.clock.BoardClock.{BoardClock}
-use Rattle.plan_types.specs.declared.machine.Machine.{Machine}
-use Rattle.plan_types.specs.declared.plan.Line.{Line}
-use Rattle.plan_types.specs.Clock.{clock_of, turn_ns}
-use Rattle.plan_types.specs.Machines.{board_at}
-use Rattle.msg_code.specs.declared.talk.WordMsg.{WordMsg}
+use Rattle.laws_board.proofs.Names.{BoardClock, Machine, Line, clock_of, turn_ns, board_at, WordMsg}
 use Rattle.motion_work.specs.Further.{WasHeard}
 use Rattle.motion_work.specs.Told.{lines_in, told_of}
 use Rattle.laws_board.specs.turns.Turns.{BoardTurn}

@@ -1,22 +1,10 @@
 -- What the words of the reactor's turns tell of a board's clock.
 use Rattle.std.proofs.Common.{◌≡◌, ◌⊎◌, ℕ, zero, suc, ◌+◌, ◌≤◌, Bool, true, false, All, List, [], ◌∷◌, ◌++◌, length, Option, Some, None, refl, ap, sym, ◌∙◌, subst, arith, inl, inr, append_assoc, length-append}
 use Rattle.std.specs.Prelude.{nat_lt, if◌then◌else◌}
-use Rattle.std.proofs.lemmas.Bool.Decides.{eqb_tells}
-use Rattle.std.proofs.lemmas.List.Elements.{All-head, All-tail}
-use Rattle.plan_types.specs.declared.clock.BoardClock.{BoardClock}
-use Rattle.plan_types.specs.declared.levels.Level.{Level}
-use Rattle.plan_types.specs.declared.machine.Machine.{Machine}
-use Rattle.plan_types.specs.declared.plan.Line.{Line}
-use Rattle.plan_types.specs.Clock.{clock_of}
-use Rattle.plan_types.specs.Lines.{Clocks}
-use Rattle.plan_types.specs.Machines.{IsValidMachine, board_at}
-use Rattle.msg_code.specs.declared.talk.WordMsg.{WordMsg}
+use Rattle.laws_board.proofs.Names.{eqb_tells, All-head, All-tail, BoardClock, Level, Machine, Line, clock_of, Clocks, IsValidMachine, board_at, WordMsg, Entry, Switch, Connecting, Came, known_by, last_reacted, ReactorTurn, gather}
 use Rattle.msg_code.specs.declared.talk.WordNews.{WordNews}
 use Rattle.msg_code.specs.declared.talk.WordNews.TheVariants as word
-use Rattle.wire_scene.specs.declared.scene.Entry.{Entry}
-use Rattle.wire_scene.specs.declared.scene.Switch.{Switch}
-use Rattle.host_reactor.specs.declared.ordered.Phase.TheVariants.{Connecting, Running}
-use Rattle.host_reactor.specs.Runs.{Came, known_by, last_reacted}
+use Rattle.host_reactor.specs.declared.ordered.Phase.TheVariants.{Running}
 use Rattle.laws_board.specs.turns.Turns.{BoardTurn}
 use Rattle.laws_board.specs.clocks.Runs.{IsInRun}
 use Rattle.laws_board.specs.clocks.Samples.{IsFresh, IsSampled, further_lines}
@@ -25,10 +13,8 @@ use Rattle.laws_board.proofs.clocks.Lines.{as_long}
 use Rattle.motion_work.specs.Further.{WasHeard}
 use Rattle.motion_work.specs.Told.{lines_in, told_of}
 use Rattle.motion_work.specs.Told.{word_limit as last_word}
-use Rattle.session_work.specs.declared.table.ReactorTurn.{ReactorTurn}
 use Rattle.session_work.specs.Bares.{bare_word}
 use Rattle.session_work.specs.Leads.{each_turn, still_word}
-use Rattle.session_work.specs.Rows.{gather}
 use Rattle.session_run.specs.Boards.{AreReactorTurns, came_from, came_in}
 use Rattle.laws_run.proofs.clock_ages.Saying.{IsNew, TellFirst, TellNew}
 use Rattle.laws_run.proofs.run_ends.Connecting.{before_boards, was_connecting}

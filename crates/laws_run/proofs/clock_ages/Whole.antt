@@ -1,22 +1,15 @@
 -- The clock lines of a whole run come in time.
 use Rattle.std.proofs.Common.{◌≡◌, ◌≢◌, ℕ, ℤ, zero, suc, pos, negsuc, ◌+◌, ◌<◌, ◌≤◌, List, [], ◌++◌, length, Some, None, refl, sym, ◌∙◌, subst, arith}
-use Rattle.std.proofs.lemmas.List.{length-map}
-use Rattle.plan_types.specs.declared.machine.Machine.{Machine}
-use Rattle.plan_types.specs.Clock.{clock_of}
-use Rattle.plan_types.specs.Machines.{IsValidMachine, board_at}
-use Rattle.plan_types.specs.Sections.{clocks_at}
-use Rattle.clock_line.specs.Kept.{AreKept}
+use Rattle.laws_board.proofs.Names.{length-map, Machine, clock_of, IsValidMachine, board_at, clocks_at, AreKept, WordMsg, Told, MotionTurn}
 use Rattle.clock_line.specs.Samples.{ppm_size}
-use Rattle.msg_code.specs.declared.talk.WordMsg.{WordMsg}
 use Rattle.laws_board.specs.turns.Turns.{BoardTurn}
-use Rattle.motion_work.specs.Told.{Told}
-use Rattle.session_work.specs.declared.table.MotionTurn.{MotionTurn}
 use Rattle.laws_board.specs.orders.Renewed.{ComeInTime}
 use Rattle.laws_board.specs.plans.Planned.{AreKnown, Plans, put_of, words_in}
 use Rattle.laws_run.proofs.clock_ages.Saying.{TellsAgain}
-use Rattle.laws_run.proofs.run_headline.Boarded.{drift_few, valid_at}
+use Rattle.laws_run.proofs.run_headline.Boarded.{valid_at}
 use Rattle.laws_run.proofs.run_limits.Own.{sample_small}
 use Rattle.laws_run.proofs.clock_ages.Ages.{Goes, IsDrifting, young_all}
+use Rattle.laws_homing.proofs.clear_groups.Noted.{drift_small}
 
 drift_some : (d : ℤ) → d ≢ pos 0 → 0 < ppm_size d
 drift_some (pos zero) n = absurd (n refl)
@@ -28,7 +21,7 @@ module _ (m : Machine) (n : ℕ) (ts : List MotionTurn) (p : Plans m n ts) (t : 
   drifting : IsDrifting m b
   drifting =
       let board = valid_at m.boards b inside valid.boards in
-      record { board = board; few = drift_few (board_at m b).drift board.drift_low board.drift_high; some = drift_some (board_at m b).drift drift; inside = inside }
+      record { board = board; few = drift_small (board_at m b).drift board.drift_low board.drift_high; some = drift_some (board_at m b).drift drift; inside = inside }
 
   known : AreKnown m (Some t)
   known = subst (AreKnown m) told p.known

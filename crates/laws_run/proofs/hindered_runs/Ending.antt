@@ -1,38 +1,21 @@
 -- A whole run that ends as a board expired had a hindered link, whatever threads it went in.
 use Rattle.std.proofs.Common.{◌≡◌, ℕ, zero, suc, ◌+◌, ◌<◌, ◌≤◌, Bool, true, false, cond, List, [], ◌∷◌, ◌++◌, length, map, Option, Some, None, refl, inl, inr, ap, sym, ◌∙◌, subst, arith}
 use Rattle.std.specs.Prelude.{◌≢◌, ◌||◌}
-use Rattle.std.proofs.Math.Logic.{∥∥₁_map}
-use Rattle.std.proofs.lemmas.Bool.{eq-eqb}
+use Rattle.laws_board.proofs.Names.{∥∥₁_map, eq-eqb, Cause, Machine, IsValidMachine, ShutNews, State, Scene, Member, Homing, Known, Connecting, Stopping, is_out, noted, Run, reacts, IsOwn, Came, GoesOn, known_by, Told, MotionTurn, ReactorTurn, item}
 use Rattle.io_core.specs.declared.traits.Files.{Ghosts as Files}
 use Rattle.io_core.specs.declared.traits.Sink.{Ghosts as Sink}
-use Rattle.plan_types.specs.declared.cause.Cause.{Cause}
 use Rattle.plan_types.specs.declared.cause.Cause.TheVariants as cause
-use Rattle.plan_types.specs.declared.machine.Machine.{Machine}
-use Rattle.plan_types.specs.Machines.{IsValidMachine}
-use Rattle.msg_code.specs.declared.talk.ShutNews.{ShutNews}
-use Rattle.msg_code.specs.declared.talk.State.{State}
-use Rattle.wire_scene.specs.declared.scene.Scene.{Scene}
-use Rattle.trigger_group.specs.declared.order.Member.{Member}
-use Rattle.axis_homing.specs.declared.homing.Homing.{Homing}
-use Rattle.host_reactor.specs.declared.ordered.Known.{Known}
-use Rattle.host_reactor.specs.declared.ordered.Phase.TheVariants.{Connecting, Running, Stopping}
-use Rattle.host_reactor.specs.Notes.{is_out, noted}
-use Rattle.host_reactor.specs.Reactor.{Run, reacts}
-use Rattle.host_reactor.specs.Rows.{IsOwn}
+use Rattle.host_reactor.specs.declared.ordered.Phase.TheVariants.{Running}
 use Rattle.host_reactor.specs.Running.{any_out, late, late_of, or_cause}
-use Rattle.host_reactor.specs.Runs.{Came, GoesOn, HaveStates, known_by}
+use Rattle.host_reactor.specs.Runs.{HaveStates}
 use Rattle.laws_board.proofs.clocks.Lines.{noted_phase}
 use Rattle.laws_board.specs.causes.Short.{HaveShortDictionaries}
 use Rattle.laws_board.specs.plans.Lines.{TookNotes}
 use Rattle.laws_board.specs.plans.Planned.{Plans}
-use Rattle.motion_work.specs.Told.{Told}
 use Rattle.session_lanes.specs.declared.near.Told as near
 use Rattle.session_run.specs.declared.tell.Kept.{Kept}
 use Rattle.session_run.specs.Boards.{came_from, came_in}
 use Rattle.session_run.specs.Runs.{RunsOver}
-use Rattle.session_work.specs.declared.table.MotionTurn.{MotionTurn}
-use Rattle.session_work.specs.declared.table.ReactorTurn.{ReactorTurn}
-use Rattle.session_work.specs.Rows.{item}
 use Rattle.laws_homing.specs.home_plans.Notes.{CameNotes, WasBegun}
 use Rattle.laws_homing.proofs.home_plans.Knowing.{now_was}
 use Rattle.laws_homing.specs.home_runs.Told.{IsMember}
@@ -52,20 +35,16 @@ use Rattle.laws_run.proofs.run_headline.Boarded.{came_cut, came_split}
 use Rattle.laws_run.proofs.run_headline.Making.{run_made}
 use Rattle.laws_run.proofs.run_headline.Runs.{facts, row_full}
 use Rattle.laws_run.proofs.run_headline.Showing.{Facts, came_long, ends_own, in_none, long_own, not_told, took_notes}
+use Rattle.laws_run.proofs.run_headline.Going.{or_none}
 
 -- a board among some members
 member_in : (b : ℕ) (ahead : List Member) (x : Member) (behind : List Member) → x.board ≡ b → IsMember b (ahead ++ x ∷ behind)
 member_in b [] x behind e = inl e
 member_in b (y ∷ ahead) x behind e = inr (member_in b ahead x behind e)
 
--- no board is late where no cause comes first
-or_parts : (a b : Option Cause) → or_cause a b ≡ None → (a ≡ None) × (b ≡ None)
-or_parts None b e = (refl, e)
-or_parts (Some c) b e = absurd (let bad : Some c ≡ None = e in cc)
-
 late_none : (out : Bool) (stopped l : Option Cause) → cond out (Some cause.Memory) (or_cause stopped l) ≡ None → l ≡ None
 late_none true stopped l e = absurd (let bad : Some cause.Memory ≡ None = e in cc)
-late_none false stopped l e = (or_parts stopped l e).1
+late_none false stopped l e = (or_none stopped l e).1
 
 none_late : (i : ℕ) (states : List State) (b : ℕ) (state : State) (n : ShutNews) → item b states ≡ state ∷ [] → state.shut ≡ Some n → n.reason ≡ 1 → late i states ≡ None → ⊥
 none_late i [] b state n at shut one none = absurd (let bad : [] ≡ state ∷ [] = at in cc)
@@ -73,9 +52,9 @@ none_late i (x ∷ states) zero state n at shut one none =
     let same : x ≡ state = cc in
     let is : late_of i x.shut ≡ late_of i (Some n) = ap (late_of i) (ap (λ (z : State). z.shut) same ∙ shut) in
     let hit : late_of i (Some n) ≡ Some (cause.Late i n.first n.tick n.spoiled n.spill) = ap (λ (q : Bool). cond q (Some (cause.Late i n.first n.tick n.spoiled n.spill)) None) (eq-eqb n.reason 1 one) in
-    let bad : Some (cause.Late i n.first n.tick n.spoiled n.spill) ≡ None = sym (is ∙ hit) ∙ (or_parts (late_of i x.shut) (late (i + 1) states) none).0 in
+    let bad : Some (cause.Late i n.first n.tick n.spoiled n.spill) ≡ None = sym (is ∙ hit) ∙ (or_none (late_of i x.shut) (late (i + 1) states) none).0 in
     cc
-none_late i (x ∷ states) (suc b) state n at shut one none = none_late (i + 1) states b state n at shut one (or_parts (late_of i x.shut) (late (i + 1) states) none).1
+none_late i (x ∷ states) (suc b) state n at shut one none = none_late (i + 1) states b state n at shut one (or_none (late_of i x.shut) (late (i + 1) states) none).1
 
 module _ (m : Machine) (v : IsValidMachine m) (short : HaveShortDictionaries m) (s : Scene) (ts : List MotionTurn) (p : Plans m (length m.boards) ts) (end : ReactorTurn) (c : Cause) (board turn : ℕ) (is_expired : c ≡ cause.Expired board turn) where
   own : IsOwn c

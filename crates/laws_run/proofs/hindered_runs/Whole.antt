@@ -1,39 +1,16 @@
 -- A whole run in which axes home, in any scene, and in which a board told that it expired: the link of a member's board was hindered.
 use Rattle.std.proofs.Common.{◌≡◌, ℕ, ◌+◌, ◌-◌, ◌*◌, ◌^◌, ◌<◌, ◌≤◌, inl, inr, List, [], ◌∷◌, ◌++◌, length, map, Option, Some, None, refl, ap, sym, ◌∙◌, subst, arith}
-use Rattle.plan_types.specs.declared.cause.Cause.{Cause}
-use Rattle.plan_types.specs.declared.levels.Level.{Level}
-use Rattle.plan_types.specs.declared.machine.Machine.{Machine}
-use Rattle.plan_types.specs.Clock.{board_tick, clock_of, turn_ns, run_turns}
-use Rattle.plan_types.specs.Lines.{Clocks, lines_tick}
-use Rattle.plan_types.specs.Machines.{IsValidMachine, board_at}
-use Rattle.plan_types.specs.Sections.{clocks_at}
-use Rattle.msg_code.specs.declared.talk.ShutNews.{ShutNews}
-use Rattle.msg_code.specs.declared.talk.State.{State}
-use Rattle.wire_scene.specs.declared.scene.Scene.{Scene}
-use Rattle.wire_scene.specs.declared.scene.Switch.{Switch}
-use Rattle.wire_scene.specs.declared.scene.Entry.{Entry}
-use Rattle.link_work.specs.Switches.{pins_of}
-use Rattle.trigger_group.specs.declared.seen.Fired.{Fired}
-use Rattle.trigger_group.specs.declared.order.Member.{Member}
-use Rattle.axis_homing.specs.declared.homing.Homing.{Homing}
-use Rattle.axis_homing.specs.Rising.{members_of}
-use Rattle.host_reactor.specs.declared.ordered.Phase.TheVariants.{Connecting, Stopping}
-use Rattle.host_reactor.specs.Notes.{noted}
-use Rattle.host_reactor.specs.Runs.{Came, GoesOn, HaveStates, known_by, state_at}
+use Rattle.laws_board.proofs.Names.{Cause, Level, Machine, board_tick, clock_of, turn_ns, Clocks, lines_tick, IsValidMachine, board_at, clocks_at, ShutNews, State, Scene, Switch, Entry, pins_of, Fired, Member, Homing, members_of, Connecting, Stopping, noted, Came, GoesOn, known_by, state_at, Told, MotionTurn, ReactorTurn, item, trigger_of, Rig, length-map}
+use Rattle.plan_types.specs.Clock.{run_turns}
+use Rattle.host_reactor.specs.Runs.{HaveStates}
 use Rattle.laws_board.specs.turns.Turns.{BoardTurn, latest_state}
 use Rattle.laws_board.specs.clocks.Runs.{IsInRun}
 use Rattle.laws_board.proofs.clocks.Lines.{run_before}
 use Rattle.motion_work.specs.Known.{lines_by}
-use Rattle.motion_work.specs.Told.{Told}
-use Rattle.session_work.specs.declared.table.MotionTurn.{MotionTurn}
-use Rattle.session_work.specs.declared.table.ReactorTurn.{ReactorTurn}
-use Rattle.session_work.specs.Rows.{item}
 use Rattle.session_run.specs.Boards.{came_from, came_in}
 use Rattle.laws_board.specs.causes.Short.{HaveShortDictionaries}
 use Rattle.laws_board.specs.plans.Lines.{TookNotes}
 use Rattle.laws_board.specs.plans.Planned.{Plans, put_of}
-use Rattle.board_asking.specs.Machine.{trigger_of}
-use Rattle.board_sim.specs.Rig.{Rig}
 use Rattle.laws_homing.specs.switch_runs.Reports.{WasReported}
 use Rattle.laws_homing.proofs.clear_boards.Clocking.{line_ahead}
 use Rattle.laws_homing.proofs.hindered.Told.{Told as Told_so, read_more, stands_late, told_switch, told_true, was_told}
@@ -58,7 +35,6 @@ use Rattle.laws_run.specs.home_wholes.Own.{AllSwitchesReadTrue}
 use Rattle.laws_run.specs.lanes.Boards.{IsInWhole, turns_behind}
 use Rattle.laws_run.specs.run_headline.Timely.{link_of}
 use Rattle.laws_run.proofs.home_headline.Ranges.{own_small}
-use Rattle.std.proofs.lemmas.List.{length-map}
 use Rattle.laws_run.proofs.clear_homes.Together as together
 use Rattle.laws_run.proofs.clear_homes.Boards as boards
 use Rattle.laws_run.proofs.clear_homes.Lines.{round_by}

@@ -1,36 +1,16 @@
 -- Each board of a whole run in which axes home, as the law of its lines asks for it.
 use Rattle.std.proofs.Common.{◌≡◌, ℕ, ◌+◌, ◌-◌, ◌*◌, ◌<◌, ◌≤◌, ◌⊎◌, List, [], ◌∷◌, ◌++◌, All, map, take, length, Some, refl, ap, sym, ◌∙◌, subst, arith, inl, inr, length-append}
-use Rattle.std.proofs.lemmas.List.Elements.{All-cons, All-nil}
-use Rattle.plan_types.specs.declared.clock.BoardClock.{BoardClock}
-use Rattle.plan_types.specs.declared.machine.Machine.{Machine}
-use Rattle.plan_types.specs.Clock.{board_tick, clock_of, turn_ns}
-use Rattle.plan_types.specs.Lines.{Clocks, lines_tick}
-use Rattle.plan_types.specs.Machines.{IsValidMachine, board_at, stepper_at}
-use Rattle.plan_types.specs.Sections.{clocks_at}
-use Rattle.msg_code.specs.declared.talk.State.{State}
-use Rattle.msg_code.specs.declared.talk.WordMsg.{WordMsg}
-use Rattle.wire_scene.specs.declared.scene.Scene.{Scene}
+use Rattle.laws_board.proofs.Names.{All-cons, All-nil, BoardClock, Machine, board_tick, clock_of, turn_ns, Clocks, lines_tick, IsValidMachine, board_at, stepper_at, clocks_at, State, WordMsg, Scene, AllKeepLimits, pins_of, LinkState, Orders, Came, parts_on, Started, Told, MotionTurn, ReactorTurn, gather, new_world}
 use Rattle.link_work.specs.Ends.{spoiled}
-use Rattle.link_work.specs.Limits.{AllKeepLimits}
-use Rattle.link_work.specs.Switches.{pins_of}
-use Rattle.link_work.specs.Turn.{LinkState, Orders}
-use Rattle.host_reactor.specs.Runs.{Came}
 use Rattle.laws_board.specs.turns.Turns.{AreBoardTurns, BoardTurn, stands_after}
 use Rattle.laws_board.specs.clocks.Runs.{IsInRun, UnitsFit, orders_in}
 use Rattle.laws_board.proofs.clocks.Lines.{as_long}
 use Rattle.laws_board.proofs.clocks.Orders.{order_length}
-use Rattle.motion_work.specs.Boards.{parts_on}
-use Rattle.motion_work.specs.Seen.{Started}
-use Rattle.motion_work.specs.Told.{Told}
-use Rattle.session_work.specs.declared.table.MotionTurn.{MotionTurn}
-use Rattle.session_work.specs.declared.table.ReactorTurn.{ReactorTurn}
 use Rattle.session_work.specs.Leads.{last_words}
-use Rattle.session_work.specs.Rows.{gather}
 use Rattle.session_run.specs.Boards.{AreReactorTurns, came_from, came_in}
 use Rattle.laws_board.specs.sections.Boards.{OnBoard}
 use Rattle.laws_board.specs.sections.Courses.{AllHeed}
 use Rattle.laws_board.specs.sections.Homes.{AreOut, AreSoon, HasUnits, IsHomeBoard, IsHomeRun, IsSplitIn, RunSection, SetsAny, lost_at}
-use Rattle.board_world.specs.World.{new_world}
 use Rattle.laws_board.specs.sections.Links.{AreTold, ends_of, steps_of, turns_told}
 use Rattle.laws_board.specs.sections.Timely.{AllTimely, ControlsKeep}
 use Rattle.laws_board.specs.sections.Parts.{AreTracked, MakesIn}

@@ -1,29 +1,17 @@
 -- In a scene without entries a board takes the set-up of each homing section in time, as a whole run goes.
 use Rattle.std.proofs.Common.{◌≡◌, ℕ, ◌+◌, ◌-◌, ◌<◌, ◌≤◌, List, [], ◌∷◌, ◌++◌, length, ap, sym, ◌∙◌, subst, arith, append_assoc, length-append}
-use Rattle.plan_types.specs.declared.levels.Level.{Level}
-use Rattle.plan_types.specs.declared.machine.Machine.{Machine}
-use Rattle.plan_types.specs.Clock.{clock_of}
-use Rattle.plan_types.specs.Machines.{board_at}
-use Rattle.wire_scene.specs.declared.scene.Entry.{Entry}
-use Rattle.link_work.specs.Limits.{AllKeepLimits}
-use Rattle.link_work.specs.Stands.{first_state}
-use Rattle.link_work.specs.Turn.{LinkState, Orders}
+use Rattle.laws_board.proofs.Names.{Level, Machine, clock_of, board_at, Entry, AllKeepLimits, first_state, LinkState, Orders, parts_on, Started, Release, MotionTurn, BoardSection}
 use Rattle.laws_board.specs.turns.Turns.{AreBoardTurns, BoardTurn}
 use Rattle.laws_board.specs.clocks.Runs.{orders_in}
 use Rattle.laws_board.proofs.clocks.Orders.{order_length}
-use Rattle.motion_work.specs.Boards.{parts_on}
-use Rattle.motion_work.specs.Seen.{Started}
-use Rattle.step_feed.specs.Pacing.{Release}
 use Rattle.laws_board.specs.sections.Runs.{AreSpilled, IsSpilled}
 use Rattle.laws_homing.specs.home_runs.Sections.{TakesSetUp}
 use Rattle.laws_homing.proofs.home_runs.Clear.{clear_set_up, first_turns}
 use Rattle.laws_homing.proofs.home_runs.Settled.{later_orders}
 use Rattle.laws_homing.proofs.home_runs.Windows.{begun}
 use Rattle.laws_board.specs.plans.Rows.{AreInARow}
-use Rattle.session_work.specs.declared.table.MotionTurn.{MotionTurn}
 use Rattle.laws_homing.specs.home_parts.Answers.{TakeSetUps}
 use Rattle.laws_run.specs.home_headline.Little.{SendsAllInTime, SendsNear}
-use Rattle.section_units.specs.Sections.{BoardSection}
 
 -- a set-up that was taken in time in some turns was so in more
 longer : (first : LinkState) (start : ℕ) (later turns : List BoardTurn) → TakesSetUp first start turns → TakesSetUp first start (later ++ turns)

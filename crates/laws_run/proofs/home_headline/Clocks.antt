@@ -1,44 +1,26 @@
 -- What the reactor knows of the clock lines in a whole run.
 use Rattle.std.proofs.Common.{◌≡◌, ℕ, suc, zero, ◌+◌, ◌*◌, ◌<◌, ◌≤◌, Bool, true, cond, List, [], ◌∷◌, ◌++◌, length, map, Option, Some, None, refl, ap, sym, ◌∙◌, subst, arith, inl, inr, append_assoc, append-nil, length-append}
 use Rattle.std.specs.Prelude.{set}
-use Rattle.std.proofs.lemmas.Bool.Decides.{eqb_tells, leb_tells}
-use Rattle.std.proofs.lemmas.List.{append_cancel_left, get_or-set_other, get_or-set_same, length-set}
-use Rattle.plan_types.specs.declared.machine.Machine.{Machine}
-use Rattle.plan_types.specs.declared.plan.Held.{Held}
-use Rattle.plan_types.specs.declared.plan.Line.{Line}
-use Rattle.plan_types.specs.Clock.{tick, turn_ns}
-use Rattle.plan_types.specs.Lines.{Clocks, lines_tick, one_line}
-use Rattle.plan_types.specs.Machines.{IsValidMachine}
-use Rattle.plan_types.specs.Sections.{clocks_at}
+use Rattle.laws_board.proofs.Names.{eqb_tells, leb_tells, append_cancel_left, get_or-set_same, Machine, Held, Line, tick, turn_ns, Clocks, lines_tick, one_line, IsValidMachine, clocks_at, Note, NoteNews, Scene, Switch, listen_all, ready_all, Known, Connecting, news_of, noted, known_behind, told_all, Reacted, Came, GoesOn, known_by, last_reacted, Started, Told, MotionTurn, ReactorTurn}
+use Rattle.std.proofs.lemmas.List.{get_or-set_other, length-set}
 use Rattle.clock_line.specs.Fits.{added_where, may_hold}
 use Rattle.clock_line.specs.Kept.{added}
-use Rattle.msg_code.specs.declared.talk.Note.{Note}
-use Rattle.msg_code.specs.declared.talk.NoteNews.{NoteNews}
 use Rattle.msg_code.specs.declared.talk.NoteNews.TheVariants as news
 use Rattle.msg_code.specs.declared.talk.WordNews.TheVariants as word
-use Rattle.wire_scene.specs.declared.scene.Scene.{Scene}
-use Rattle.wire_scene.specs.declared.scene.Switch.{Switch}
 use Rattle.board_asking.specs.Clocks.{added_at}
-use Rattle.board_asking.specs.Connecting.{board_lines, one_line_clocks, listen_all, ready_all}
-use Rattle.host_reactor.specs.declared.ordered.Known.{Known}
-use Rattle.host_reactor.specs.declared.ordered.Phase.TheVariants.{Connecting, Running}
-use Rattle.host_reactor.specs.Notes.{news_of, noted, known_behind, told_all}
-use Rattle.host_reactor.specs.Reactor.{Reacted, phase_after}
-use Rattle.host_reactor.specs.Runs.{Came, GoesOn, known_by, last_reacted}
+use Rattle.board_asking.specs.Connecting.{board_lines, one_line_clocks}
+use Rattle.host_reactor.specs.declared.ordered.Phase.TheVariants.{Running}
+use Rattle.host_reactor.specs.Reactor.{phase_after}
 use Rattle.laws_board.proofs.clocks.Lines.{noted_phase}
 use Rattle.laws_board.proofs.clocks.Turning.{goes}
 use Rattle.motion_work.specs.Further.{noted_line, noted_lines}
 use Rattle.motion_work.specs.Puts.{ArePut}
-use Rattle.motion_work.specs.Seen.{Started}
-use Rattle.motion_work.specs.Told.{Told}
-use Rattle.session_work.specs.declared.table.MotionTurn.{MotionTurn}
-use Rattle.session_work.specs.declared.table.ReactorTurn.{ReactorTurn}
 use Rattle.session_run.specs.Boards.{AreReactorTurns, came_from, came_in}
 use Rattle.laws_board.specs.plans.Lines.{TookEach, TookNotes}
 use Rattle.laws_board.specs.plans.Planned.{Plans, put_of, puts_of}
 use Rattle.laws_run.specs.run_headline.Timely.{AreSound, EachMayHold}
 use Rattle.laws_run.proofs.run_headline.Boarded.{Ready}
-use Rattle.laws_run.proofs.run_headline.Further.{EachHeld, none_asked, noted_append, noted_first, noted_grown, noted_long, told_more}
+use Rattle.laws_run.proofs.run_headline.Further.{EachHeld, none_asked, noted_first, noted_grown, noted_long, told_more}
 use Rattle.laws_run.proofs.run_headline.Facts.{came_long, turns_cut}
 use Rattle.laws_run.proofs.run_headline.Words.{Connected, line_is, news_in}
 use Rattle.laws_homing.specs.home_parts.Answers.{ArePastConnecting}
@@ -46,6 +28,9 @@ use Rattle.laws_homing.specs.home_parts.Known.{KnowsLately}
 use Rattle.motion_work.specs.Known.{lines_by}
 use Rattle.laws_run.proofs.home_headline.Noted.{IsNotedIn, WereNoted, all_in, each_more, lines_cut, noted_next, put_in}
 use Rattle.laws_run.proofs.home_headline.Planned.{all_on}
+use Rattle.host_reactor.proofs.Connects.{stop-phase}
+use Rattle.laws_run.proofs.run_ends.Connecting.{was_connecting}
+use Rattle.motion_stream.proofs.Uptaking.{noted_both}
 
 -- each further line that some news tell may hold behind those that its board has by then, where the board is there
 abbrev pub MayNote : List NoteNews → List Clocks → Type 0
@@ -152,11 +137,6 @@ first_follows ns firsts all is alone may = λ b low.
     let none : (clocks_at last b).held ≡ (clocks_at firsts b).held ++ (clocks_at last b).held = ap (λ (c : Clocks). c.held ++ (clocks_at last b).held) (sym one.1) in
     ((clocks_at last b).held, none, subst (λ (c : Clocks). EachMayHold c (clocks_at last b).held) (sym one.1) own)
 
--- behind connecting
-phase_not : (stop : Option ℕ) → phase_after stop ≡ Connecting → ⊥
-phase_not None e = cc
-phase_not (Some line) e = cc
-
 record IsOn (m : Machine) (switches : List Switch) (clocks : List Clocks) (came : List Came) : Type 0 where
   past : (known_by m switches came).phase ≡ Connecting → ⊥
   clocks_are : (known_by m switches came).clocks ≡ clocks
@@ -172,22 +152,9 @@ on_next m switches clocks c before g may on =
       | inr later ↦ elim later [
         | inl a ↦ absurd (on.past (sym phase ∙ a.phase))
         | inr a ↦ record {
-          past = λ e. phase_not a.stop (sym (ap (λ (y : Reacted). y.known.phase) a.is) ∙ e);
+          past = λ e. stop-phase a.stop (sym (ap (λ (y : Reacted). y.known.phase) a.is) ∙ e);
           clocks_are = ap (λ (y : Reacted). y.known.clocks) a.is ∙ noted_clocks m c.note r clocks on.clocks_are may;
         }
-      ]
-    ]
-
--- where the boards connect behind a turn, they do before it
-phase_before : (m : Machine) (switches : List Switch) (c : Came) (before : List Came) → (last_reacted m switches c before).ordered.end ≡ None → (known_by m switches (c ∷ before)).phase ≡ Connecting → (known_by m switches before).phase ≡ Connecting
-phase_before m switches c before g e =
-    let r = known_by m switches before in
-    let phase = noted_phase m c.note r in
-    elim (goes m switches r (length before) c.states c.note g) [
-      | inl a ↦ sym phase ∙ a.phase
-      | inr later ↦ elim later [
-        | inl a ↦ sym phase ∙ a.phase
-        | inr a ↦ absurd (phase_not a.stop (sym (ap (λ (y : Reacted). y.known.phase) a.is) ∙ e))
       ]
     ]
 
@@ -199,7 +166,7 @@ module _ (m : Machine) (switches : List Switch) (text : List ℕ) (begun : List 
   none_yet : (c : Came) (before : List Came) → length before ≤ ready → GoesOn m switches before → (known_by m switches before).phase ≡ Connecting → Knows (c ∷ before)
   none_yet c [] low g phase = (((λ past. absurd (past phase)), tt), ((λ far. absurd (omega (arith, far, low))), tt))
   none_yet c (d ∷ past) low g phase =
-      let r = none_yet d past (omega (arith, low)) g.1 (phase_before m switches d past g.0 phase) in
+      let r = none_yet d past (omega (arith, low)) g.1 (was_connecting m switches d past g.0 phase) in
       (((λ on. absurd (on phase)), r.0), ((λ far. absurd (omega (arith, far, low))), r.1))
 
   -- The lines that were told hold by 276 turns behind a turn, and those that later notes tell hold later.
@@ -215,7 +182,7 @@ module _ (m : Machine) (switches : List Switch) (text : List ℕ) (begun : List 
       let told = noted_next k d.note.news clocks (put_in m text begun k (put_of d) put.0) were in
       let early = λ (b : ℕ) (low : b < length next). each_more (λ line from. IsNotedIn 0 (k + 1) from) Old (clocks_at next b).held (λ line from x. (let by_now = x.2 in let from_is = x.3 in omega (arith, from_is, by_now, at))) (told b low) in
       let late = told_more (λ board line from. IsNotedIn (k + 1) (k + 1 + length ms) from) New (news_in ms) (λ board line from x. (let far = x.1 in let from_is = x.3 in omega (arith, from_is, far, at))) (all_in m text begun (k + 1) ms put.1) in
-      now ∙ lines_cut (length before + 276) (news_in ms) next early late ∙ ap (map (lines_by (length before + 276))) (sym (is ∙ noted_append d.note.news (news_in ms) clocks))
+      now ∙ lines_cut (length before + 276) (news_in ms) next early late ∙ ap (map (lines_by (length before + 276))) (sym (is ∙ noted_both d.note.news (news_in ms) clocks))
 
   -- the lines behind a turn
   one_on : (before : List Came) (r : ReactorTurn) (d : MotionTurn) (ms : List MotionTurn) (clocks : List Clocks) → r.note ≡ Some d.note → (last_reacted m switches (came_in r) before).ordered.end ≡ None → MayNote (news_in (d ∷ ms)) clocks → IsOn m switches clocks before
@@ -230,7 +197,7 @@ module _ (m : Machine) (switches : List Switch) (text : List ℕ) (begun : List 
   on_from k before [] ms clocks at turns took put may is on were knows = knows
   on_from k before (r ∷ rs) [] clocks at turns took put may is on were knows = absurd took
   on_from k before (r ∷ rs) (d ∷ ms) clocks at turns took put may is on were knows =
-      on_from (k + 1) (came_in r ∷ before) rs ms (noted_lines d.note.news clocks) (omega (arith, at)) turns.1 took.1 put.1 (may_both d.note.news (news_in ms) clocks may).1 (is ∙ noted_append d.note.news (news_in ms) clocks)
+      on_from (k + 1) (came_in r ∷ before) rs ms (noted_lines d.note.news clocks) (omega (arith, at)) turns.1 took.1 put.1 (may_both d.note.news (news_in ms) clocks may).1 (is ∙ noted_both d.note.news (news_in ms) clocks)
       (one_on before r d ms clocks took.0 turns.0.goes_on may on) (noted_next k d.note.news clocks (put_in m text begun k (put_of d) put.0) were)
       (((λ past. one_knows k before r d ms clocks at took.0 put may is on were), knows.0), ((λ far. on.past), knows.1))
 
@@ -242,7 +209,7 @@ module _ (m : Machine) (switches : List Switch) (text : List ℕ) (begun : List 
   end_from k before [] end (d ∷ ms) clocks at turns took put may is on were = (on.past, one_knows k before end d ms clocks at took.0 put may is on were)
   end_from k before (r ∷ rs) end [] clocks at turns took put may is on were = absurd took
   end_from k before (r ∷ rs) end (d ∷ ms) clocks at turns took put may is on were =
-      end_from (k + 1) (came_in r ∷ before) rs end ms (noted_lines d.note.news clocks) (omega (arith, at)) turns.1 took.1 put.1 (may_both d.note.news (news_in ms) clocks may).1 (is ∙ noted_append d.note.news (news_in ms) clocks)
+      end_from (k + 1) (came_in r ∷ before) rs end ms (noted_lines d.note.news clocks) (omega (arith, at)) turns.1 took.1 put.1 (may_both d.note.news (news_in ms) clocks may).1 (is ∙ noted_both d.note.news (news_in ms) clocks)
       (one_on before r d ms clocks took.0 turns.0.goes_on may on) (noted_next k d.note.news clocks (put_in m text begun k (put_of d) put.0) were)
 
 lines_clocks : (ls : List Line) → one_line_clocks ls ≡ map one_line ls

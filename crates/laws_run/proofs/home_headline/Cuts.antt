@@ -1,60 +1,34 @@
 -- A line that tells of a switch stands in the turn whose word tells of the answer.
 use Rattle.std.proofs.Common.{◌≡◌, ℕ, ◌⊎◌, Bool, true, false, cond, List, [], ◌∷◌, ◌++◌, length, map, Option, Some, None, refl, ap, sym, ◌∙◌, subst, inl, inr, append-nil}
 use Rattle.std.specs.Prelude.{nat_le}
-use Rattle.std.proofs.lemmas.Grind.{flat_map-append}
-use Rattle.plan_types.specs.declared.cause.Cause.{Cause}
-use Rattle.plan_types.specs.declared.machine.Machine.{Machine}
-use Rattle.plan_types.specs.declared.plan.ReadStop.{ReadStop}
+use Rattle.laws_board.proofs.Names.{flat_map-append, Cause, Machine, ReadStop, Clocks, axis_at, Note, State, ReportLine, Switch, Member, Fired, Seen, all_fired, Homing, HomingTurn, answer_in, by_answer, hears_all, homing_turn, members_of, Asking, all_connected, giving_up, listen_all, ready_all, stale, Known, Phase, Connecting, Stopping, is_out, news_of, noted, Reacted, by_phase, cut_line, reacts, unless_ended, unless_stale, first_lines, first_cause, stop_of, Came, GoesOn, known_by, last_reacted, Started, ReactorTurn, Scene, Run, states-kept, both_parts}
 use Rattle.plan_types.specs.declared.plan.ReadStop.TheVariants as read
-use Rattle.plan_types.specs.Lines.{Clocks}
-use Rattle.plan_types.specs.Machines.{axis_at}
-use Rattle.msg_code.specs.declared.talk.Note.{Note}
-use Rattle.msg_code.specs.declared.talk.State.{State}
-use Rattle.report_text.specs.declared.line.ReportLine.{ReportLine}
 use Rattle.report_text.specs.declared.line.ReportLine.TheVariants as report
-use Rattle.wire_scene.specs.declared.scene.Switch.{Switch}
 use Rattle.trigger_group.specs.declared.order.End.TheVariants.{Endstop}
-use Rattle.trigger_group.specs.declared.order.Member.{Member}
-use Rattle.trigger_group.specs.declared.seen.Fired.{Fired}
-use Rattle.trigger_group.specs.declared.seen.Seen.{Seen}
-use Rattle.trigger_group.specs.Group.{all_fired, expired, first_expired, has_fired}
-use Rattle.axis_homing.specs.declared.homing.Homing.{Homing}
-use Rattle.axis_homing.specs.declared.homing.HomingTurn.{HomingTurn}
-use Rattle.axis_homing.specs.Homing.{answer_in, by_answer, hears_all, homing_turn}
-use Rattle.axis_homing.specs.Rising.{members_of}
-use Rattle.board_asking.specs.declared.asking.Asking.{Asking}
-use Rattle.board_asking.specs.Connecting.{all_connected, board_lines, connected_lines, giving_up, listen_all, ready_all}
-use Rattle.board_asking.specs.Drift.{new_lines, stale}
-use Rattle.host_reactor.specs.declared.ordered.Known.{Known}
-use Rattle.host_reactor.specs.declared.ordered.Phase.{Phase}
-use Rattle.host_reactor.specs.declared.ordered.Phase.TheVariants.{Connecting, Running, Stopping}
-use Rattle.host_reactor.specs.Notes.{is_out, news_of, noted}
-use Rattle.host_reactor.specs.Reactor.{Reacted, after_homing, asks_boards, by_phase, carries_on, cut_line, finishes, homed, is_connected_now, reacts, unless_ended, unless_given_up, unless_homing_ends, unless_late_stale, unless_stale}
-use Rattle.host_reactor.specs.Report.{first_lines}
-use Rattle.host_reactor.specs.Running.{first_cause, is_finished, stop_of}
-use Rattle.host_reactor.specs.Runs.{Came, GoesOn, known_by, last_reacted}
+use Rattle.trigger_group.specs.Group.{expired, first_expired, has_fired}
+use Rattle.board_asking.specs.Connecting.{board_lines, connected_lines}
+use Rattle.board_asking.specs.Drift.{new_lines}
+use Rattle.host_reactor.specs.declared.ordered.Phase.TheVariants.{Running}
+use Rattle.host_reactor.specs.Reactor.{after_homing, asks_boards, carries_on, finishes, homed, is_connected_now, unless_given_up, unless_homing_ends, unless_late_stale}
+use Rattle.host_reactor.specs.Running.{is_finished}
 use Rattle.laws_run.specs.run_headline.Told.{AreTold}
 use Rattle.laws_run.proofs.run_headline.Telling.{boards_told, first_told}
 use Rattle.laws_homing.specs.home_runs.Words.{TellsHomed}
 use Rattle.laws_homing.proofs.home_runs.Knowing.{lines_none, switch_answer}
-use Rattle.motion_work.specs.Seen.{Started}
 use Rattle.laws_homing.specs.home_plans.Notes.{CameNotes, WasBegun}
 use Rattle.laws_homing.proofs.home_plans.Knowing.{now_was}
-use Rattle.session_work.specs.declared.table.ReactorTurn.{ReactorTurn}
 use Rattle.io_core.specs.declared.traits.Files.{Ghosts as Files}
 use Rattle.io_core.specs.declared.traits.Sink.{Ghosts as Sink}
-use Rattle.wire_scene.specs.declared.scene.Scene.{Scene}
 use Rattle.session_lanes.specs.declared.near.Told as near
 use Rattle.session_run.specs.declared.tell.Kept.{Kept}
 use Rattle.session_run.specs.Boards.{AreReactorTurns, came_in}
 use Rattle.session_run.specs.Runs.{RunsOver}
-use Rattle.host_reactor.specs.Reactor.{Run}
 use Rattle.laws_run.proofs.run_headline.Making.{run_turns}
 use Rattle.laws_homing.specs.switch_runs.Reports.{WasReported}
 use Rattle.laws_homing.proofs.clear_boards.Keeping.{hears_keep}
-use Rattle.laws_homing.proofs.home_runs.Grouped.{answered, members_states}
+use Rattle.laws_homing.proofs.home_runs.Grouped.{answered}
 use Rattle.laws_homing.proofs.fired_runs.Reported.{Each, all_told, answer_told, closed_unexpired}
-use Rattle.laws_homing.proofs.missed_groups.Answering.{both_parts, else_none, fired_some, none_expired}
+use Rattle.laws_homing.proofs.missed_groups.Answering.{else_none, fired_some, none_expired}
 use Rattle.laws_run.specs.clear_homes.First.{NoneExpired}
 use Rattle.laws_run.specs.home_headline.Cuts.{TellAnswers, TellsAnswer, TellsCut, TellsNoAnswer, cut_in, cuts_of}
 
@@ -258,7 +232,7 @@ closed_told m switches c before h tick goes known answers =
     let none = all_unexpired W (axis_at m h.axis).board g.last g.members (all_told m switches c before h goes known) (answered (nat_le h.start (length before)) g (Endstop tick) answers) (closed_unexpired (length before) h.start g tick answers) in
     let Out : List Member → Type 0 = λ ms. NoneExpired W g.last ms in
     let At : ℕ → Type 0 = λ k. NoneExpired W k (members_of h.group) in
-    subst At (hears_keep n.clocks c.states h).last (subst Out (members_states n.clocks 0 h.start c.states h.group) none)
+    subst At (hears_keep n.clocks c.states h).last (subst Out (states-kept n.clocks 0 h.start c.states h.group) none)
 
 -- a turn whose word tells of an answer
 abbrev pub tells_answer : (m : Machine) (switches : List Switch) (c : Came) (before : List Came) (lines : List ReportLine) → GoesOn m switches before → TellsCut m switches c before → lines ≡ (last_reacted m switches c before).ordered.lines

@@ -1,14 +1,6 @@
 -- The line that tells of a switch stands in the turn in which a homing section ends.
 use Rattle.std.proofs.Common.{◌≡◌, ℕ, suc, ◌+◌, ◌<◌, ◌≤◌, ◌⊎◌, List, [], ◌∷◌, ◌++◌, length, Some, refl, ap, sym, ◌∙◌, subst, arith, inl, inr, length-append}
-use Rattle.plan_types.specs.declared.machine.Machine.{Machine}
-use Rattle.plan_types.specs.declared.plan.SectionKind.TheVariants.{Home}
-use Rattle.plan_types.specs.Machines.{axis_at}
-use Rattle.wire_scene.specs.declared.scene.Switch.{Switch}
-use Rattle.axis_homing.specs.declared.homing.Homing.{Homing}
-use Rattle.host_reactor.specs.Reactor.{cut_line}
-use Rattle.host_reactor.specs.Runs.{Came, GoesOn, last_reacted}
-use Rattle.motion_work.specs.Seen.{Started}
-use Rattle.session_work.specs.declared.table.MotionTurn.{MotionTurn}
+use Rattle.laws_board.proofs.Names.{Machine, Home, axis_at, Switch, Homing, cut_line, Came, GoesOn, last_reacted, Started, MotionTurn}
 use Rattle.laws_board.specs.plans.Planned.{Plans}
 use Rattle.laws_homing.specs.home_plans.Notes.{CameNotes, WasBegun}
 use Rattle.laws_board.specs.plans.Rows.{AreInARow}
@@ -19,6 +11,7 @@ use Rattle.laws_homing.proofs.home_parts.Known.{known_silent, none_tells, tells_
 use Rattle.laws_homing.proofs.home_parts.Told.{tells_now, tells_tail}
 use Rattle.laws_run.specs.home_headline.Cuts.{TellsCut, cuts_of}
 use Rattle.laws_run.proofs.home_headline.Cuts.{told_cut, told_section}
+use Rattle.laws_homing.proofs.fired_runs.Heard.{some_same}
 
 -- two cuts of some sections
 pub cut_same : (xs : List Started) (x : Started) (ys xs' : List Started) (x' : Started) (ys' : List Started) → xs ++ x ∷ ys ≡ xs' ++ x' ∷ ys' → (length xs ≡ length xs') × (x ≡ x') ⊎ (Among x' xs ⊎ Among x' ys)
@@ -40,11 +33,8 @@ pub notes_behind : (begun : List Started) (xs ys : List Came) → CameNotes begu
 notes_behind begun [] ys n = n
 notes_behind begun (x ∷ xs) ys n = notes_behind begun xs ys n.1
 
-home_is : (a b : ℕ) → Home a ≡ Home b → a ≡ b
+pub home_is : (a b : ℕ) → Home a ≡ Home b → a ≡ b
 home_is a b e = cc
-
-pub some_same : (a b : Homing) → Some a ≡ Some b → a ≡ b
-some_same a b e = cc
 
 -- In a turn it is told that a homing section ended: the section is known, by its number, its axis and its start, and the turn's line of a switch is its.
 pub record TellsEnd (m : Machine) (switches : List Switch) (number axis : ℕ) (s : Started) (c : Came) (before : List Came) : Type 0 where

@@ -1,25 +1,13 @@
 -- Why the lines of a whole run in which axes home follow the plans of its sections.
 use Rattle.std.proofs.Common.{◌≡◌, inr, ℕ, ◌<◌, List, [], ◌∷◌, ◌++◌, length, Some, length-append, refl, subst, arith}
-use Rattle.std.proofs.Math.Logic.{∥∥₁_map}
-use Rattle.plan_types.specs.declared.cause.Cause.{Cause}
+use Rattle.laws_board.proofs.Names.{∥∥₁_map, Cause, Machine, clock_of, IsValidMachine, board_at, stepper_at, clocks_at, Scene, Run, Started, Told, MotionTurn, ReactorTurn, pins_of}
 use Rattle.plan_types.specs.declared.cause.Cause.TheVariants as cause
-use Rattle.plan_types.specs.declared.machine.Machine.{Machine}
-use Rattle.plan_types.specs.Clock.{clock_of}
-use Rattle.plan_types.specs.Machines.{IsValidMachine, board_at, stepper_at}
-use Rattle.plan_types.specs.Sections.{clocks_at}
 use Rattle.io_core.specs.declared.traits.Files.{Ghosts as Files}
 use Rattle.io_core.specs.declared.traits.Sink.{Ghosts as Sink}
-use Rattle.wire_scene.specs.declared.scene.Scene.{Scene}
-use Rattle.host_reactor.specs.Reactor.{Run}
-use Rattle.motion_work.specs.Seen.{Started}
-use Rattle.motion_work.specs.Told.{Told}
 use Rattle.session_lanes.specs.declared.near.Told as near
-use Rattle.session_work.specs.declared.table.MotionTurn.{MotionTurn}
-use Rattle.session_work.specs.declared.table.ReactorTurn.{ReactorTurn}
 use Rattle.session_run.specs.declared.tell.Kept.{Kept}
 use Rattle.session_run.specs.Boards.{came_from}
 use Rattle.session_run.specs.Runs.{RunsOver}
-use Rattle.link_work.specs.Switches.{pins_of}
 use Rattle.laws_board.specs.sections.Homes.{AreOut}
 use Rattle.laws_board.specs.plans.Homed.{runs_on}
 use Rattle.laws_run.specs.lanes.Boards.{IsInWhole, turns_behind}

@@ -1,14 +1,7 @@
 -- A board of a run in which axes home keeps what the laws of a run ask for, so it may shut down for two reasons alone.
 use Rattle.std.proofs.Common.{◌≡◌, ℕ, ◌+◌, ◌≤◌, List, [], ◌∷◌, length, map, ap, sym, ◌∙◌, subst, arith}
-use Rattle.plan_types.specs.declared.clock.BoardClock.{BoardClock}
-use Rattle.plan_types.specs.declared.plan.BoardState.TheVariants.{Shut}
-use Rattle.plan_types.specs.Clock.{clock_of}
+use Rattle.laws_board.proofs.Names.{BoardClock, Shut, clock_of, Entry, Core, run_world, new_world, AreTurns, first_state, LinkState, Orders}
 use Rattle.board_sim.specs.Board.{timer_too_close}
-use Rattle.wire_scene.specs.declared.scene.Entry.{Entry}
-use Rattle.board_world.specs.World.{Core, run_world, new_world}
-use Rattle.link_work.specs.Runs.{AreTurns}
-use Rattle.link_work.specs.Stands.{first_state}
-use Rattle.link_work.specs.Turn.{LinkState, Orders}
 use Rattle.laws_board.specs.sections.Boards.{OnBoard}
 use Rattle.laws_board.specs.sections.Courses.{IsGoodRun}
 use Rattle.laws_board.specs.sections.Ends.{MayBe}
@@ -19,7 +12,7 @@ use Rattle.laws_board.proofs.sections.Halted.{reason_is}
 use Rattle.laws_board.proofs.sections.Seeking.{late_unit}
 use Rattle.laws_board.proofs.sections.Linking.{own_first, turns_are, turns_owned}
 use Rattle.laws_board.proofs.sections.HomeBoards.{settled_head, settled_owned}
-use Rattle.laws_homing.proofs.home_runs.Along.{one_end}
+use Rattle.link_work.proofs.Shut.{one_turn}
 
 -- a board of such a run
 pub board_good : (place : ℕ) (entries : List Entry) (ready turns : ℕ) (ss : List RunSection) (x : OnBoard) (k : IsHomeBoard place entries ready turns ss x)
@@ -64,7 +57,7 @@ board_may place entries ready turns ss x k =
 pub same_end : (clock : BoardClock) (turn : ℕ) (os : List Orders) (l m n : LinkState) → AreTurns clock turn os l m → AreTurns clock turn os l n → m ≡ n
 same_end clock turn [] l m n s t = s ∙ sym t
 same_end clock turn (o ∷ os) l m n s t =
-    let one : t.0 ≡ s.0 = one_end clock turn o l t.0 s.0 t.1 s.1 in
+    let one : t.0 ≡ s.0 = one_turn clock turn o l t.0 s.0 t.1 s.1 in
     let More : LinkState → Type 0 = λ z. AreTurns clock (turn + 1) os z n in
     same_end clock (turn + 1) os s.0 m n s.2 (subst More one t.2)
 

@@ -1,11 +1,6 @@
 -- Which lines stand in the report of a whole run in which axes home.
 use Rattle.std.proofs.Common.{◌≡◌, ◌≢◌, ℕ, ◌+◌, List, [], ◌∷◌, ◌++◌}
-use Rattle.plan_types.specs.declared.cause.Cause.{Cause}
-use Rattle.plan_types.specs.declared.machine.Machine.{Machine}
-use Rattle.plan_types.specs.Lines.{Clocks}
-use Rattle.report_text.specs.declared.line.ReportLine.{ReportLine}
-use Rattle.session_work.specs.declared.table.ReactorTurn.{ReactorTurn}
-use Rattle.session_work.specs.Rows.{gather}
+use Rattle.laws_board.proofs.Names.{Cause, Machine, Clocks, ReportLine, ReactorTurn, gather}
 use Rattle.laws_board.specs.plans.Lines.{heads_of}
 use Rattle.laws_board.specs.plans.Planned.{PlannerInput}
 use Rattle.laws_run.specs.run_headline.Further.{TellFurther}

@@ -1,37 +1,18 @@
 -- The steppers of a board that are used in a run in which axes home are the board's.
 use Rattle.std.proofs.Common.{◌≡◌, ◌≢◌, ℕ, suc, ◌+◌, ◌<◌, ◌≤◌, ◌⊎◌, false, List, [], ◌∷◌, ◌++◌, All, length, take, Option, Some, None, refl, ap, sym, ◌∙◌, subst, arith, inl, inr}
-use Rattle.std.proofs.lemmas.Bool.Decides.{leb_tells}
-use Rattle.std.proofs.lemmas.List.Elements.{All-head, All-tail}
-use Rattle.plan_types.specs.declared.levels.Level.{Level}
-use Rattle.plan_types.specs.declared.machine.Machine.{Machine}
-use Rattle.plan_types.specs.declared.plan.SectionKind.{SectionKind}
-use Rattle.plan_types.specs.declared.plan.SectionKind.TheVariants.{Home, Moves}
-use Rattle.plan_types.specs.Lines.{Clocks}
-use Rattle.plan_types.specs.Machines.{IsValidMachine, board_at, stepper_at}
-use Rattle.plan_types.specs.Sections.{clocks_at, section_plans}
-use Rattle.msg_code.specs.declared.cmd.Cmd.{Cmd}
+use Rattle.laws_board.proofs.Names.{leb_tells, All-head, All-tail, Level, Machine, SectionKind, Home, Moves, Clocks, IsValidMachine, board_at, stepper_at, clocks_at, Cmd, Entry, Switch, orders, Orders, Homing, members_of, Connecting, noted, Came, known_by, units_of, of_stepper, AreStarted, Started}
+use Rattle.plan_types.specs.Sections.{section_plans}
 use Rattle.msg_code.specs.declared.cmd.Cmd.TheVariants as cmd
-use Rattle.wire_scene.specs.declared.scene.Entry.{Entry}
-use Rattle.wire_scene.specs.declared.scene.Switch.{Switch}
-use Rattle.link_work.specs.Stands.{orders}
-use Rattle.link_work.specs.Turn.{Orders}
-use Rattle.axis_homing.specs.declared.homing.Homing.{Homing}
-use Rattle.axis_homing.specs.Rising.{members_of}
-use Rattle.host_reactor.specs.declared.ordered.Phase.TheVariants.{Connecting}
-use Rattle.host_reactor.specs.Notes.{noted}
-use Rattle.host_reactor.specs.Runs.{Came, known_by}
 use Rattle.laws_board.specs.turns.Turns.{BoardTurn}
 use Rattle.laws_board.specs.clocks.Ordered.{MayOrder, SetsClocks}
 use Rattle.laws_board.specs.clocks.Runs.{IsInRun, orders_in}
 use Rattle.laws_board.proofs.clocks.Lines.{as_long, run_before}
 use Rattle.laws_board.proofs.clocks.Ordering.{may_order}
-use Rattle.step_feed.specs.Pacing.{units_of}
-use Rattle.section_units.specs.Sections.{of_stepper}
 use Rattle.section_units.specs.Plans.{plans_on}
 use Rattle.section_units.proofs.Fronting.{of_front}
 use Rattle.laws_board.specs.sections.Homes.{HasUnits, IsControlIn, IsSetting, RunSection, SomeSets, SetsAny, SetsClock}
 use Rattle.motion_work.specs.Homes.{before_turn}
-use Rattle.motion_work.specs.Seen.{AreStarted, IsMoved, IsPlanned, Started, part_on}
+use Rattle.motion_work.specs.Seen.{IsMoved, IsPlanned, part_on}
 use Rattle.motion_work.proofs.Boardwise.{moved_is}
 use Rattle.motion_work.proofs.Sending.{cut_front}
 use Rattle.laws_board.proofs.plans.Placing.{count_is, count_on}

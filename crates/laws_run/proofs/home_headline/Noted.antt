@@ -1,20 +1,10 @@
 -- The further lines that notes tell, with the turns from which on they hold.
 use Rattle.std.proofs.Common.{◌≡◌, ℕ, suc, zero, ◌+◌, ◌*◌, ◌<◌, ◌≤◌, List, [], ◌∷◌, ◌++◌, length, map, refl, ap, sym, ◌∙◌, subst, arith, inl, inr, append-nil}
-use Rattle.std.proofs.lemmas.Bool.Decides.{leb_tells}
-use Rattle.std.proofs.lemmas.List.{length-map}
-use Rattle.plan_types.specs.declared.machine.Machine.{Machine}
-use Rattle.plan_types.specs.declared.plan.Held.{Held}
-use Rattle.plan_types.specs.declared.plan.Line.{Line}
-use Rattle.plan_types.specs.Clock.{turn_ns}
-use Rattle.plan_types.specs.Lines.{Clocks}
-use Rattle.plan_types.specs.Sections.{clocks_at}
-use Rattle.msg_code.specs.declared.talk.NoteNews.{NoteNews}
+use Rattle.laws_board.proofs.Names.{leb_tells, length-map, Machine, Held, Line, turn_ns, Clocks, clocks_at, NoteNews, Started, MotionTurn}
 use Rattle.msg_code.specs.declared.talk.NoteNews.TheVariants as news
 use Rattle.motion_work.specs.Further.{AreFurther, noted_lines}
 use Rattle.motion_work.specs.Puts.{ArePut, IsPut, Put, begun_notes}
-use Rattle.motion_work.specs.Seen.{Started}
 use Rattle.motion_work.specs.Turns.{done_notes}
-use Rattle.session_work.specs.declared.table.MotionTurn.{MotionTurn}
 use Rattle.laws_board.specs.plans.Planned.{put_of, puts_of}
 use Rattle.laws_run.proofs.run_headline.Further.{EachHeld, EachTold, noted_grown, noted_long, told_both, told_more}
 use Rattle.laws_run.proofs.run_headline.Noting.{none_begun, none_done, none_read}

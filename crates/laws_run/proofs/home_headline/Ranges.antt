@@ -1,19 +1,10 @@
 -- The ticks at which sections start are in range, and the groups of those that home may be formed.
 use Rattle.std.proofs.Common.{◌≡◌, ℕ, zero, suc, ◌+◌, ◌*◌, ◌^◌, ◌<◌, ◌≤◌, ℤ, true, List, [], ◌∷◌, All, length, map, Some, refl, ◌∙◌, subst, arith, inl, inr}
-use Rattle.std.proofs.lemmas.Bool.Decides.{leb_tells}
-use Rattle.std.proofs.lemmas.List.Elements.{All-head, All-tail}
-use Rattle.plan_types.specs.declared.machine.BoardDef.{BoardDef}
-use Rattle.plan_types.specs.declared.machine.Machine.{Machine}
-use Rattle.plan_types.specs.Clock.{board_tick, clock_of, own_tick}
-use Rattle.plan_types.specs.Lines.{Clocks}
-use Rattle.plan_types.specs.Machines.{IsValidBoard, IsValidMachine, axis_at, board_at}
-use Rattle.trigger_group.specs.declared.seen.Seen.{Seen}
-use Rattle.trigger_group.specs.Group.{unseen}
+use Rattle.laws_board.proofs.Names.{leb_tells, All-head, All-tail, BoardDef, Machine, board_tick, clock_of, Clocks, IsValidMachine, axis_at, board_at, Seen, unseen, members_from, AreStarted, Started, Told, MotionTurn}
+use Rattle.plan_types.specs.Clock.{own_tick}
+use Rattle.plan_types.specs.Machines.{IsValidBoard}
 use Rattle.trigger_group.specs.Kept.{may_be, movers}
-use Rattle.axis_homing.specs.Homing.{members_from}
-use Rattle.motion_work.specs.Seen.{AreStarted, IsHomed, Started}
-use Rattle.motion_work.specs.Told.{Told}
-use Rattle.session_work.specs.declared.table.MotionTurn.{MotionTurn}
+use Rattle.motion_work.specs.Seen.{IsHomed}
 use Rattle.laws_board.specs.sections.Events.{AreOwn}
 use Rattle.laws_board.specs.sections.Parts.{AreTracked}
 use Rattle.laws_board.proofs.sections.Linking.{own_ticks}

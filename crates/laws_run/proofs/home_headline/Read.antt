@@ -1,23 +1,11 @@
 -- What the boards' states tell of their triggers, in the turns of a run before its last one.
 use Rattle.std.proofs.Common.{◌≡◌, ℕ, ◌<◌, List, [], ◌∷◌, ◌++◌, length, Option, refl, ap, sym, ◌∙◌, subst, arith, inl, inr}
-use Rattle.plan_types.specs.declared.levels.Level.{Level}
-use Rattle.plan_types.specs.declared.machine.Machine.{Machine}
-use Rattle.plan_types.specs.Machines.{board_at}
+use Rattle.laws_board.proofs.Names.{Level, Machine, board_at, Note, State, Entry, Scene, Switch, pins_of, Run, Came, ReactorTurn, item}
 use Rattle.io_core.specs.declared.traits.Files.{Ghosts as Files}
 use Rattle.io_core.specs.declared.traits.Sink.{Ghosts as Sink}
-use Rattle.msg_code.specs.declared.talk.Note.{Note}
-use Rattle.msg_code.specs.declared.talk.State.{State}
-use Rattle.wire_scene.specs.declared.scene.Entry.{Entry}
-use Rattle.wire_scene.specs.declared.scene.Scene.{Scene}
-use Rattle.wire_scene.specs.declared.scene.Switch.{Switch}
-use Rattle.link_work.specs.Switches.{pins_of}
-use Rattle.host_reactor.specs.Reactor.{Run}
-use Rattle.host_reactor.specs.Runs.{Came}
 use Rattle.laws_board.specs.turns.Turns.{BoardTurn, latest_state}
 use Rattle.session_lanes.specs.declared.near.Told.{Told}
-use Rattle.session_work.specs.declared.table.ReactorTurn.{ReactorTurn}
 use Rattle.session_work.specs.Heads.{IsRow}
-use Rattle.session_work.specs.Rows.{item}
 use Rattle.session_run.specs.declared.tell.Kept.{Kept}
 use Rattle.session_run.specs.Boards.{came_from, came_in}
 use Rattle.session_run.specs.Runs.{RunsOver}
@@ -27,11 +15,11 @@ use Rattle.laws_run.specs.lanes.Boards.{turns_behind, states_of}
 use Rattle.laws_board.specs.plans.Boards.{TookStates}
 use Rattle.laws_run.proofs.run_headline.Boarded.{came_cut, came_split}
 use Rattle.laws_run.proofs.run_headline.Cutting.{run_front}
-use Rattle.laws_homing.proofs.fired_runs.Reported.{same_state}
 use Rattle.laws_homing.specs.switch_runs.Reading.{AllTellTrue, TellTrue}
 use Rattle.laws_homing.specs.switch_runs.Runs.{IsReadInRun}
 use Rattle.laws_homing.proofs.switch_runs.Ordering.{run_tells}
 use Rattle.laws_run.specs.home_headline.Reports.{TellOfReadings}
+use Rattle.laws_homing.proofs.missed_groups.Told.{same_state}
 
 -- what the latest state tells
 latest_tells : (F : ℕ → Type 0) (turns : List BoardTurn) (state : State) → AllTellTrue F turns → latest_state turns ≡ state ∷ [] → TellTrue F state.news

@@ -1,29 +1,16 @@
 -- Why a whole run in which axes home shows the sections of its text.
 use Rattle.std.proofs.Common.{◌≡◌, ℕ, zero, suc, ◌+◌, ◌-◌, ◌*◌, ◌<◌, ◌≤◌, List, [], ◌∷◌, ◌++◌, length, take, All, Option, None, Some, refl, ap, sym, ◌∙◌, subst, arith, length-append, append_assoc}
-use Rattle.std.proofs.Math.Logic.{∥∥₁_map}
+use Rattle.laws_board.proofs.Names.{∥∥₁_map, Cause, Machine, Pulse, turn_ns, Clocks, lines_tick, IsValidMachine, board_at, stepper_at, Fits, clocks_at, stepper_plan, Scene, Run, Started, Told, MotionTurn, ReactorTurn, gather}
 use Rattle.std.proofs.Math.Seq.{take-append_seam}
-use Rattle.plan_types.specs.declared.cause.Cause.{Cause}
 use Rattle.plan_types.specs.declared.cause.Cause.TheVariants as cause
-use Rattle.plan_types.specs.declared.machine.Machine.{Machine}
-use Rattle.plan_types.specs.declared.plan.Pulse.{Pulse}
-use Rattle.plan_types.specs.Clock.{turn_ns}
-use Rattle.plan_types.specs.Lines.{Clocks, lines_tick}
-use Rattle.plan_types.specs.Machines.{IsValidMachine, board_at, stepper_at}
-use Rattle.plan_types.specs.Plan.{Fits, max_error}
-use Rattle.plan_types.specs.Sections.{base_tick, clocks_at, stepper_plan}
+use Rattle.plan_types.specs.Plan.{max_error}
+use Rattle.plan_types.specs.Sections.{base_tick}
 use Rattle.clock_line.proofs.Turns.{tick_over-mono}
 use Rattle.section_feed.specs.Fewer.{AreFirstLines}
 use Rattle.section_feed.proofs.Fewer.{fits-agree, plans-agree}
 use Rattle.io_core.specs.declared.traits.Files.{Ghosts as Files}
 use Rattle.io_core.specs.declared.traits.Sink.{Ghosts as Sink}
-use Rattle.wire_scene.specs.declared.scene.Scene.{Scene}
-use Rattle.host_reactor.specs.Reactor.{Run}
-use Rattle.motion_work.specs.Seen.{Started}
-use Rattle.motion_work.specs.Told.{Told}
 use Rattle.session_lanes.specs.declared.near.Told as near
-use Rattle.session_work.specs.declared.table.MotionTurn.{MotionTurn}
-use Rattle.session_work.specs.declared.table.ReactorTurn.{ReactorTurn}
-use Rattle.session_work.specs.Rows.{gather}
 use Rattle.session_run.specs.declared.tell.Kept.{Kept}
 use Rattle.session_run.specs.Runs.{RunsOver}
 use Rattle.laws_board.specs.sections.Boards.{AreEnded, IsWindow, NextStart}

@@ -1,19 +1,8 @@
 -- The pulses that a report tells up to a turn, in a run in which axes home, are before the tick that the board's clock lines have a few turns later.
 use Rattle.std.proofs.Common.{◌≡◌, ◌∙◌, ℕ, ◌+◌, ◌*◌, ◌<◌, ◌≤◌, All, List, [], ◌∷◌, sym, subst, arith}
-use Rattle.std.proofs.lemmas.List.{append_cancel_left}
-use Rattle.std.proofs.lemmas.List.Elements.{All-cons, All-nil}
-use Rattle.plan_types.specs.declared.machine.BoardDef.{BoardDef}
-use Rattle.plan_types.specs.declared.machine.Machine.{Machine}
-use Rattle.plan_types.specs.declared.plan.Pulse.{Pulse}
-use Rattle.plan_types.specs.Clock.{board_tick, clock_of, turn_ns}
-use Rattle.plan_types.specs.Lines.{Clocks, lines_tick}
-use Rattle.plan_types.specs.Machines.{IsValidMachine, board_at, stepper_at}
+use Rattle.laws_board.proofs.Names.{append_cancel_left, All-cons, All-nil, BoardDef, Machine, Pulse, board_tick, clock_of, turn_ns, Clocks, lines_tick, IsValidMachine, board_at, stepper_at, clocks_at, Entry, only, run_world, new_world, Started, ReactorTurn}
 use Rattle.plan_types.specs.Plan.{max_error}
-use Rattle.plan_types.specs.Sections.{clocks_at}
 use Rattle.section_feed.specs.Boards.{IsLasting}
-use Rattle.wire_scene.specs.declared.scene.Entry.{Entry}
-use Rattle.board_sim.specs.Fair.{only}
-use Rattle.board_world.specs.World.{run_world, new_world}
 use Rattle.laws_board.specs.sections.Boards.{OnBoard, told_in}
 use Rattle.laws_board.specs.sections.Homes.{IsHomeBoard, RunSection}
 use Rattle.laws_board.specs.sections.Parts.{AreTracked}
@@ -21,8 +10,6 @@ use Rattle.laws_board.proofs.sections.Entering.{AreEarly}
 use Rattle.laws_board.proofs.sections.HomeBoards.{cut_at}
 use Rattle.laws_board.proofs.sections.HomeSpans.{halves}
 use Rattle.laws_board.proofs.sections.Spans.{between_early, early_up}
-use Rattle.motion_work.specs.Seen.{Started}
-use Rattle.session_work.specs.declared.table.ReactorTurn.{ReactorTurn}
 use Rattle.laws_board.specs.plans.Boards.{as_told, lines_between}
 use Rattle.laws_board.specs.plans.Lines.{TellTurns, pulses_of}
 use Rattle.laws_board.proofs.plans.Fitting.{between}

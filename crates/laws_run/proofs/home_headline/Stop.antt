@@ -1,19 +1,8 @@
 -- A board in a run in which axes home that was never told to stop does not shut down for that.
 use Rattle.std.proofs.Common.{◌≡◌, ℕ, List, ◌++◌, length, drop, Option, Some, refl, ap, ◌∙◌, subst, inl, inr}
-use Rattle.std.proofs.lemmas.List.{take-append-drop}
-use Rattle.std.specs.List.{flat_map}
-use Rattle.plan_types.specs.declared.levels.Level.{Level}
-use Rattle.plan_types.specs.declared.machine.BoardDef.{BoardDef}
-use Rattle.plan_types.specs.declared.plan.BoardState.{BoardState}
-use Rattle.plan_types.specs.declared.plan.BoardState.TheVariants.{Running, Shut}
-use Rattle.msg_code.specs.declared.talk.ShutNews.{ShutNews}
+use Rattle.laws_board.proofs.Names.{take-append-drop, flat_map, Level, BoardDef, BoardState, Running, Shut, ShutNews, Meant, IsOrdered, Step, run_world, new_world, Orders, queued_in}
 use Rattle.board_sim.specs.Board.{new_controller}
-use Rattle.board_sim.specs.Fair.{Meant}
-use Rattle.board_world.specs.Stands.{IsOrdered}
-use Rattle.board_world.specs.World.{Step, run_world, new_world}
 use Rattle.board_world.proofs.Causes.{was_shut}
-use Rattle.link_work.specs.Turn.{Orders}
-use Rattle.link_work.specs.Runs.{queued_in}
 use Rattle.link_work.specs.Told.{IsShutNews}
 use Rattle.laws_board.specs.sections.Ends.{MayBe}
 use Rattle.laws_board.specs.sections.Stops.{NeverStop}

@@ -1,30 +1,12 @@
 -- Turns of a run that go on tell of a switch where a homing section ended; the last of them also of one whose answer the planner did not hear.
 use Rattle.std.proofs.Common.{◌≡◌, ℕ, suc, ◌+◌, ◌<◌, ◌≤◌, ◌⊎◌, Bool, All, List, [], ◌∷◌, ◌++◌, map, length, Option, Some, None, refl, ap, sym, ◌∙◌, subst, arith, inl, inr, append_assoc, append-nil, length-append}
 use Rattle.std.specs.Prelude.{◌==◌, if◌then◌else◌}
-use Rattle.std.proofs.lemmas.Bool.Decides.{eqb_tells, leb_tells}
-use Rattle.std.proofs.lemmas.List.{length-map}
-use Rattle.std.proofs.lemmas.List.Elements.{All-head, All-tail}
-use Rattle.plan_types.specs.declared.cause.Cause.{Cause}
-use Rattle.plan_types.specs.declared.machine.Machine.{Machine}
-use Rattle.plan_types.specs.declared.plan.SectionKind.TheVariants.{Home}
-use Rattle.plan_types.specs.Machines.{IsValidMachine}
-use Rattle.msg_code.specs.declared.talk.Note.{Note}
-use Rattle.msg_code.specs.declared.talk.NoteNews.{NoteNews}
+use Rattle.laws_board.proofs.Names.{eqb_tells, leb_tells, length-map, All-head, All-tail, Cause, Machine, Home, IsValidMachine, Note, NoteNews, Scene, Switch, Homing, noted, told_all, machine_line, Came, known_by, last_reacted, Started, MotionTurn, ReactorTurn, gather}
 use Rattle.msg_code.specs.declared.talk.NoteNews.TheVariants as news
 use Rattle.report_text.specs.declared.line.ReportLine.TheVariants as report
-use Rattle.wire_scene.specs.declared.scene.Scene.{Scene}
-use Rattle.wire_scene.specs.declared.scene.Switch.{Switch}
-use Rattle.axis_homing.specs.declared.homing.Homing.{Homing}
-use Rattle.host_reactor.specs.Notes.{noted, told_all}
-use Rattle.host_reactor.specs.Report.{machine_line}
-use Rattle.host_reactor.specs.Runs.{Came, known_by, last_reacted}
 use Rattle.motion_work.specs.Homes.{no_end}
 use Rattle.motion_work.specs.Puts.{begun_notes}
-use Rattle.motion_work.specs.Seen.{Started}
 use Rattle.motion_work.specs.Turns.{done_notes}
-use Rattle.session_work.specs.declared.table.MotionTurn.{MotionTurn}
-use Rattle.session_work.specs.declared.table.ReactorTurn.{ReactorTurn}
-use Rattle.session_work.specs.Rows.{gather}
 use Rattle.session_run.specs.Boards.{AreReactorTurns, IsReactorTurn, came_from, came_in}
 use Rattle.laws_board.specs.plans.Lines.{TellTurns, TookEach, starts_at}
 use Rattle.laws_board.specs.plans.Planned.{AreBare, Plans, put_of}
@@ -42,12 +24,12 @@ use Rattle.laws_board.proofs.plans.Rows.{row_from, row_later}
 use Rattle.laws_homing.proofs.home_parts.Known.{known_silent, none_tells, tells_known}
 use Rattle.laws_run.specs.home_headline.Cuts.{EndsIn, TellEnds, TellsCut, TellsNone, TellsSwitch, cuts_of}
 use Rattle.laws_run.proofs.home_headline.Cuts.{told_cut, turn_cuts}
-use Rattle.laws_run.proofs.home_headline.Ended.{some_same}
 use Rattle.laws_run.proofs.home_headline.Planned.{all_notes, planned_by}
 use Rattle.laws_run.proofs.home_headline.Switches.{came_snoc, ends_snoc, turns_tell}
 use Rattle.laws_run.proofs.run_headline.Heard.{notes_cut}
 use Rattle.laws_run.proofs.run_headline.Joining.{row_none}
 use Rattle.laws_run.proofs.run_headline.Showing.{Facts, came_long, each, few, hears, in_none, none_out, notes_are, notes_before, notes_of, took_noted, took_notes, turns_cut, untold_alone}
+use Rattle.laws_homing.proofs.fired_runs.Heard.{some_same}
 
 -- Some turns tell of a switch where a homing section ended, by sections that start as those that were begun, each behind the end of the one before.
 pub record AreSwitched (m : Machine) (switches : List Switch) (begun : List Started) (ts : List ReactorTurn) : Type 0 where

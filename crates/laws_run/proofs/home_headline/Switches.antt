@@ -1,43 +1,18 @@
 -- Each turn of a whole run tells of a switch exactly where a homing section ended in it.
 use Rattle.std.proofs.Common.{◌≡◌, ℕ, suc, ◌+◌, ◌-◌, ◌≤◌, ◌⊎◌, Bool, true, false, cond, List, [], ◌∷◌, ◌++◌, All, length, Option, Some, None, refl, ap, sym, ◌∙◌, subst, arith, inl, inr, append-nil, append_assoc, length-append}
-use Rattle.std.proofs.Math.Logic.{∥∥₁_elim, ∥∥₁_map}
+use Rattle.laws_board.proofs.Names.{∥∥₁_map, leb_tells, length-map, Cause, AxisDef, Machine, ReadStop, Home, IsValidMachine, axis_at, Note, State, ReportLine, Scene, Switch, Homing, HomingTurn, homing_turn, Asking, all_connected, giving_up, listen_all, ready_all, stale, Known, Phase, Connecting, Stopping, is_out, news_of, noted, Reacted, Run, by_phase, cut_line, reacts, unless_ended, unless_stale, first_lines, first_cause, stop_of, Came, GoesOn, known_by, last_reacted, Started, MotionTurn, ReactorTurn}
+use Rattle.std.proofs.Math.Logic.{∥∥₁_elim}
 use Rattle.std.proofs.Props.{props}
-use Rattle.std.proofs.lemmas.Bool.Decides.{leb_tells}
-use Rattle.std.proofs.lemmas.List.{length-map}
-use Rattle.plan_types.specs.declared.cause.Cause.{Cause}
 use Rattle.plan_types.specs.declared.cause.Cause.TheVariants as cause
-use Rattle.plan_types.specs.declared.machine.AxisDef.{AxisDef}
-use Rattle.plan_types.specs.declared.machine.Machine.{Machine}
-use Rattle.plan_types.specs.declared.plan.ReadStop.{ReadStop}
 use Rattle.plan_types.specs.declared.plan.ReadStop.TheVariants as read
-use Rattle.plan_types.specs.declared.plan.SectionKind.TheVariants.{Home}
-use Rattle.plan_types.specs.Machines.{IsValidMachine, axis_at}
 use Rattle.io_core.specs.declared.traits.Files.{Ghosts as Files}
 use Rattle.io_core.specs.declared.traits.Sink.{Ghosts as Sink}
-use Rattle.msg_code.specs.declared.talk.Note.{Note}
-use Rattle.msg_code.specs.declared.talk.State.{State}
-use Rattle.report_text.specs.declared.line.ReportLine.{ReportLine}
-use Rattle.wire_scene.specs.declared.scene.Scene.{Scene}
-use Rattle.wire_scene.specs.declared.scene.Switch.{Switch}
-use Rattle.axis_homing.specs.declared.homing.Homing.{Homing}
-use Rattle.axis_homing.specs.declared.homing.HomingTurn.{HomingTurn}
-use Rattle.axis_homing.specs.Homing.{homing_turn}
-use Rattle.board_asking.specs.declared.asking.Asking.{Asking}
-use Rattle.board_asking.specs.Connecting.{all_connected, giving_up, listen_all, ready_all}
-use Rattle.board_asking.specs.Drift.{stale}
-use Rattle.host_reactor.specs.declared.ordered.Known.{Known}
-use Rattle.host_reactor.specs.declared.ordered.Phase.{Phase}
-use Rattle.host_reactor.specs.declared.ordered.Phase.TheVariants.{Connecting, Running, Stopping}
+use Rattle.host_reactor.specs.declared.ordered.Phase.TheVariants.{Running}
 use Rattle.host_reactor.specs.declared.ordered.Reading.{Reading}
-use Rattle.host_reactor.specs.Notes.{is_out, news_of, noted}
-use Rattle.host_reactor.specs.Reactor.{Reacted, Run, after_homing, asks_boards, by_phase, carries_on, cut_line, finishes, is_connected_now, reacts, unless_ended, unless_given_up, unless_homing_ends, unless_late_stale, unless_stale}
-use Rattle.host_reactor.specs.Report.{count_lines, first_lines}
-use Rattle.host_reactor.specs.Running.{first_cause, is_finished, stop_of}
-use Rattle.host_reactor.specs.Runs.{Came, GoesOn, known_by, last_reacted}
-use Rattle.motion_work.specs.Seen.{Started}
+use Rattle.host_reactor.specs.Reactor.{after_homing, asks_boards, carries_on, finishes, is_connected_now, unless_given_up, unless_homing_ends, unless_late_stale}
+use Rattle.host_reactor.specs.Report.{count_lines}
+use Rattle.host_reactor.specs.Running.{is_finished}
 use Rattle.session_lanes.specs.declared.near.Told as near
-use Rattle.session_work.specs.declared.table.MotionTurn.{MotionTurn}
-use Rattle.session_work.specs.declared.table.ReactorTurn.{ReactorTurn}
 use Rattle.session_run.specs.declared.tell.Kept.{Kept}
 use Rattle.session_run.specs.Boards.{AreReactorTurns, came_from, came_in}
 use Rattle.session_run.specs.Runs.{RunsOver}
@@ -45,7 +20,7 @@ use Rattle.laws_board.specs.plans.Planned.{Plans, put_of}
 use Rattle.laws_board.proofs.plans.Beginning.{Spread}
 use Rattle.laws_board.proofs.plans.Spreading.{plans_spread}
 use Rattle.laws_run.specs.run_ends.Ends.{GoesThrough}
-use Rattle.laws_run.proofs.run_ends.Ending.{own_cause}
+use Rattle.laws_run.proofs.run_ends.Ending.{own_cause, none_some, same_cause}
 use Rattle.laws_run.specs.run_headline.Made.{IsMade}
 use Rattle.laws_run.specs.run_headline.Timely.{clocks_heard, ready_heard}
 use Rattle.laws_run.proofs.run_headline.Cutting.{run_silent}
@@ -68,19 +43,14 @@ use Rattle.laws_run.specs.home_headline.Follow.{AllShowHomes}
 use Rattle.laws_board.specs.causes.Short.{HaveShortDictionaries}
 use Rattle.laws_run.specs.home_headline.Near.{AllKeepUp}
 use Rattle.laws_run.proofs.home_headline.Cuts.{answer_of, end_of, told_cut, told_section, turn_cuts, uncut, uncut_both}
-use Rattle.laws_run.proofs.home_headline.Ended.{goes_behind, notes_behind, some_same}
+use Rattle.laws_run.proofs.home_headline.Ended.{goes_behind, notes_behind}
 use Rattle.laws_run.proofs.home_headline.Planned.{all_notes, planned_by}
 use Rattle.laws_run.proofs.home_headline.Shows.{all_shows}
+use Rattle.laws_homing.proofs.fired_runs.Heard.{some_same}
 
 -- a turn that ends a run for a cause tells of no switch; or the run went through, and a group answered in it
 abbrev Ending : Reacted → Cause → Option ℕ → Type 0
 Ending x c cut = (cuts_of x.ordered.lines ≡ []) ⊎ (GoesThrough c × ((tick : ℕ) × (cut ≡ Some tick)))
-
-none_some : (c : Cause) → None ≡ Some c → ⊥
-none_some c e = cc
-
-same_cause : (d c : Cause) → Some d ≡ Some c → d ≡ c
-same_cause d c e = cc
 
 uncounted : (o : Option Reading) → cuts_of (count_lines o) ≡ []
 uncounted None = refl

@@ -1,31 +1,10 @@
 -- No board is told to stop while the reactor is not about to, axes home or not.
 use Rattle.std.proofs.Common.{◌≡◌, ℕ, List, [], ◌∷◌, ◌++◌, length, Option, Some, None, refl, sym, ◌∙◌, subst}
-use Rattle.plan_types.specs.declared.levels.Level.{Level}
+use Rattle.laws_board.proofs.Names.{Level, AxisDef, Machine, Clocks, axis_at, board_at, Cmd, Control, Entry, Switch, orders, Asking, ready, asks_now, clock_question, drifts, waits_in, configuration, Ctl, Order, HomingTurn, command_to, commands_to, homing_turn, order_command, Known, Stopping, noted, Reacted, homing_commands, stop_command, stops, Came, known_by, last_reacted}
 use Rattle.std.specs.Prelude.{◌==◌}
-use Rattle.plan_types.specs.declared.machine.AxisDef.{AxisDef}
-use Rattle.plan_types.specs.declared.machine.Machine.{Machine}
-use Rattle.plan_types.specs.Lines.{Clocks}
-use Rattle.plan_types.specs.Machines.{axis_at, board_at}
-use Rattle.msg_code.specs.declared.cmd.Cmd.{Cmd}
 use Rattle.msg_code.specs.declared.cmd.Cmd.TheVariants as cmd
-use Rattle.msg_code.specs.declared.unit.Control.{Control}
-use Rattle.wire_scene.specs.declared.scene.Entry.{Entry}
-use Rattle.wire_scene.specs.declared.scene.Switch.{Switch}
-use Rattle.link_work.specs.Stands.{orders}
-use Rattle.board_asking.specs.declared.asking.Asking.{Asking}
-use Rattle.board_asking.specs.Asking.{ready}
-use Rattle.board_asking.specs.Drift.{asks_now, clock_question, drifts, waits_in}
-use Rattle.board_asking.specs.Machine.{configuration}
-use Rattle.trigger_group.specs.declared.order.Ctl.{Ctl}
-use Rattle.trigger_group.specs.declared.order.Order.{Order}
 use Rattle.trigger_group.specs.declared.order.Order.TheVariants as order
-use Rattle.axis_homing.specs.declared.homing.HomingTurn.{HomingTurn}
-use Rattle.axis_homing.specs.Homing.{command_to, commands_to, homing_turn, order_command}
-use Rattle.host_reactor.specs.declared.ordered.Known.{Known}
-use Rattle.host_reactor.specs.declared.ordered.Phase.TheVariants.{Stopping}
-use Rattle.host_reactor.specs.Notes.{noted}
-use Rattle.host_reactor.specs.Reactor.{Reacted, homing_commands, phase_after, run_control, stop_command, stops}
-use Rattle.host_reactor.specs.Runs.{Came, known_by, last_reacted}
+use Rattle.host_reactor.specs.Reactor.{phase_after, run_control}
 use Rattle.laws_board.specs.turns.Turns.{BoardTurn}
 use Rattle.laws_board.specs.clocks.Runs.{IsInRun, orders_in}
 use Rattle.laws_board.proofs.clocks.Lines.{run_before, turn_of}

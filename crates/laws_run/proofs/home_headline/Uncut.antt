@@ -1,22 +1,18 @@
 -- A section of moves whose units are all released by four turns behind its end, as far as they are released before a later turn: so it isn't cut.
 use Rattle.std.proofs.Common.{◌≡◌, ℕ, suc, false, ◌+◌, ◌*◌, ◌<◌, ◌≤◌, ◌⊎◌, List, [], ◌∷◌, ◌++◌, length, take, refl, ap, ◌∙◌, subst, arith, inl, inr}
-use Rattle.std.proofs.lemmas.Bool.Decides.{leb_tells}
+use Rattle.laws_board.proofs.Names.{leb_tells, Machine, turn_ns, Clocks, lines_tick, board_at, clocks_at, Release, units_of, AreBefore, base_of, of_stepper, section_steps, AreStarted, Started}
 use Rattle.std.proofs.lemmas.List.{take_all}
-use Rattle.plan_types.specs.declared.machine.Machine.{Machine}
-use Rattle.plan_types.specs.Clock.{turn_ns}
-use Rattle.plan_types.specs.Lines.{Clocks, lines_tick}
-use Rattle.plan_types.specs.Machines.{board_at}
-use Rattle.plan_types.specs.Sections.{clocks_at, section_end}
+use Rattle.plan_types.specs.Sections.{section_end}
 use Rattle.laws_board.proofs.sections.Spreading.{late_released}
-use Rattle.step_feed.specs.Pacing.{ArePaced, Release, units_of}
-use Rattle.section_units.specs.Sections.{AreBefore, base_of, of_stepper, section_steps, steps_said}
+use Rattle.step_feed.specs.Pacing.{ArePaced}
+use Rattle.section_units.specs.Sections.{steps_said}
 use Rattle.laws_board.specs.sections.Events.{AreTicks}
 use Rattle.laws_board.specs.sections.Parts.{AreTracked}
 use Rattle.laws_board.proofs.sections.Entering.{all_inside, begun_inside, early_fits}
 use Rattle.laws_board.proofs.sections.HomeRuns.{before_least}
 use Rattle.laws_board.proofs.sections.Waiting.{AreInside, Frame}
 use Rattle.motion_work.specs.Homes.{before_turn}
-use Rattle.motion_work.specs.Seen.{AreStarted, IsMoved, IsPlanned, Started, part_on}
+use Rattle.motion_work.specs.Seen.{IsMoved, IsPlanned, part_on}
 use Rattle.motion_work.proofs.Boardwise.{moved_is}
 use Rattle.motion_work.proofs.Turning.{end_after}
 use Rattle.laws_homing.specs.home_parts.Cuts.{cut_on}

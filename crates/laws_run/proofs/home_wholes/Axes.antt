@@ -1,10 +1,6 @@
 -- The sections of a text that home do so with one of the three axes.
 use Rattle.std.proofs.Common.{◌≡◌, ℕ, zero, suc, ◌+◌, ◌<◌, Bool, true, false, ℤ, List, [], ◌∷◌, ◌++◌, map, take, sym, subst, arith}
-use Rattle.plan_types.specs.declared.machine.Machine.{Machine}
-use Rattle.plan_types.specs.declared.plan.Move.{Move}
-use Rattle.plan_types.specs.declared.plan.Section.{Section}
-use Rattle.plan_types.specs.declared.plan.SectionKind.{SectionKind}
-use Rattle.plan_types.specs.declared.plan.SectionKind.TheVariants.{Home, Moves}
+use Rattle.laws_board.proofs.Names.{Machine, Move, Section, SectionKind, Home, Moves, Started}
 use Rattle.gcode_state.specs.declared.state.Action.{Action}
 use Rattle.gcode_state.specs.declared.state.Action.TheVariants as actions
 use Rattle.gcode_state.specs.declared.state.State.{State}
@@ -12,7 +8,6 @@ use Rattle.gcode_state.specs.States.{coordinates_of}
 use Rattle.gcode_program.specs.Cuts.{closed, home_of, homes, is_named, dwell_left, dwell_behind_home, left_by_homes, sections_by, sections_of}
 use Rattle.gcode_program.specs.Homes.{stood}
 use Rattle.gcode_program.specs.Readings.{Deed}
-use Rattle.motion_work.specs.Seen.{Started}
 
 -- a section of moves, or of one of three axes
 abbrev pub HasAxis : SectionKind → Type 0

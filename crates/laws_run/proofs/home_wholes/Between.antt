@@ -1,25 +1,9 @@
 -- Between homing sections, a board is still in the turns of a section of moves.
 use Rattle.std.proofs.Common.{◌≡◌, ℕ, ◌+◌, ◌-◌, ◌≤◌, List, ◌∷◌, ◌++◌, length, take, ap, sym, ◌∙◌, subst, arith}
-use Rattle.plan_types.specs.declared.levels.Level.{Level}
-use Rattle.plan_types.specs.declared.machine.Machine.{Machine}
-use Rattle.plan_types.specs.declared.plan.Planned.{Planned}
-use Rattle.plan_types.specs.declared.plan.SectionKind.TheVariants.{Moves}
-use Rattle.plan_types.specs.Clock.{clock_of}
-use Rattle.plan_types.specs.Lines.{Clocks}
-use Rattle.plan_types.specs.Machines.{IsValidMachine, board_at}
-use Rattle.msg_code.specs.declared.talk.State.{State}
-use Rattle.wire_scene.specs.declared.scene.Entry.{Entry}
-use Rattle.wire_scene.specs.declared.scene.Switch.{Switch}
-use Rattle.step_feed.specs.Pacing.{Release}
-use Rattle.section_units.specs.Sections.{BoardSection}
-use Rattle.link_work.specs.Runs.{AreTurns}
-use Rattle.link_work.specs.Stands.{first_state}
-use Rattle.link_work.specs.Turn.{LinkState, Orders}
-use Rattle.host_reactor.specs.Runs.{Came}
+use Rattle.laws_board.proofs.Names.{Level, Machine, Planned, Moves, clock_of, Clocks, IsValidMachine, board_at, State, Entry, Switch, Release, BoardSection, AreTurns, first_state, LinkState, Orders, Came, Started}
 use Rattle.laws_board.specs.turns.Turns.{BoardTurn, stands_after}
 use Rattle.laws_board.specs.clocks.Runs.{IsInRun, orders_in}
 use Rattle.laws_board.proofs.clocks.Lines.{as_long}
-use Rattle.motion_work.specs.Seen.{Started}
 use Rattle.laws_board.specs.plans.Homed.{stops_of}
 use Rattle.laws_homing.specs.home_runs.Settled.{AreHomed}
 use Rattle.laws_homing.specs.home_plans.Notes.{CameNotes}

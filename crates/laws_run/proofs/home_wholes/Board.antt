@@ -1,25 +1,10 @@
 -- What a board tells of a section of moves in a run in which axes home: all its steps.
 use Rattle.std.proofs.Common.{◌≡◌, ◌≢◌, ℕ, true, false, ◌+◌, ◌-◌, ◌*◌, ◌<◌, ◌≤◌, ◌⊎◌, Bool, List, [], ◌∷◌, ◌++◌, length, take, drop, Some, refl, ap, sym, ◌∙◌, subst, arith, inl, inr, append_assoc, length-append}
-use Rattle.std.proofs.lemmas.Bool.Decides.{leb_tells}
-use Rattle.std.proofs.lemmas.Grind.{flat_map-append}
-use Rattle.std.proofs.lemmas.List.{append_cancel_left, length-drop, length-take-le, take-append-drop, take-append-le, take_all}
-use Rattle.std.proofs.lemmas.List.Elements.{All-head}
-use Rattle.plan_types.specs.declared.plan.BoardState.TheVariants.{Running, Shut}
-use Rattle.plan_types.specs.declared.plan.Pulse.{Pulse}
-use Rattle.plan_types.specs.Clock.{clock_of, turn_ns}
-use Rattle.plan_types.specs.Lines.{lines_tick}
-use Rattle.msg_code.specs.declared.talk.ShutNews.{ShutNews}
-use Rattle.msg_code.specs.declared.talk.State.{State}
-use Rattle.wire_scene.specs.declared.scene.Entry.{Entry}
+use Rattle.laws_board.proofs.Names.{leb_tells, flat_map-append, append_cancel_left, take-append-drop, All-head, Running, Shut, Pulse, clock_of, turn_ns, lines_tick, ShutNews, State, Entry, only, Core, run_world, new_world, AreBefore, base_of, section_steps, AreTurns, first_state, LinkState, Orders}
+use Rattle.std.proofs.lemmas.List.{length-drop, length-take-le, take-append-le, take_all}
 use Rattle.board_sim.specs.Board.{timer_too_close}
-use Rattle.board_sim.specs.Fair.{only}
 use Rattle.board_sim.proofs.Steps.{only-append}
-use Rattle.board_world.specs.World.{Core, run_world, new_world}
-use Rattle.section_units.specs.Sections.{AreBefore, base_of, section_steps}
 use Rattle.link_core.specs.Core.{sent}
-use Rattle.link_work.specs.Runs.{AreTurns}
-use Rattle.link_work.specs.Stands.{first_state}
-use Rattle.link_work.specs.Turn.{LinkState, Orders}
 use Rattle.laws_board.specs.sections.Boards.{OnBoard, told_in}
 use Rattle.laws_board.specs.sections.Courses.{courses}
 use Rattle.laws_board.specs.sections.Ends.{MayBe}

@@ -1,10 +1,7 @@
 -- How many pulses there are between two ticks.
 use Rattle.std.proofs.Common.{◌≡◌, ℕ, ◌≤◌, List, [], ◌∷◌, ◌++◌, length, refl, ap, sym, ◌∙◌, arith, inl, inr, append-nil, length-append}
 use Rattle.std.specs.Prelude.{nat_le, if◌then◌else◌}
-use Rattle.std.proofs.lemmas.Bool.Decides.{leb_tells}
-use Rattle.plan_types.specs.declared.plan.Planned.{Planned}
-use Rattle.plan_types.specs.declared.plan.Pulse.{Pulse}
-use Rattle.plan_types.specs.Plan.{Fits}
+use Rattle.laws_board.proofs.Names.{leb_tells, Planned, Pulse, Fits}
 use Rattle.laws_board.proofs.sections.Entering.{AreEarly}
 use Rattle.laws_board.proofs.sections.Spans.{AreLate, from_append, from_early, from_late, from_tick, late_append, late_down}
 

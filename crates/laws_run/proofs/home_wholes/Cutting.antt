@@ -1,14 +1,6 @@
 -- The turns of a board in a run in which axes home, cut at two turns, with its link there.
 use Rattle.std.proofs.Common.{◌≡◌, ℕ, ◌+◌, ◌≤◌, List, [], ◌∷◌, ◌++◌, length, Option, refl, ap, sym, ◌∙◌, subst, arith, append_assoc, length-append}
-use Rattle.plan_types.specs.declared.clock.BoardClock.{BoardClock}
-use Rattle.plan_types.specs.Clock.{clock_of}
-use Rattle.msg_code.specs.declared.talk.State.{State}
-use Rattle.wire_scene.specs.declared.scene.Entry.{Entry}
-use Rattle.board_world.specs.World.{Core, Step, run_world, new_world}
-use Rattle.link_work.specs.Runs.{AreTurns}
-use Rattle.link_work.specs.Stands.{first_state}
-use Rattle.link_work.specs.Turn.{LinkState, Orders}
-use Rattle.link_work.proofs.Sending.{run_append}
+use Rattle.laws_board.proofs.Names.{BoardClock, clock_of, State, Entry, Core, Step, run_world, new_world, AreTurns, first_state, LinkState, Orders, run_append}
 use Rattle.laws_board.specs.sections.Boards.{OnBoard}
 use Rattle.laws_board.specs.sections.Courses.{AllHeed, AreSettled}
 use Rattle.laws_board.specs.sections.Homes.{RunSection, IsHomeRun, IsHomeSpan, IsSplitIn, IsHomeBoard, lost_at}

@@ -1,13 +1,8 @@
 -- The first turns of a board's part of a run in which axes home, up to the end of a section: a run of the sections up to this one.
 use Rattle.std.proofs.Common.{◌≡◌, ℕ, ◌+◌, ◌<◌, ◌≤◌, ◌⊎◌, List, [], ◌∷◌, ◌++◌, All, length, Option, refl, ap, sym, ◌∙◌, subst, arith, inl, inr, append_assoc, append-nil, length-append, false}
 use Rattle.std.proofs.lemmas.List.{take-append-le}
-use Rattle.std.proofs.lemmas.List.Elements.{All-cons, All-head, All-nil, All-tail}
-use Rattle.plan_types.specs.Lines.{Clocks}
-use Rattle.msg_code.specs.declared.cmd.Cmd.{Cmd}
+use Rattle.laws_board.proofs.Names.{All-cons, All-head, All-nil, All-tail, Clocks, Cmd, batch_at, BoardSection, AreBefore, Orders}
 use Rattle.msg_code.specs.declared.cmd.Cmd.TheVariants as cmd
-use Rattle.step_feed.specs.Pacing.{batch_at}
-use Rattle.section_units.specs.Sections.{BoardSection, AreBefore}
-use Rattle.link_work.specs.Turn.{Orders}
 use Rattle.laws_board.specs.sections.Courses.{Course}
 use Rattle.laws_board.specs.sections.Known.{Sent}
 use Rattle.laws_board.specs.sections.Homes.{AreInTurn, AreOrdersIn, AreOverBy, AreSet, BeginLeftOf, HasUnits, IsLeftOf, IsControlIn, IsHomeRun, IsSectionBy, RunSection, SetsAny, SetsClock, SetsIn, AreReleasedIn, lost_at}

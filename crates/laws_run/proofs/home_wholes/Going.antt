@@ -1,37 +1,14 @@
 -- A board of a run in which axes home runs while the reactor goes on, and stays shut once it is.
 use Rattle.std.proofs.Common.{◌≡◌, ℕ, zero, suc, ◌+◌, Bool, true, false, cond, List, [], ◌∷◌, ◌++◌, length, Option, Some, None, refl, ap, sym, ◌∙◌, subst, inl, inr}
 use Rattle.std.specs.Prelude.{◌||◌, if◌then◌else◌}
-use Rattle.std.proofs.lemmas.Bool.Decides.{eqb_tells}
-use Rattle.std.specs.List.{flat_map}
-use Rattle.plan_types.specs.declared.cause.Cause.{Cause}
+use Rattle.laws_board.proofs.Names.{eqb_tells, flat_map, Cause, BoardClock, Level, BoardDef, Machine, Running, Shut, clock_of, board_at, ShutNews, State, Entry, Switch, Controller, is_shut, commands_of, Event, IsOrdered, Core, Step, Do, Turn, after_event, in_turn, run_world, new_world, takes_in, queued_in, first_state, orders, LinkState, turns_are_steps, is_out, noted, first_cause, Came, known_by, last_reacted, state_at}
 use Rattle.plan_types.specs.declared.cause.Cause.TheVariants as cause
-use Rattle.plan_types.specs.declared.clock.BoardClock.{BoardClock}
-use Rattle.plan_types.specs.declared.levels.Level.{Level}
-use Rattle.plan_types.specs.declared.machine.BoardDef.{BoardDef}
-use Rattle.plan_types.specs.declared.machine.Machine.{Machine}
-use Rattle.plan_types.specs.declared.plan.BoardState.TheVariants.{Running, Shut}
-use Rattle.plan_types.specs.Clock.{clock_of}
-use Rattle.plan_types.specs.Machines.{board_at}
-use Rattle.msg_code.specs.declared.talk.ShutNews.{ShutNews}
-use Rattle.msg_code.specs.declared.talk.State.{State}
-use Rattle.wire_scene.specs.declared.scene.Entry.{Entry}
-use Rattle.wire_scene.specs.declared.scene.Switch.{Switch}
-use Rattle.board_sim.specs.Board.{Controller, is_shut, new_controller}
-use Rattle.board_sim.specs.Fair.{commands_of}
+use Rattle.board_sim.specs.Board.{new_controller}
 use Rattle.board_sim.proofs.RigShut.{all_left_by}
 use Rattle.board_sim.proofs.RigStates.{passes_state}
-use Rattle.board_world.specs.declared.event.Event.{Event}
 use Rattle.board_world.specs.declared.event.Event.TheVariants as event
-use Rattle.board_world.specs.Stands.{IsOrdered}
-use Rattle.board_world.specs.World.{Core, Step, Do, Turn, after_event, in_turn, run_world, new_world, takes_in}
 use Rattle.board_world.proofs.Runs.{all_orders}
-use Rattle.link_work.specs.Runs.{queued_in}
-use Rattle.link_work.specs.Stands.{first_state, orders}
-use Rattle.link_work.specs.Turn.{LinkState}
-use Rattle.link_work.proofs.Turns.{turns_are_steps}
-use Rattle.host_reactor.specs.Notes.{is_out, noted}
-use Rattle.host_reactor.specs.Running.{any_out, first_cause, late, late_of, or_cause}
-use Rattle.host_reactor.specs.Runs.{Came, known_by, last_reacted, state_at}
+use Rattle.host_reactor.specs.Running.{any_out, late, late_of, or_cause}
 use Rattle.host_reactor.proofs.Ends.{first-ends}
 use Rattle.laws_board.specs.turns.Turns.{AreBoardTurns, BoardTurn, latest_state, stands_after}
 use Rattle.laws_board.specs.clocks.Runs.{IsInRun, orders_in}
@@ -42,14 +19,8 @@ use Rattle.laws_homing.proofs.home_runs.Windows.{ordered_after}
 use Rattle.laws_run.proofs.home_headline.Stop.{never_shut, runs_so}
 use Rattle.laws_run.proofs.home_headline.Unasked.{never_stop}
 use Rattle.laws_run.proofs.run_ends.Unstopped.{not_before}
-
--- a turn that goes on finds no board late
-some_none : (c : Cause) → Some c ≡ None → ⊥
-some_none c e = cc
-
-second_none : (x y : Option Cause) → or_cause x y ≡ None → (x ≡ None) × (y ≡ None)
-second_none None y e = (refl, e)
-second_none (Some c) y e = absurd (some_none c e)
+use Rattle.laws_run.proofs.run_headline.Going.{or_none}
+use Rattle.laws_run.proofs.run_ends.Ending.{some_none}
 
 memory_none : (b : Bool) (o : Option Cause) → cond b (Some cause.Memory) o ≡ None → o ≡ None
 memory_none true o e = absurd (some_none cause.Memory e)
@@ -64,7 +35,7 @@ none_late : (m : Machine) (switches : List Switch) (c : Came) (before : List Cam
 none_late m switches c before e =
     let stopped = (noted m c.note (known_by m switches before)).stopped in
     let first = none_first m switches c before (first_cause (is_out c.note) stopped c.states) e refl in
-    (second_none stopped (late 0 c.states) (memory_none (is_out c.note || any_out c.states) (or_cause stopped (late 0 c.states)) first)).1
+    (or_none stopped (late 0 c.states) (memory_none (is_out c.note || any_out c.states) (or_cause stopped (late 0 c.states)) first)).1
 
 not_late : (j : ℕ) (n : ShutNews) → late_of j (Some n) ≡ None → n.reason ≡ 1 → ⊥
 not_late j n e one =
@@ -76,8 +47,8 @@ in_time : (j b : ℕ) (states : List State) (s : State) (n : ShutNews) → late 
 in_time j b [] s n e at is one = let f : [] ≡ s ∷ [] = at in cc
 in_time j zero (x ∷ states) s n e at is one =
     let same : x ≡ s = cc in
-    not_late j n (ap (late_of j) (sym (ap (λ (y : State). y.shut) same ∙ is)) ∙ (second_none (late_of j x.shut) (late (j + 1) states) e).0) one
-in_time j (suc b) (x ∷ states) s n e at is one = in_time (j + 1) b states s n (second_none (late_of j x.shut) (late (j + 1) states) e).1 at is one
+    not_late j n (ap (late_of j) (sym (ap (λ (y : State). y.shut) same ∙ is)) ∙ (or_none (late_of j x.shut) (late (j + 1) states) e).0) one
+in_time j (suc b) (x ∷ states) s n e at is one = in_time (j + 1) b states s n (or_none (late_of j x.shut) (late (j + 1) states) e).1 at is one
 
 -- a board that wasn't told to stop didn't shut down for that
 none_asked : (d : BoardDef) (pins : List (List Level)) (b : ℕ) (entries : List Entry) (turns : List BoardTurn) (tick first : ℕ) → AreBoardTurns (clock_of d) (first_state d pins b entries) turns → NeverStop (orders_in turns)

@@ -1,27 +1,11 @@
 -- A unit of a section of moves that comes too late finds its stepper free, where the board is still in that section's turns.
 use Rattle.std.proofs.Common.{◌≡◌, ℕ, ◌+◌, ◌-◌, ◌≤◌, List, [], ◌∷◌, ◌++◌, length, take, drop, refl, ap, sym, ◌∙◌, subst, arith, inl, inr, append_assoc, append-nil, length-append}
-use Rattle.std.proofs.lemmas.List.{append_cancel_left, length-drop, length-take-le, take-append-drop}
-use Rattle.plan_types.specs.declared.clock.BoardClock.{BoardClock}
-use Rattle.plan_types.specs.declared.plan.BoardState.{BoardState}
-use Rattle.plan_types.specs.declared.plan.BoardState.TheVariants.{Running, Shut}
-use Rattle.plan_types.specs.Clock.{clock_of}
-use Rattle.msg_code.specs.declared.cmd.Cmd.{Cmd}
+use Rattle.laws_board.proofs.Names.{append_cancel_left, take-append-drop, BoardClock, BoardState, Running, Shut, clock_of, Cmd, Entry, Controller, is_shut, Meant, commands_of, Rig, passes, takes_all, Event, IsOrdered, Core, Step, Do, Turn, world_after, after_event, run_world, new_world, takes_in, BoardSection, AreTurns, first_state, LinkState, Orders, turns_are_steps}
+use Rattle.std.proofs.lemmas.List.{length-drop, length-take-le}
 use Rattle.msg_code.specs.declared.cmd.Cmd.TheVariants as cmd
-use Rattle.wire_scene.specs.declared.scene.Entry.{Entry}
-use Rattle.board_sim.specs.Board.{Controller, is_shut}
-use Rattle.board_sim.specs.Fair.{Meant, commands_of}
-use Rattle.board_sim.specs.Rig.{Rig, passes, takes_all}
 use Rattle.board_sim.proofs.RigShut.{passes_left}
-use Rattle.board_world.specs.declared.event.Event.{Event}
 use Rattle.board_world.specs.declared.event.Event.TheVariants.{Arrive, Control, Garble, Lose, LoseReply, Pass, Put, Repeat, Reply, Resend, Send}
-use Rattle.board_world.specs.Stands.{IsOrdered}
-use Rattle.board_world.specs.World.{Core, Step, Do, Turn, world_after, after_event, run_world, new_world, takes_in}
 use Rattle.board_world.proofs.Runs.{all_orders, ordered, start_ordered}
-use Rattle.section_units.specs.Sections.{BoardSection}
-use Rattle.link_work.specs.Runs.{AreTurns}
-use Rattle.link_work.specs.Stands.{first_state}
-use Rattle.link_work.specs.Turn.{LinkState, Orders}
-use Rattle.link_work.proofs.Turns.{turns_are_steps}
 use Rattle.laws_board.specs.sections.Boards.{OnBoard}
 use Rattle.laws_board.specs.sections.Courses.{AllHeed, Course, FindsFree, HeedsAt, courses, no_course}
 use Rattle.laws_board.specs.sections.Homes.{IsBegunFor}
@@ -33,10 +17,11 @@ use Rattle.laws_board.proofs.sections.Spans.{sent_in_append}
 use Rattle.laws_board.proofs.sections.Wholes.{sent_orders}
 use Rattle.laws_homing.proofs.home_runs.Settled.{AllFrom, from_in}
 use Rattle.laws_run.specs.home_wholes.Still.{BringStill, IsStillIn}
-use Rattle.laws_run.proofs.home_wholes.Phases.{AllBefore, AllStill, AreFree, StandsFree, before_front, no_since, none_since, ran_before, take_still}
+use Rattle.laws_run.proofs.home_wholes.Phases.{AllBefore, AllStill, AreFree, StandsFree, before_front, no_since, none_since, ran_before, take_still, cons_same}
 use Rattle.laws_run.proofs.home_wholes.Section.{among_before, among_from, before_in, orders_still}
 use Rattle.laws_run.proofs.home_wholes.Stages.{done_same}
 use Rattle.laws_run.proofs.home_wholes.Still.{time_passes}
+use Rattle.board_world.proofs.Causes.{runs_on}
 
 -- A running board that took some of the first of these commands: no trigger of it can trigger, and steppers whose part
 -- was begun in a turn or later aren't halted.
@@ -55,16 +40,12 @@ takes_free low front h g ms taken board free on done to_come cut took =
     let now : Ends ms = subst Ends last (take_still low left first to_come h.board was) in
     subst (λ (r : Rig). StandsFree low done to_come r) (sym board) (subst (λ (x : List Sent). StandsFree low x to_come (takes_all h.board (commands_of ms)).rig) (sym are) (now running))
 
--- time that passes
-clash : (r t f : ℕ) → Running ≡ Shut r t f → ⊥
-clash r t f e = cc
-
 ran_through : (r : Rig) (t : ℕ) → (passes r t).rig.controller.state ≡ Running → r.controller.state ≡ Running
 ran_through r t on = by r.controller.state refl
   where
     by : (o : BoardState) → r.controller.state ≡ o → r.controller.state ≡ Running
     by Running e = e
-    by (Shut reason tick first) e = absurd (clash reason tick first (sym on ∙ (passes_left r t (ap is_shut e)).1 ∙ e))
+    by (Shut reason tick first) e = absurd (runs_on reason tick first (sym on ∙ (passes_left r t (ap is_shut e)).1 ∙ e))
 
 pass_free : (low : ℕ) (front : List Sent) (h : Core) (t : ℕ) → IsFreeAt low front h → IsFreeAt low front (after_event h (Pass t))
 pass_free low front h t free on done to_come cut took =
@@ -156,9 +137,6 @@ still_first : (xs ys : List Sent) → AllStill (xs ++ ys) → AllStill xs
 still_first [] ys a = tt
 still_first (x ∷ xs) ys a = (a.0, still_first xs ys a.1)
 
-head_same : (x y : Sent) (xs ys : List Sent) → x ∷ xs ≡ y ∷ ys → x ≡ y
-head_same x y xs ys e = cc
-
 -- A board that is still in a section's turns, and the first command that was queued of those of a turn at most five
 -- turns behind its end.
 module _ (place : ℕ) (entries : List Entry) (x : OnBoard) (s : BoardSection) (still : IsStillIn place entries s x) (front tail : List Sent) (t : Sent) (are : front ++ t ∷ tail ≡ sent_in 0 x.orders) (at : t.turn ≡ s.end + 5) (order : s.start ≤ s.end)
@@ -224,7 +202,7 @@ module _ (place : ℕ) (entries : List Entry) (x : OnBoard) (s : BoardSection) (
                   record { new = new; front_is = is; fine = still_first new m (subst AllStill rest (orders_still Low Mine brings)) }
               | inr q ↦
                   let (y, more, is, rest) = q in
-                  let same : t ≡ y = head_same t y tail (more ++ (mine ++ others)) (append_cancel_left front (t ∷ tail) (y ∷ more ++ (mine ++ others))
+                  let same : t ≡ y = cons_same t y tail (more ++ (mine ++ others)) (append_cancel_left front (t ∷ tail) (y ∷ more ++ (mine ++ others))
                   (are ∙ all_is ∙ ap (λ z. z ++ (mine ++ others)) is ∙ append_assoc front (y ∷ more) (mine ++ others))) in
                   let early = among_before Low front y more (subst (λ (z : List Sent). AllBefore Low z) is old) in
                   let turn = ap (λ (z : Sent). z.turn) same in

@@ -1,32 +1,13 @@
 -- What the lines of a whole run tell of a section of moves, where the board of the stepper ran on behind it.
 use Rattle.std.proofs.Common.{◌≡◌, ◌⊎◌, ◌≢◌, ℕ, true, ◌+◌, ◌-◌, ◌<◌, ◌≤◌, List, [], ◌∷◌, ◌++◌, length, map, drop, take, None, Some, refl, ap, sym, ◌∙◌, subst, arith, inl, inr, length-append}
-use Rattle.std.proofs.lemmas.Bool.Decides.{leb_tells}
-use Rattle.std.proofs.lemmas.List.{length-map, map-append}
-use Rattle.plan_types.specs.declared.cause.Cause.{Cause}
-use Rattle.plan_types.specs.declared.machine.Machine.{Machine}
-use Rattle.plan_types.specs.declared.plan.Planned.{Planned}
-use Rattle.plan_types.specs.declared.plan.Pulse.{Pulse}
-use Rattle.plan_types.specs.declared.plan.SectionKind.{SectionKind}
-use Rattle.plan_types.specs.declared.plan.SectionKind.TheVariants.{Home, Moves}
-use Rattle.plan_types.specs.Clock.{clock_of}
-use Rattle.plan_types.specs.Machines.{IsValidMachine, board_at, stepper_at}
-use Rattle.plan_types.specs.Sections.{clocks_at, stepper_plan, is_home}
-use Rattle.msg_code.specs.declared.talk.ShutNews.{ShutNews}
-use Rattle.msg_code.specs.declared.talk.State.{State}
-use Rattle.wire_scene.specs.declared.scene.Scene.{Scene}
-use Rattle.board_sim.specs.Fair.{only}
-use Rattle.section_units.specs.Sections.{AreBefore}
+use Rattle.laws_board.proofs.Names.{leb_tells, length-map, map-append, Cause, Machine, Planned, Pulse, SectionKind, Home, Moves, clock_of, IsValidMachine, board_at, stepper_at, clocks_at, stepper_plan, ShutNews, State, Scene, only, AreBefore, pins_of, Came, AreStarted, Started, Told, MotionTurn, ReactorTurn}
+use Rattle.plan_types.specs.Sections.{is_home}
 use Rattle.section_units.specs.Units.{sent}
-use Rattle.link_work.specs.Switches.{pins_of}
 use Rattle.host_reactor.specs.Report.{turned}
-use Rattle.host_reactor.specs.Runs.{Came}
 use Rattle.laws_board.specs.turns.Turns.{BoardTurn}
 use Rattle.laws_board.specs.clocks.Runs.{IsInRun, orders_in}
 use Rattle.laws_board.proofs.clocks.Orders.{order_length}
-use Rattle.motion_work.specs.Seen.{AreStarted, IsMoved, IsPlanned, Started, part_on}
-use Rattle.motion_work.specs.Told.{Told}
-use Rattle.session_work.specs.declared.table.MotionTurn.{MotionTurn}
-use Rattle.session_work.specs.declared.table.ReactorTurn.{ReactorTurn}
+use Rattle.motion_work.specs.Seen.{IsMoved, IsPlanned, part_on}
 use Rattle.session_run.specs.Boards.{came_from}
 use Rattle.laws_board.specs.sections.Boards.{IsWindow, OnBoard, told_in}
 use Rattle.laws_board.specs.sections.Homes.{IsHomeBoard, RunSection, lost_at}
@@ -65,9 +46,7 @@ use Rattle.laws_run.proofs.home_wholes.Lost.{still_at}
 use Rattle.laws_run.proofs.home_headline.Uncut.{cut_many, kept_before, kept_released, planned_at}
 use Rattle.laws_board.proofs.plans.Rows.{Among, among_here, among_parts, begun_row, row_from, row_past}
 use Rattle.laws_homing.proofs.home_parts.Lines.{next_behind}
-
-none_some : {X : Type 0} {x : X} → None ≡ Some x → ⊥
-none_some e = cc
+use Rattle.plan_types.proofs.Facts.{none_is_some}
 
 -- a section of moves ends 260 turns before the last one starts, where that homes
 before_last : (ready : ℕ) (past : List Started) (x : Started) (later before : List Started) (y : Started) (axis : ℕ) → past ++ x ∷ later ≡ before ++ y ∷ [] → x.section.kind ≡ Moves → y.section.kind ≡ Home axis → AreInARow ready (before ++ y ∷ []) → x.end + 260 ≤ y.start
@@ -220,7 +199,7 @@ module _ (m : Machine) (v : IsValidMachine m) (s : Scene) (ts : List MotionTurn)
           elim (long_or m v s ts p end c first rest f) [
             | inl l ↦ inr (omega (arith, l))
             | inr z ↦ elim z.0 [
-              | inl none ↦ absurd (none_some (sym none ∙ told))
+              | inl none ↦ absurd (none_is_some (sym none ∙ told))
               | inr last ↦ (let far = before_last t.first past x later last.past last.s last.axis (sym cut ∙ last.are) moves last.home (let Row : List Started → Type 0 = λ ss. AreInARow t.first ss in subst Row last.are row) in let late = last.by in inl (omega (arith, far, late)))
             ]
           ]

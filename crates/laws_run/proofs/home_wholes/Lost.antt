@@ -1,29 +1,10 @@
 -- In a run in which axes home the stepper of the first unit that comes too late isn't halted when its board takes that.
 use Rattle.std.proofs.Common.{◌≡◌, ℕ, ◌+◌, ◌-◌, ◌≤◌, false, List, [], ◌∷◌, ◌++◌, length, refl, ap, sym, subst, arith, inl, inr}
 use Rattle.plan_types.specs.Sections.{is_home}
-use Rattle.plan_types.specs.declared.levels.Level.{Level}
-use Rattle.plan_types.specs.declared.machine.Machine.{Machine}
-use Rattle.plan_types.specs.declared.plan.Planned.{Planned}
-use Rattle.plan_types.specs.declared.plan.SectionKind.{SectionKind}
-use Rattle.plan_types.specs.declared.plan.SectionKind.TheVariants.{Home, Moves}
-use Rattle.plan_types.specs.Clock.{clock_of}
-use Rattle.plan_types.specs.Lines.{Clocks}
-use Rattle.plan_types.specs.Machines.{IsValidMachine, board_at}
-use Rattle.msg_code.specs.declared.cmd.Cmd.{Cmd}
-use Rattle.msg_code.specs.declared.talk.State.{State}
-use Rattle.wire_scene.specs.declared.scene.Entry.{Entry}
-use Rattle.wire_scene.specs.declared.scene.Switch.{Switch}
-use Rattle.step_feed.specs.Pacing.{Release}
-use Rattle.board_world.specs.World.{new_world}
-use Rattle.section_units.specs.Sections.{BoardSection}
-use Rattle.link_work.specs.Runs.{AreTurns}
-use Rattle.link_work.specs.Stands.{first_state}
-use Rattle.link_work.specs.Turn.{LinkState}
-use Rattle.host_reactor.specs.Runs.{Came}
+use Rattle.laws_board.proofs.Names.{Level, Machine, Planned, SectionKind, Home, Moves, clock_of, Clocks, IsValidMachine, board_at, Cmd, State, Entry, Switch, Release, new_world, BoardSection, AreTurns, first_state, LinkState, Came, Started}
 use Rattle.laws_board.specs.turns.Turns.{BoardTurn}
 use Rattle.laws_board.specs.clocks.Runs.{IsInRun, orders_in}
 use Rattle.laws_board.proofs.clocks.Orders.{order_length}
-use Rattle.motion_work.specs.Seen.{Started}
 use Rattle.laws_board.specs.sections.Courses.{AllHeed, Course, courses}
 use Rattle.laws_board.specs.sections.Homes.{BeginLeftOf, IsBegunFor, IsHomeRun, IsLeftOf, IsSplitIn, lost_at}
 use Rattle.laws_board.specs.sections.Known.{Sent, sent_in}
@@ -41,10 +22,7 @@ use Rattle.laws_run.proofs.home_wholes.Between.{still_between}
 use Rattle.laws_run.proofs.home_wholes.Heeding.{still_heeds}
 use Rattle.laws_run.proofs.home_wholes.Phases.{AllBefore}
 use Rattle.laws_run.proofs.home_wholes.Section.{among_before, before_in}
-
-moves_so : (k : SectionKind) → is_home k ≡ false → k ≡ Moves
-moves_so Moves e = refl
-moves_so (Home axis) e = cc
+use Rattle.motion_stream.proofs.ByKind.{moves_kind}
 
 -- the section of that unit
 pub record Left (m : Machine) (clocks : List Clocks) (until b : ℕ) (begun : List Started) (cs : ℕ → Course) (turn : ℕ) (c : Cmd) : Type 0 where
@@ -58,7 +36,7 @@ pub record Left (m : Machine) (clocks : List Clocks) (until b : ℕ) (begun : Li
 
 pub left_at : (m : Machine) (clocks : List Clocks) (until b : ℕ) (begun : List Started) (cs : ℕ → Course) (turn : ℕ) (c : Cmd) → IsLeftOf (cuts_on m clocks until begun b) cs turn c → Left m clocks until b begun cs turn c
 left_at m clocks until b [] cs turn c l = absurd l
-left_at m clocks until b (x ∷ begun) cs turn c (inl l) = record { past = []; x = x; later = begun; are = refl; moves = moves_so x.section.kind l.0; at = l.1; begins = l.2 }
+left_at m clocks until b (x ∷ begun) cs turn c (inl l) = record { past = []; x = x; later = begun; are = refl; moves = moves_kind x.section.kind l.0; at = l.1; begins = l.2 }
 left_at m clocks until b (x ∷ begun) cs turn c (inr l) =
     let y = left_at m clocks until b begun cs turn c l.1 in
     record { past = x ∷ y.past; x = y.x; later = y.later; are = ap (λ (z : List Started). x ∷ z) y.are; moves = y.moves; at = y.at; begins = y.begins }

@@ -1,23 +1,15 @@
 -- What the turns of a section of moves make of a stepper: one part of its steps, those of the section.
 use Rattle.std.proofs.Common.{◌≡◌, ◌≢◌, ℕ, Bool, true, false, ◌+◌, ◌-◌, ◌%◌, ◌^◌, ◌≤◌, ◌⊎◌, List, [], ◌∷◌, ◌++◌, All, length, map, Option, Some, None, refl, ap, sym, ◌∙◌, subst, arith, inl, inr, append_assoc, append-nil}
-use Rattle.std.proofs.lemmas.Bool.Decides.{eqb_tells}
-use Rattle.std.proofs.lemmas.List.Elements.{All-head, All-tail}
-use Rattle.std.specs.List.{flat_map}
-use Rattle.plan_types.specs.declared.plan.Pulse.{Pulse}
+use Rattle.laws_board.proofs.Names.{eqb_tells, All-head, All-tail, flat_map, Pulse, Clocks, Cmd, plain, unit_orders, units_orders, StepUnit, Release, batch_at, units_of, AreBefore, BoardSection, of_stepper, Orders}
 use Rattle.plan_types.specs.Board.{steps_of}
-use Rattle.plan_types.specs.Lines.{Clocks}
-use Rattle.msg_code.specs.declared.cmd.Cmd.{Cmd}
 use Rattle.msg_code.specs.declared.cmd.Cmd.TheVariants as cmd
 use Rattle.plan_types.specs.Plan.{pulse_of}
-use Rattle.board_world.specs.Orders.{plain, unit_orders, units_orders}
-use Rattle.step_feed.specs.Units.{StepUnit}
-use Rattle.step_feed.specs.Pacing.{Release, ArePaced, batch_at, units_of}
-use Rattle.section_units.specs.Sections.{AreBefore, AreBegun, AreChained, BoardSection, of_stepper, steps_said, ticks_meant}
-use Rattle.link_work.specs.Turn.{Orders}
+use Rattle.step_feed.specs.Pacing.{ArePaced}
+use Rattle.section_units.specs.Sections.{AreBegun, AreChained, steps_said, ticks_meant}
 use Rattle.laws_board.specs.sections.Known.{Known, Sent, known_from, knows_of, sent_at, sent_in}
 use Rattle.laws_board.specs.sections.Courses.{Course, IsSince, course_behind, course_from, course_of, next_part}
 use Rattle.laws_board.specs.sections.Homes.{AreInTurn, AreOrdersIn, IsControlIn, IsSectionBy, RunSection, SetsClock, AreReleasedIn}
-use Rattle.laws_board.proofs.sections.Entering.{dir_told}
+use Rattle.laws_board.proofs.sections.Entering.{dir_told, told_by}
 use Rattle.laws_board.proofs.sections.HomeControls.{none_sets}
 use Rattle.laws_board.proofs.sections.HomeUnits.{ArePlain, IsPlain, clock_ahead, other_unit, set_at, unclocked, unit_plain}
 use Rattle.laws_board.proofs.sections.Lists.{sent_append}
@@ -64,9 +56,6 @@ first_own turn tick c u e =
     let first : course_behind u.stepper c (set_at turn u.stepper b) ≡ d = at_own u.stepper d c in
     ap (course_from u.stepper c) (clock_ahead turn u tick e) ∙ ap (λ x. course_from u.stepper x (sent_at turn (unit_orders (unclocked u)))) first ∙ own_unit turn d (unclocked u) refl
 
-same_said : (oid : ℕ) (a b : Bool) (u : StepUnit) (us : List StepUnit) → u.up ≢ None → steps_said oid a (u ∷ us) ≡ steps_said oid b (u ∷ us)
-same_said oid a b u us told = ap (λ d. map (pulse_of oid) (steps_of d (ticks_meant u)) ++ steps_said oid d us) (dir_told a b u.up told)
-
 unit_means : (low : ℕ) (clocks : Clocks) (base oid turn : ℕ) (total : List Pulse) (c : Course) (u : StepUnit) (us : List StepUnit) → low ≤ turn → u.stepper ≡ oid → Means low clocks base oid total c (u ∷ us)
     → Means low clocks base oid total (course_from oid c (sent_at turn (unit_orders u))) us
 unit_means low clocks base oid turn total c u us soon own (inl (begun, said)) =
@@ -74,7 +63,7 @@ unit_means low clocks base oid turn total c u us soon own (inl (begun, said)) =
     let At : ℕ → Type 0 = λ n. course_from n c (sent_at turn (unit_orders u)) ≡ record (next_part turn (base % 2 ^ 32) c) { known = behind_unit n (next_part turn (base % 2 ^ 32) c).known (unclocked u) } in
     let is = subst At own (first_own turn base c u reset) in
     let To : Course → Type 0 = λ x. Means low clocks base oid total x us in
-    subst To (sym is) (inr (soon, same_said oid c.known.up false u us told ∙ said, chained_unset clocks u.last us chain))
+    subst To (sym is) (inr (soon, told_by oid c.known.up false u us told ∙ said, chained_unset clocks u.last us chain))
 unit_means low clocks base oid turn total c u us soon own (inr (since, said, unset)) =
     let At : ℕ → Type 0 = λ n. course_from n c (sent_at turn (unit_orders u)) ≡ record c { known = behind_unit n c.known u } in
     let is = subst At own (own_unit turn c u unset.0) in

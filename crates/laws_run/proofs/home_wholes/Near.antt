@@ -1,11 +1,6 @@
 -- As a homing section starts its board is less than half a round of the 32-bit clock past the turn in which its readings were ordered.
 use Rattle.std.proofs.Common.{◌≡◌, ℕ, ◌+◌, ◌-◌, ◌*◌, ◌^◌, ◌<◌, ◌≤◌, List, [], ◌∷◌, ◌++◌, length, subst, arith}
-use Rattle.plan_types.specs.declared.machine.Machine.{Machine}
-use Rattle.plan_types.specs.Clock.{board_tick, clock_of, turn_ns}
-use Rattle.plan_types.specs.Lines.{Clocks, lines_tick}
-use Rattle.plan_types.specs.Machines.{IsValidMachine, board_at}
-use Rattle.plan_types.specs.Sections.{clocks_at}
-use Rattle.motion_work.specs.Seen.{Started}
+use Rattle.laws_board.proofs.Names.{Machine, board_tick, clock_of, turn_ns, Clocks, lines_tick, IsValidMachine, board_at, clocks_at, Started}
 use Rattle.laws_board.proofs.sections.HeededLinks.{ten_seconds}
 use Rattle.laws_board.proofs.orders.Going.{own_on}
 use Rattle.laws_homing.specs.home_parts.Cuts.{AreOverBefore}
@@ -16,11 +11,7 @@ use Rattle.laws_board.proofs.plans.Rows.{row_from}
 use Rattle.laws_run.proofs.clock_ages.Own.{Own}
 use Rattle.laws_run.proofs.run_headline.Boarded.{valid_at}
 use Rattle.laws_run.proofs.home_headline.Board.{Followed, end_at}
-
--- the tick of a section's start is in range
-pub in_range_at : (clocks : Clocks) (past : List Started) (x : Started) (later : List Started) → StartInRange clocks (past ++ x ∷ later) → lines_tick clocks (x.start * turn_ns) < 2 ^ 64
-in_range_at clocks [] x later r = r.0
-in_range_at clocks (y ∷ past) x later r = in_range_at clocks past x later r.1
+use Rattle.laws_homing.proofs.home_parts.Controls.{range_at}
 
 pub starts_near : (m : Machine) (v : IsValidMachine m) (b turns ready first : ℕ) (clocks : List Clocks) (begun : List Started) → b < length m.boards → Followed m b turns clocks ready begun → AreInARow first begun → ready + 260 ≤ first
     → (past : List Started) (x : Started) (later : List Started) → begun ≡ past ++ x ∷ later → x.start ≤ turns + 1 → lines_tick (clocks_at clocks b) (x.start * turn_ns) < board_tick (clock_of (board_at m b)) (x.start - 250) + 2 ^ 31

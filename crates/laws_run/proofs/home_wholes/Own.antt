@@ -1,52 +1,28 @@
 -- Why the answer of a homing section is of its own readings, in a whole run in which axes home.
 use Rattle.std.proofs.Common.{◌≡◌, ℕ, zero, suc, ◌+◌, ◌-◌, ◌*◌, ◌^◌, ◌<◌, ◌≤◌, List, [], ◌∷◌, ◌++◌, length, map, Option, Some, None, All, get_or, refl, ap, sym, ◌∙◌, subst, arith, append_assoc, length-append, inl, inr}
-use Rattle.std.proofs.Math.Logic.{∥∥₁_map}
-use Rattle.std.proofs.lemmas.List.Elements.{All-head, All-tail}
-use Rattle.plan_types.specs.declared.cause.Cause.{Cause}
+use Rattle.laws_board.proofs.Names.{∥∥₁_map, All-head, All-tail, Cause, Level, AxisDef, Machine, Home, board_tick, clock_of, turn_ns, Clocks, lines_tick, clocks_at, IsValidMachine, axis_at, board_at, Entry, Scene, Switch, pins_of, Homing, answer_in, hears_all, noted, Run, cut_line, Came, GoesOn, known_by, ReportLine, Started, Told, MotionTurn, ReactorTurn, cons_same}
 use Rattle.plan_types.specs.declared.cause.Cause.TheVariants as cause
-use Rattle.plan_types.specs.declared.levels.Level.{Level}
-use Rattle.plan_types.specs.declared.machine.AxisDef.{AxisDef}
-use Rattle.plan_types.specs.declared.machine.Machine.{Machine}
-use Rattle.plan_types.specs.declared.plan.SectionKind.TheVariants.{Home}
-use Rattle.plan_types.specs.Clock.{board_tick, clock_of, turn_ns}
-use Rattle.plan_types.specs.Lines.{Clocks, lines_tick}
-use Rattle.plan_types.specs.Sections.{clocks_at}
 use Rattle.plan_types.proofs.OwnTicks.{rise}
 use Rattle.laws_homing.specs.home_parts.Answers.{ArePastConnecting}
 use Rattle.laws_homing.specs.home_parts.Known.{KnowsLately, StartInRange}
 use Rattle.laws_board.specs.plans.Rows.{AreInARow}
-use Rattle.laws_homing.proofs.clear_groups.Known.{answered_late}
 use Rattle.laws_homing.proofs.switch_runs.Exact.{exact_tick, knew_tick}
 use Rattle.laws_run.specs.clear_homes.Closes.{ClosesAt}
 use Rattle.laws_run.specs.run_headline.Made.{IsMade}
-use Rattle.laws_run.proofs.home_wholes.Near.{in_range_at, starts_near}
-use Rattle.plan_types.specs.Machines.{IsValidAxis, IsValidMachine, axis_at, board_at, no_axis}
+use Rattle.laws_run.proofs.home_wholes.Near.{starts_near}
+use Rattle.plan_types.specs.Machines.{IsValidAxis, no_axis}
 use Rattle.io_core.specs.declared.traits.Files.{Ghosts as Files}
 use Rattle.io_core.specs.declared.traits.Sink.{Ghosts as Sink}
 use Rattle.gcode_program.specs.Programs.{outcome_of}
-use Rattle.wire_scene.specs.declared.scene.Entry.{Entry}
-use Rattle.wire_scene.specs.declared.scene.Scene.{Scene}
-use Rattle.wire_scene.specs.declared.scene.Switch.{Switch}
-use Rattle.link_work.specs.Switches.{pins_of}
 use Rattle.trigger_group.specs.declared.order.End.TheVariants.{Endstop}
-use Rattle.axis_homing.specs.declared.homing.Homing.{Homing}
-use Rattle.axis_homing.specs.Homing.{answer_in, hears_all}
-use Rattle.host_reactor.specs.Notes.{noted}
-use Rattle.host_reactor.specs.Reactor.{Run, cut_line}
-use Rattle.host_reactor.specs.Runs.{Came, GoesOn, known_by}
-use Rattle.report_text.specs.declared.line.ReportLine.{ReportLine}
 use Rattle.laws_board.specs.turns.Turns.{BoardTurn}
 use Rattle.laws_board.specs.clocks.Runs.{IsInRun}
 use Rattle.laws_board.proofs.clocks.Lines.{as_long, run_before}
-use Rattle.motion_work.specs.Seen.{Started}
-use Rattle.motion_work.specs.Told.{Told}
 use Rattle.session_lanes.specs.declared.near.Told as near
 use Rattle.session_run.specs.declared.tell.Kept.{Kept}
-use Rattle.session_work.specs.declared.table.MotionTurn.{MotionTurn}
-use Rattle.session_work.specs.declared.table.ReactorTurn.{ReactorTurn}
 use Rattle.session_run.specs.Boards.{came_from, came_in}
 use Rattle.session_run.specs.Runs.{RunsOver}
-use Rattle.laws_board.proofs.sections.Lists.{cons_same, same_place}
+use Rattle.laws_board.proofs.sections.Lists.{same_place}
 use Rattle.laws_board.specs.plans.Planned.{Plans, PlannerInput}
 use Rattle.laws_board.specs.causes.Short.{HaveShortDictionaries}
 use Rattle.laws_homing.specs.fired_runs.Since.{AllRead, AreNotAhead, AreSoInTurns, BeginsApart, ReadsSwitchTrue}
@@ -69,6 +45,8 @@ use Rattle.laws_run.proofs.run_headline.Joining.{of_sections}
 use Rattle.laws_run.proofs.run_headline.Making.{run_made}
 use Rattle.laws_run.proofs.run_headline.Runs.{run_ended}
 use Rattle.laws_run.proofs.run_headline.Showing.{Ended, Facts, in_none, not_told}
+use Rattle.laws_homing.proofs.home_parts.Known.{answer_late}
+use Rattle.laws_homing.proofs.home_parts.Controls.{range_at}
 
 pub axis_board : (m : Machine) (axes : List AxisDef) (i : ℕ) → i < length axes → All (IsValidAxis m) axes → (get_or axes i no_axis).board < length m.boards
 axis_board m [] i low all = absurd (omega (arith, low))
@@ -188,7 +166,7 @@ module _ (m : Machine) (v : IsValidMachine m) (s : Scene) (ts : List MotionTurn)
         let past_here = past_tail m s.switches ready ahead (y ∷ before) (subst Past are (connected m v s ts p t first rest end c told f short)) in
         let lines_are = knew_tick m s.switches Board ready (x.start - 250) x.start axis k.read.lines t.clocks before (omega arith) (omega (arith, at, early)) l.tracked.kept past_here.1 knows_here.1 k.read.knew in
         let In : List Started → Type 0 = λ z. StartInRange (clocks_at t.clocks Board) z in
-        let small : base < 2 ^ 64 = in_range_at (clocks_at t.clocks Board) past x later (subst In cut (range m v s ts p t first rest end c told f short Board there)) in
+        let small : base < 2 ^ 64 = range_at (clocks_at t.clocks Board) past x later (subst In cut (range m v s ts p t first rest end c told f short Board there)) in
         let freq = (valid_at m.boards Board there v.boards).freq.low in
         let turn_at = k.took.at in
         let set_up = k.took.set_up in
@@ -217,7 +195,7 @@ module _ (m : Machine) (v : IsValidMachine m) (s : Scene) (ts : List MotionTurn)
       ahead y before are x.homing x.tick x.known (ap (λ (n : ℕ). (axis_at m n).board) axis_is) x.answer in
       let Is : ℕ → ℕ → Type 0 = λ n i. IsTriggerOf m s.switches pins s.entries b n i before k.past x.tick in
       let is : Is u.start axis = subst (λ (n : ℕ). Is n axis) start (subst (λ (i : ℕ). Is x.homing.start i) axis_is k.is) in
-      let late = answered_late (length before) x.homing.start (hears_all (noted m y.note (known_by m s.switches before)).clocks y.states x.homing).group (Endstop x.tick) x.answer in
+      let late = answer_late (length before) x.homing.start (hears_all (noted m y.note (known_by m s.switches before)).clocks y.states x.homing).group (Endstop x.tick) x.answer in
       record {
         past = us;
         x = u;

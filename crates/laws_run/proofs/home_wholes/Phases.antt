@@ -1,16 +1,9 @@
 -- What a running board makes of some commands that halt no stepper: all their steps.
 use Rattle.std.proofs.Common.{◌≡◌, ℕ, ◌<◌, ◌≤◌, ◌⊎◌, List, [], ◌∷◌, ◌++◌, Option, Some, None, refl, ap, sym, ◌∙◌, subst, arith, inl, inr, append_assoc, append-nil}
-use Rattle.std.proofs.lemmas.Bool.Decides.{eqb_tells}
-use Rattle.std.proofs.lemmas.List.{append_cancel_left}
-use Rattle.plan_types.specs.declared.plan.BoardState.{BoardState}
-use Rattle.plan_types.specs.declared.plan.BoardState.TheVariants.{Running, Shut}
-use Rattle.plan_types.specs.declared.plan.Pulse.{Pulse}
-use Rattle.msg_code.specs.declared.cmd.Cmd.{Cmd}
+use Rattle.laws_board.proofs.Names.{eqb_tells, append_cancel_left, BoardState, Running, Shut, Pulse, Cmd, Pending, Controller, is_shut, Meant, commands_of, only, Rig, takes, takes_all}
 use Rattle.msg_code.specs.declared.cmd.Cmd.TheVariants as cmd
-use Rattle.board_step.specs.Steps.{Pending}
-use Rattle.board_sim.specs.Board.{Controller, is_shut, stepper_at}
-use Rattle.board_sim.specs.Fair.{Meant, commands_of, only, pending_at}
-use Rattle.board_sim.specs.Rig.{Rig, takes, takes_all}
+use Rattle.board_sim.specs.Board.{stepper_at}
+use Rattle.board_sim.specs.Fair.{pending_at}
 use Rattle.board_sim.proofs.RigShut.{all_left_by}
 use Rattle.laws_board.specs.sections.Known.{AreQueued, Sent, orders_sent}
 use Rattle.laws_board.specs.sections.Timely.{AreTimely}
@@ -27,6 +20,7 @@ use Rattle.laws_board.proofs.sections.Wholes.{no_time, rise_late}
 use Rattle.laws_homing.specs.clear_groups.Resting.{EachTame, IsTame}
 use Rattle.laws_homing.proofs.clear_groups.Off.{running_off}
 use Rattle.laws_homing.proofs.home_runs.Settled.{AllFrom}
+use Rattle.board_world.proofs.Causes.{runs_on}
 
 -- the commands of some start no trigger and bind no stepper
 abbrev pub AllStill : List Sent → Type 0
@@ -135,7 +129,7 @@ next_free low oid queued c r (cmd.ResetStepClock other clock) ticks runs still o
     ]
 next_free low oid queued c r m ticks runs still off on old since = takes_free r oid m still off on (old since)
 
-cons_same : (s t : Sent) (ss ts : List Sent) → s ∷ ss ≡ t ∷ ts → s ≡ t
+pub cons_same : (s t : Sent) (ss ts : List Sent) → s ∷ ss ≡ t ∷ ts → s ≡ t
 cons_same s t ss ts e = cc
 
 one_course : (done : List Sent) (s : Sent) (oid : ℕ) → courses (done ++ s ∷ []) oid ≡ course_behind oid (courses done oid) s
@@ -193,12 +187,9 @@ one_ahead p a by turn done others s r made all up now stands is on (inl (t ∷ t
     let split : (done ++ s ∷ []) ++ to_come ≡ a.upto = append_assoc done (s ∷ []) to_come ∙ ap (λ (x : Sent). done ++ (x ∷ to_come)) same ∙ cut in
     inl (to_come, split, one_still a.low done to_come s r stands.running on (subst (λ (x : Sent). StandsFree a.low done (x ∷ to_come) r) (sym same) free))
 
-clash : (r t f : ℕ) → Running ≡ Shut r t f → ⊥
-clash r t f e = cc
-
 pub shut_on : (r : Rig) (ms : List Meant) (reason t first : ℕ) → r.controller.state ≡ Shut reason t first → (takes_all r (commands_of ms)).rig.controller.state ≡ Running → ⊥
 shut_on r ms reason t first is on =
-    clash reason t first (sym on ∙ ap (λ (x : Controller). x.state) (all_left_by r (commands_of ms) (ap is_shut is)) ∙ is)
+    runs_on reason t first (sym on ∙ ap (λ (x : Controller). x.state) (all_left_by r (commands_of ms) (ap is_shut is)) ∙ is)
 
 -- a board that runs behind some commands ran before
 pub ran_before : (r : Rig) (ms : List Meant) → (takes_all r (commands_of ms)).rig.controller.state ≡ Running → r.controller.state ≡ Running

@@ -1,26 +1,13 @@
 -- Where the sections that home stand to one of moves, and the set-ups of which homing sections a board is sent around it.
 use Rattle.std.proofs.Common.{◌≡◌, ℕ, zero, suc, true, false, cond, ◌+◌, ◌-◌, ◌<◌, ◌≤◌, ◌⊎◌, inl, inr, Bool, List, [], ◌∷◌, ◌++◌, length, take, drop, Option, Some, refl, ap, sym, ◌∙◌, subst, arith}
 use Rattle.std.specs.Prelude.{◌&&◌}
-use Rattle.std.proofs.lemmas.Bool.Decides.{eqb_tells, leb_tells}
+use Rattle.laws_board.proofs.Names.{eqb_tells, leb_tells, BoardClock, Level, Machine, Home, Moves, Entry, Switch, AreTurns, orders, IsTurn, LinkState, Orders, Homing, noted, Came, GoesOn, known_by, Started}
 use Rattle.std.proofs.lemmas.List.{take-append-le, take_all}
 use Rattle.plan_types.specs.Sections.{is_home}
-use Rattle.plan_types.specs.declared.clock.BoardClock.{BoardClock}
-use Rattle.plan_types.specs.declared.levels.Level.{Level}
-use Rattle.plan_types.specs.declared.machine.Machine.{Machine}
-use Rattle.plan_types.specs.declared.plan.SectionKind.TheVariants.{Home, Moves}
-use Rattle.wire_scene.specs.declared.scene.Entry.{Entry}
-use Rattle.wire_scene.specs.declared.scene.Switch.{Switch}
-use Rattle.link_work.specs.Runs.{AreTurns}
-use Rattle.link_work.specs.Stands.{orders}
-use Rattle.link_work.specs.Turn.{IsTurn, LinkState, Orders}
-use Rattle.axis_homing.specs.declared.homing.Homing.{Homing}
-use Rattle.host_reactor.specs.Notes.{noted}
-use Rattle.host_reactor.specs.Runs.{Came, GoesOn, known_by}
 use Rattle.laws_board.specs.turns.Turns.{AreBoardTurns, BoardTurn, stands_after}
 use Rattle.laws_board.specs.clocks.Runs.{IsInRun, orders_in}
 use Rattle.laws_board.proofs.clocks.Lines.{as_long, run_before}
 use Rattle.laws_board.proofs.clocks.Orders.{order_length}
-use Rattle.motion_work.specs.Seen.{Started}
 use Rattle.laws_board.specs.plans.Homed.{is_set_in, stops_of}
 use Rattle.laws_homing.proofs.home_runs.Settled.{later_orders}
 use Rattle.laws_homing.specs.home_plans.Notes.{CameNotes, WasBegun}
@@ -30,7 +17,7 @@ use Rattle.laws_board.proofs.plans.Rows.{Among, among_here, row_from, row_later,
 use Rattle.laws_run.proofs.home_wholes.Resting.{AllAnswered}
 use Rattle.laws_run.specs.home_wholes.Still.{BringStill, EachStill}
 use Rattle.laws_run.proofs.home_wholes.Starting.{IsSettingUp, control_either}
-use Rattle.laws_homing.proofs.home_runs.Along.{one_end}
+use Rattle.link_work.proofs.Shut.{one_turn}
 
 -- a section among others, by one of them
 pub place_of : (past : List Started) (x : Started) (later us : List Started) (u : Started) (vs : List Started) → past ++ x ∷ later ≡ us ++ u ∷ vs → Among u past ⊎ ((u ≡ x) ⊎ Among u later)
@@ -186,7 +173,7 @@ stands_so clock first (x ∷ turns) m are t =
     let e : 0 + length (orders_in turns) ≡ length turns = (let f = order_length turns in omega (arith, f)) in
     let here = subst (λ (k : ℕ). IsTurn clock k o last.0 m) e last.2 in
     let now = subst (λ (y : LinkState). IsTurn clock (length turns) o y m) same here in
-    one_end clock (length turns) o (stands_after first turns) m x.after now are.0.0
+    one_turn clock (length turns) o (stands_after first turns) m x.after now are.0.0
 
 -- the first turns of a run
 pub record Prefix (m : Machine) (switches : List Switch) (pins : List (List Level)) (entries : List Entry) (b n : ℕ) (begun : List Started) (turns : List BoardTurn) : Type 0 where

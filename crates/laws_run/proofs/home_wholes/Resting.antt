@@ -1,36 +1,10 @@
 -- A board between homing sections: no trigger of it can trigger, and no command is left that starts one.
 use Rattle.std.proofs.Common.{◌≡◌, ℕ, ◌+◌, ◌≤◌, ◌⊎◌, inl, inr, false, List, [], ◌∷◌, ◌++◌, length, drop, Option, Some, None, refl, ap, sym, ◌∙◌, subst, arith, append_assoc, append-nil, length-append}
-use Rattle.std.specs.List.{flat_map}
-use Rattle.std.proofs.lemmas.List.{append_cancel_left, take-append-drop}
-use Rattle.plan_types.specs.declared.clock.BoardClock.{BoardClock}
-use Rattle.plan_types.specs.declared.levels.Level.{Level}
-use Rattle.plan_types.specs.declared.machine.BoardDef.{BoardDef}
-use Rattle.plan_types.specs.declared.machine.Machine.{Machine}
-use Rattle.plan_types.specs.declared.plan.BoardState.TheVariants.{Running}
-use Rattle.plan_types.specs.Clock.{clock_of}
-use Rattle.plan_types.specs.Machines.{IsValidMachine, board_at}
-use Rattle.wire_scene.specs.declared.scene.Entry.{Entry}
-use Rattle.wire_scene.specs.declared.scene.Switch.{Switch}
-use Rattle.link_core.specs.Core.{Reply}
-use Rattle.board_sim.specs.Fair.{Meant, commands_of}
-use Rattle.board_sim.specs.Rig.{Rig, Slot, slot_at, takes, takes_all}
-use Rattle.board_sim.proofs.Bound.{one_slot}
+use Rattle.laws_board.proofs.Names.{flat_map, append_cancel_left, take-append-drop, BoardClock, Level, BoardDef, Machine, Running, clock_of, IsValidMachine, board_at, Entry, Switch, Reply, Meant, commands_of, Rig, Slot, slot_at, takes, takes_all, one_slot, Event, IsOrdered, Core, Step, Do, Turn, does, after_event, in_turn, run_world, new_world, takes_in, queued_in, first_state, orders, LinkState, turns_are_steps, Member, Homing, members_of, trigger_of, noted, Came, known_by, state_at}
 use Rattle.board_sim.proofs.Enough.{none_at}
-use Rattle.board_world.specs.declared.event.Event.{Event}
 use Rattle.board_world.specs.declared.event.Event.TheVariants as event
-use Rattle.board_world.specs.Stands.{IsOrdered}
-use Rattle.board_world.specs.World.{Core, Step, Do, Turn, does, after_event, in_turn, orders_of, queued_by as step_queues, run_world, new_world, takes_in}
+use Rattle.board_world.specs.World.{orders_of, queued_by as step_queues}
 use Rattle.board_world.proofs.Runs.{ordered_by, ordered_turn, start_ordered}
-use Rattle.link_work.specs.Runs.{queued_in}
-use Rattle.link_work.specs.Stands.{first_state, orders}
-use Rattle.link_work.specs.Turn.{LinkState}
-use Rattle.link_work.proofs.Turns.{turns_are_steps}
-use Rattle.trigger_group.specs.declared.order.Member.{Member}
-use Rattle.axis_homing.specs.declared.homing.Homing.{Homing}
-use Rattle.axis_homing.specs.Rising.{members_of}
-use Rattle.board_asking.specs.Machine.{trigger_of}
-use Rattle.host_reactor.specs.Notes.{noted}
-use Rattle.host_reactor.specs.Runs.{Came, known_by, state_at}
 use Rattle.laws_board.specs.turns.Turns.{AreBoardTurns, BoardTurn, latest_state, stands_after}
 use Rattle.laws_board.specs.clocks.Runs.{IsInRun}
 use Rattle.laws_board.proofs.clocks.Lines.{as_long, run_before}
@@ -57,6 +31,7 @@ use Rattle.laws_homing.specs.clear_boards.Limited.{AllFired}
 use Rattle.laws_run.proofs.home_wholes.Section.{queued_tame}
 use Rattle.laws_run.proofs.home_wholes.Starting.{IsSettingUp, control_either}
 use Rattle.laws_run.proofs.home_wholes.Still.{time_passes}
+use Rattle.laws_homing.proofs.switch_runs.Exact.{front_part}
 
 -- some commands start no trigger
 abbrev MeanTame : List Meant → Type 0
@@ -317,15 +292,6 @@ section_rests m switches pins entries b start end total hm order v are member re
   | inr so ↦ read_rests m switches pins entries b start end total hm order so v are member recent old cut still soon runs
 ]
 
-later_past : (xs ys us vs : List BoardTurn) → xs ++ ys ≡ us ++ vs → length ys ≤ length vs → (mid : List BoardTurn) × (vs ≡ mid ++ ys)
-later_past xs ys us vs e h = elim (cuts us vs xs ys (sym e)) [
-  | inl p ↦ (p.0, p.2)
-  | inr p ↦
-      let long = ap length p.3 in
-      let more = length-append p.1 vs in
-      absurd (omega (arith, long, more, h))
-]
-
 -- a turn of such a section's set-up
 at_turn : (m : Machine) (switches : List Switch) (pins : List (List Level)) (entries : List Entry) (b : ℕ) (t : BoardTurn) (turns : List BoardTurn) (from start : ℕ) (ms : List Member) (came : List Came)
     → IsInRun m switches pins entries b came (t ∷ turns) → HomesFrom m switches from start ms came → from ≤ length turns → EachStill t.control.commands ⊎ IsMember b ms
@@ -367,7 +333,7 @@ scan m switches pins entries b until stops total upto v are homed runs (c ∷ be
           let (start, soon, late, order, hm) = homed q end (omega (arith, set, u_soon, long, size, upto)) is within in
           let u_late = u.late in
           let at_end = hm.long in
-          let sub = later_past later (t ∷ turns) hm.later hm.past (sym cut ∙ hm.are) (omega (arith, at_end, order, late, set, u_late, long)) in
+          let sub = front_part later (t ∷ turns) hm.later hm.past (sym cut ∙ hm.are) (omega (arith, at_end, order, late, set, u_late, long)) in
           let mid = sub.0 in
           let here = subst (λ (x : List BoardTurn). IsInRun m switches pins entries b hm.before x) sub.1 hm.run_is in
           let old = earlier m switches pins entries b hm.before mid (t ∷ turns) 0 hm.answered.from hm.homing.start (members_of hm.homing.group) here hm.answered.since

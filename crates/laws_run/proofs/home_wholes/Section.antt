@@ -1,24 +1,9 @@
 -- A section of moves on a board in a run in which axes home: its steps are all made once its commands are taken.
 use Rattle.std.proofs.Common.{◌≡◌, ℕ, suc, false, ◌+◌, ◌-◌, ◌<◌, ◌≤◌, ◌⊎◌, List, [], ◌∷◌, ◌++◌, length, map, Bool, Option, Some, None, refl, ap, sym, ◌∙◌, subst, arith, inl, inr, append_assoc, append-nil, length-append}
-use Rattle.std.proofs.lemmas.List.Elements.{All-head}
-use Rattle.std.specs.List.{flat_map}
-use Rattle.plan_types.specs.declared.levels.Level.{Level}
-use Rattle.plan_types.specs.declared.machine.BoardDef.{BoardDef}
-use Rattle.plan_types.specs.declared.plan.BoardState.{BoardState}
-use Rattle.plan_types.specs.declared.plan.BoardState.TheVariants.{Running, Shut}
-use Rattle.plan_types.specs.Lines.{Clocks}
-use Rattle.msg_code.specs.Units.{dir_commands, reset_commands, step_command}
-use Rattle.msg_code.specs.declared.cmd.Cmd.{Cmd}
+use Rattle.laws_board.proofs.Names.{All-head, flat_map, Level, BoardDef, BoardState, Running, Shut, Clocks, dir_commands, reset_commands, step_command, Cmd, Meant, commands_of, only, plain, unit_orders, units_orders, Core, Step, run_world, new_world, StepUnit, AreBefore, base_of, section_steps, queued_in, Orders, run_append}
 use Rattle.msg_code.specs.declared.cmd.Cmd.TheVariants as cmd
 use Rattle.board_sim.specs.Board.{stepper_at}
-use Rattle.board_sim.specs.Fair.{Meant, commands_of, only}
-use Rattle.board_world.specs.Orders.{plain, unit_orders, unit_ticks, units_orders}
-use Rattle.board_world.specs.World.{Core, Step, run_world, new_world}
-use Rattle.step_feed.specs.Units.{StepUnit}
-use Rattle.section_units.specs.Sections.{AreBefore, base_of, section_steps}
-use Rattle.link_work.specs.Runs.{queued_in}
-use Rattle.link_work.specs.Turn.{Orders}
-use Rattle.link_work.proofs.Sending.{run_append}
+use Rattle.board_world.specs.Orders.{unit_ticks}
 use Rattle.laws_board.specs.sections.Courses.{AreMadeFor, Course, IsMadeBy, IsSince, courses, course_from, no_course, course_parts}
 use Rattle.laws_board.specs.sections.Homes.{AreBeforeFirst, AreInTurn, AreOrdersIn, AreReleasedIn, IsHomeRun, IsHomeSpan, IsMovesIn, IsSectionBy, RunSection}
 use Rattle.laws_board.specs.sections.Ends.{MayBe}
@@ -30,7 +15,7 @@ use Rattle.laws_board.proofs.sections.Clocks.{ticks_rise}
 use Rattle.laws_board.proofs.sections.Halted.{keeps_fronts, made_of_all}
 use Rattle.laws_board.proofs.sections.HomeAll.{run_fronts}
 use Rattle.laws_board.proofs.sections.HomeSpans.{before_early, fronts_early, script_of}
-use Rattle.laws_board.proofs.sections.Lists.{cuts, orders_append, own_up}
+use Rattle.laws_board.proofs.sections.Lists.{cuts, orders_append, own_up, orders_long}
 use Rattle.laws_board.proofs.sections.Spans.{all_split, early_up, section_early, sent_in_append}
 use Rattle.laws_board.proofs.sections.Releasing.{AreFrom}
 use Rattle.laws_board.proofs.sections.Standing.{BoardStands, made_for}
@@ -42,9 +27,11 @@ use Rattle.laws_run.proofs.home_wholes.Phases.{Aim, AllBefore, AllStill, AreFree
 use Rattle.laws_run.proofs.home_wholes.Stages.{Stage, done_same, turns_stage}
 use Rattle.laws_run.specs.home_wholes.Still.{BringStill, EachStill, IsStill, IsStillAt}
 use Rattle.laws_run.proofs.home_headline.Stop.{never_shut}
-use Rattle.laws_board.proofs.sections.Wholes.{none_long, sent_orders}
+use Rattle.laws_board.proofs.sections.Wholes.{sent_orders}
 use Rattle.laws_homing.specs.clear_groups.Resting.{EachTame, IsTame}
 use Rattle.laws_homing.proofs.home_runs.Settled.{AllFrom, from_in}
+use Rattle.board_world.proofs.Causes.{runs_on}
+use Rattle.plan_types.proofs.Facts.{none_long}
 
 -- the commands of some that are queued start no trigger and bind no stepper
 abbrev MeanStill : List Meant → Type 0
@@ -109,13 +96,6 @@ before_both turn (x ∷ xs) ys a b = (a.0, before_both turn xs ys a.1 b)
 pub before_in : (turn to : ℕ) (os : List Orders) → turn + length os ≤ to → AllBefore to (sent_in turn os)
 before_in turn to [] l = tt
 before_in turn to (o ∷ os) l = before_both to (sent_at turn (queued_in o)) (sent_in (turn + 1) os) (before_at turn to (queued_in o) (omega (arith, l))) (before_in (turn + 1) to os (omega (arith, l)))
-
-clash : (r t f : ℕ) → Running ≡ Shut r t f → ⊥
-clash r t f e = cc
-
-orders_long : (ss : List Sent) → length (orders_sent ss) ≡ length ss
-orders_long [] = refl
-orders_long (x ∷ ss) = ap (λ n. suc n) (orders_long ss)
 
 -- a command among others
 pub among_before : (n : ℕ) (xs : List Sent) (x : Sent) (ys : List Sent) → AllBefore n (xs ++ x ∷ ys) → x.turn < n
@@ -201,7 +181,7 @@ module _ (b : BoardDef) (pins : List (List Level)) (own : ℕ → ℕ) (clocks :
             ]
         | inr d ↦
             let (reason, tick, first_tick, state, may) = d.shut in
-            clash reason tick first_tick (sym running ∙ state)
+            runs_on reason tick first_tick (sym running ∙ state)
       ]
     where
       behind_front : (m : List Sent) → Sent_by ≡ r.split.front ++ m → t ∷ tail ≡ m ++ sent_in Stop behind → length Sent_by ≤ length r.split.front → ⊥
@@ -344,7 +324,7 @@ module _ (b : BoardDef) (pins : List (List Level)) (own : ℕ → ℕ) (clocks :
             inl (to_come, upto, (inr (g.left, sent_in a mine, refl, off.1, held, orders_still a mine brings), off.0, λ oid since. absurd (none_since oid a no_course done fresh (no_since a) since)))
         | inr d ↦
             let (reason, t, first_tick, state, may) = d.shut in
-            absurd (clash reason t first_tick (sym running ∙ state))
+            absurd (runs_on reason t first_tick (sym running ∙ state))
       ]
 
   last_stage : Stage P aim Last
@@ -398,7 +378,7 @@ module _ (b : BoardDef) (pins : List (List Level)) (own : ℕ → ℕ) (clocks :
             ]
         | inr d ↦
             let (reason, t, first_tick, state, may) = d.shut in
-            absurd (clash reason t first_tick (sym running ∙ state))
+            absurd (runs_on reason t first_tick (sym running ∙ state))
       ]
 
   pub made_where_taken : Last.board.controller.state ≡ Running → Last.taken ≡ Last.queued → AllSteps
@@ -422,5 +402,5 @@ module _ (b : BoardDef) (pins : List (List Level)) (own : ℕ → ℕ) (clocks :
             ]
         | inr d ↦
             let (reason, t, first_tick, state, may) = d.shut in
-            absurd (clash reason t first_tick (sym running ∙ state))
+            absurd (runs_on reason t first_tick (sym running ∙ state))
       ]

@@ -1,50 +1,24 @@
 -- Why the lines of a whole run in which axes home tell whole plans of sections of moves.
 use Rattle.std.proofs.Common.{◌≡◌, ◌≢◌, ℕ, ◌+◌, ◌<◌, ◌≤◌, Bool, List, [], ◌∷◌, ◌++◌, All, length, map, take, Option, None, Some, refl, ap, sym, ◌∙◌, subst, arith, inl, inr, append-nil, length-append}
 use Rattle.std.specs.Prelude.{if◌then◌else◌}
-use Rattle.std.proofs.Math.Logic.{∥∥₁_map}
-use Rattle.std.proofs.lemmas.Bool.Decides.{eqb_tells, leb_tells}
-use Rattle.std.proofs.lemmas.Grind.{flat_map-append}
+use Rattle.laws_board.proofs.Names.{∥∥₁_map, eqb_tells, leb_tells, flat_map-append, Cause, Level, Machine, Moves, clock_of, IsValidMachine, board_at, stepper_at, stepper_plan, ShutNews, State, Entry, Scene, Switch, pins_of, Orders, Known, Connecting, Stopping, noted, Run, Came, known_by, AreStarted, Started, Told, ReportLine, MotionTurn, ReactorTurn, parts_on}
 use Rattle.std.proofs.lemmas.List.{take_all}
-use Rattle.plan_types.specs.declared.cause.Cause.{Cause}
 use Rattle.plan_types.specs.declared.cause.Cause.TheVariants as cause
-use Rattle.plan_types.specs.declared.levels.Level.{Level}
-use Rattle.plan_types.specs.declared.machine.Machine.{Machine}
 use Rattle.plan_types.specs.declared.plan.ReadStop.TheVariants as read
-use Rattle.plan_types.specs.declared.plan.SectionKind.TheVariants.{Moves}
-use Rattle.plan_types.specs.Clock.{clock_of}
-use Rattle.plan_types.specs.Machines.{IsValidMachine, board_at, stepper_at}
-use Rattle.plan_types.specs.Sections.{stepper_plan}
-use Rattle.msg_code.specs.declared.talk.ShutNews.{ShutNews}
-use Rattle.msg_code.specs.declared.talk.State.{State}
 use Rattle.io_core.specs.declared.traits.Files.{Ghosts as Files}
 use Rattle.io_core.specs.declared.traits.Sink.{Ghosts as Sink}
-use Rattle.wire_scene.specs.declared.scene.Entry.{Entry}
-use Rattle.wire_scene.specs.declared.scene.Scene.{Scene}
-use Rattle.wire_scene.specs.declared.scene.Switch.{Switch}
-use Rattle.link_work.specs.Switches.{pins_of}
-use Rattle.link_work.specs.Turn.{Orders}
-use Rattle.host_reactor.specs.declared.ordered.Known.{Known}
-use Rattle.host_reactor.specs.declared.ordered.Phase.TheVariants.{Connecting, Running, Stopping}
-use Rattle.host_reactor.specs.Notes.{noted}
-use Rattle.host_reactor.specs.Reactor.{Run}
+use Rattle.host_reactor.specs.declared.ordered.Phase.TheVariants.{Running}
 use Rattle.host_reactor.specs.Running.{late_of}
-use Rattle.host_reactor.specs.Runs.{Came, known_by}
 use Rattle.laws_board.specs.turns.Turns.{BoardTurn}
 use Rattle.laws_board.specs.clocks.Runs.{IsInRun, orders_in}
 use Rattle.laws_board.proofs.clocks.Lines.{noted_phase, run_before}
 use Rattle.laws_board.proofs.clocks.Orders.{order_length}
-use Rattle.motion_work.specs.Seen.{AreStarted, Started}
-use Rattle.motion_work.specs.Told.{Told}
-use Rattle.report_text.specs.declared.line.ReportLine.{ReportLine}
 use Rattle.session_lanes.specs.declared.near.Told as near
-use Rattle.session_work.specs.declared.table.MotionTurn.{MotionTurn}
-use Rattle.session_work.specs.declared.table.ReactorTurn.{ReactorTurn}
 use Rattle.session_run.specs.declared.tell.Kept.{Kept}
 use Rattle.session_run.specs.Boards.{AreReactorTurns, came_from, came_in}
 use Rattle.session_run.specs.Runs.{RunsOver}
 use Rattle.laws_run.specs.lanes.Boards.{IsInWhole}
 use Rattle.section_units.specs.Sections.{AreReleased}
-use Rattle.motion_work.specs.Boards.{parts_on}
 use Rattle.laws_board.specs.sections.Boards.{IsWindow}
 use Rattle.laws_board.specs.sections.Stops.{NeverStop}
 use Rattle.laws_board.specs.plans.Boards.{TookStates, lines_between, times_of}
@@ -55,7 +29,7 @@ use Rattle.laws_board.proofs.plans.Running.{started_in}
 use Rattle.laws_board.proofs.plans.Spreading.{plans_spread}
 use Rattle.laws_run.specs.run_ends.Ends.{EndsSo, GoesThrough, WentThrough}
 use Rattle.laws_run.proofs.run_ends.Counting.{run_counts}
-use Rattle.laws_run.proofs.run_ends.Ending.{AtLast, AtStop, ends_so, own_cause, stops_so, went}
+use Rattle.laws_run.proofs.run_ends.Ending.{AtLast, AtStop, ends_so, own_cause, stops_so, went, some_none}
 use Rattle.laws_run.specs.run_headline.Made.{IsMade}
 use Rattle.laws_run.specs.run_headline.Timely.{clocks_heard, link_of, ready_heard}
 use Rattle.laws_run.proofs.run_headline.Boarded.{came_split}
@@ -76,10 +50,6 @@ use Rattle.laws_run.specs.home_wholes.Whole.{AllWholeHomes, WholeHomes}
 use Rattle.laws_run.proofs.home_wholes.Lines.{Here, Turns_of, as_told_by, count, idle_many, passed_told, run_of, took_states}
 use Rattle.laws_run.proofs.home_wholes.Places.{orders_front}
 use Rattle.laws_run.proofs.home_headline.Unasked.{never_stop}
-
--- a board that isn't late has no such news
-some_none : (c : Cause) → Some c ≡ None → ⊥
-some_none c e = cc
 
 not_late : (j : ℕ) (o : Option ShutNews) → late_of j o ≡ None → (n : ShutNews) → o ≡ Some n → n.reason ≡ 1 → ⊥
 not_late j o e n is one =

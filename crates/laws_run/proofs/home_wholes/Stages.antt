@@ -1,33 +1,24 @@
 -- So over the turns of a board and its link.
 use Rattle.std.proofs.Common.{◌≡◌, ℕ, ◌+◌, ◌≤◌, List, [], ◌∷◌, ◌++◌, length, drop, map, refl, ap, sym, ◌∙◌, subst, arith, inl, inr, append_assoc, append-nil, length-append}
-use Rattle.std.proofs.lemmas.List.{append_cancel_left, take-append-drop}
-use Rattle.plan_types.specs.declared.plan.BoardState.TheVariants.{Running, Shut}
-use Rattle.plan_types.specs.declared.plan.Pulse.{Pulse}
-use Rattle.board_sim.specs.Board.{is_shut}
-use Rattle.board_sim.specs.Fair.{Meant, commands_of}
-use Rattle.board_sim.specs.Rig.{Rig, takes_all}
+use Rattle.laws_board.proofs.Names.{append_cancel_left, take-append-drop, Running, Shut, Pulse, is_shut, Meant, commands_of, Rig, takes_all, Event, plain, units_orders, Core, Step, Do, Turn, world_after, does, after_event, run_world, takes_in, Orders, queued_in, run_append}
 use Rattle.board_sim.proofs.RigShut.{passes_left}
 use Rattle.board_sim.proofs.Steps.{only-append}
-use Rattle.board_world.specs.declared.event.Event.{Event}
 use Rattle.board_world.specs.declared.event.Event.TheVariants.{Arrive, Control, Pass, Put, Repeat}
-use Rattle.board_world.specs.Orders.{plain, units_orders}
-use Rattle.board_world.specs.World.{Core, Step, Do, Turn, world_after, does, after_event, orders_of, run_world, takes_in}
+use Rattle.board_world.specs.World.{orders_of}
 use Rattle.board_world.proofs.Runs.{ordered_by}
-use Rattle.link_work.specs.Turn.{Orders}
-use Rattle.link_work.specs.Runs.{queued_in}
-use Rattle.link_work.proofs.Sending.{run_append}
 use Rattle.laws_board.specs.sections.Events.{AreQuiet, AreTurnsOf, QueuesNothing, IsTurnOf}
 use Rattle.laws_board.specs.sections.Known.{AreQueued, Sent, orders_sent, sent_at, sent_in}
 use Rattle.laws_board.specs.sections.Timely.{AllTimely, AreTimely, IsTimelyAt}
 use Rattle.laws_board.specs.sections.Courses.{courses, no_course, AllHeed, AreAllGood, AreInTime, AreSettled}
 use Rattle.laws_board.proofs.sections.Coursed.{pass_keeps, quiet_keep, settled_finds, settled_first, settles}
-use Rattle.laws_board.proofs.sections.Lists.{up_at, up_behind, up_front, cuts, orders_append, own_up, sent_append}
+use Rattle.laws_board.proofs.sections.Lists.{up_at, up_behind, up_front, cuts, orders_append, own_up, sent_append, orders_long}
 use Rattle.laws_board.proofs.sections.Stepping.{Finds, Going, Keeps, Script, TakesFind, finds_first, finds_next, good_behind, good_front, queues_on, quiet_keeps, time_front, heed_front, heed_behind}
 use Rattle.laws_board.proofs.sections.Turning.{timely_behind, timely_front}
 use Rattle.laws_run.proofs.home_wholes.Phases.{Aim, Phase, more_made, shut_on, take_ahead}
 use Rattle.laws_run.proofs.home_wholes.Still.{time_passes}
 use Rattle.laws_board.proofs.sections.Running.{left_first}
-use Rattle.laws_board.proofs.sections.Wholes.{none_long, orders_length}
+use Rattle.board_world.proofs.Causes.{runs_on}
+use Rattle.plan_types.proofs.Facts.{none_long}
 
 -- how a board stands to an aim, while it runs
 abbrev pub Stage : (p : Script) → Aim p → Core → Type 0
@@ -46,10 +37,7 @@ front_same xs ys zs ws e same =
     ]
 
 pub done_same : (xs ys zs ws all : List Sent) → xs ++ ys ≡ all → zs ++ ws ≡ all → orders_sent xs ≡ orders_sent zs → xs ≡ zs
-done_same xs ys zs ws all e f same = front_same xs ys zs ws (e ∙ sym f) (sym (orders_length xs) ∙ ap length same ∙ orders_length zs)
-
-clash : (r t f : ℕ) → Running ≡ Shut r t f → ⊥
-clash r t f e = cc
+done_same xs ys zs ws all e f same = front_same xs ys zs ws (e ∙ sym f) (sym (orders_long xs) ∙ ap length same ∙ orders_long zs)
 
 left_whole : (p : Script) (by turn : ℕ) (sent rest : List Sent) (h : Core) (r : Going p by turn sent h) (first others : List Sent) → sent ++ rest ≡ p.all → r.left ≡ first ++ others → r.done ++ (first ++ (others ++ rest)) ≡ p.all
 left_whole p by turn sent rest h r first others all split =
@@ -109,7 +97,7 @@ event_stage p a by turn sent h e none k after_it board made timely finds g on do
                 subst Goes is these soon (λ oid st. (finds r oid st).0) ran taken
             | inr d ↦
                 let (reason, t, tick, state, may) = d.shut in
-                absurd (clash reason t tick (sym on ∙ state))
+                absurd (runs_on reason t tick (sym on ∙ state))
           ]
       | inr d ↦
           let (reason, t, first, state, may) = d.shut in
@@ -156,7 +144,7 @@ pass_stage p a by turn t sent h k g on done left all taken =
       | inr d ↦
           let (reason, tick, first, state, may) = d.shut in
           let stays = passes_left h.board t (ap is_shut state) in
-          absurd (clash reason tick first (sym on ∙ stays.1 ∙ state))
+          absurd (runs_on reason tick first (sym on ∙ stays.1 ∙ state))
     ]
 
 -- a turn

@@ -1,55 +1,25 @@
 -- Which controls start a trigger or bind a stepper: those of the set-up of a homing section of which the board is a member.
 use Rattle.std.proofs.Common.{◌≡◌, ℕ, ◌+◌, ◌-◌, ◌*◌, ◌≤◌, ◌==◌, ◌⊎◌, inl, inr, Bool, true, false, cond, List, [], ◌∷◌, ◌++◌, length, map, take, drop, Option, Some, None, refl, sym, subst, arith}
 use Rattle.std.specs.Prelude.{nat_lt}
-use Rattle.std.proofs.lemmas.Bool.{eqb-true}
-use Rattle.std.proofs.lemmas.Bool.Decides.{eqb_tells}
-use Rattle.plan_types.specs.declared.levels.Level.{Level}
-use Rattle.plan_types.specs.declared.machine.AxisDef.{AxisDef}
-use Rattle.plan_types.specs.declared.machine.Machine.{Machine}
-use Rattle.plan_types.specs.Lines.{Clocks}
-use Rattle.plan_types.specs.Machines.{axis_at, board_at}
-use Rattle.msg_code.specs.declared.cmd.Cmd.{Cmd}
+use Rattle.laws_board.proofs.Names.{eqb-true, eqb_tells, Level, AxisDef, Machine, Clocks, axis_at, board_at, Cmd, State, Control, Entry, Switch, Ctl, End, Member, Order, Goes, Rests, Sends, Homes, Starts, Fired, Seen, GroupState, all_fired, first_timeout, phase, relay_in, relays_in, round_of, steppers, Homing, answer_in, by_answer, command_to, commands_to, hears_all, homing_turn, order_command, members_of, Asking, Stage, Config, Configure, Connected, Identify, Uptime, Setup, is_question_due, ready, asks_now, clock_question, drifts, waits_in, configuration, Known, noted, Reacted, homing_commands, stop_command, stops, Came, known_by, last_reacted, states-kept}
 use Rattle.msg_code.specs.declared.cmd.Cmd.TheVariants as cmd
-use Rattle.msg_code.specs.declared.talk.State.{State}
-use Rattle.msg_code.specs.declared.unit.Control.{Control}
-use Rattle.wire_scene.specs.declared.scene.Entry.{Entry}
-use Rattle.wire_scene.specs.declared.scene.Switch.{Switch}
-use Rattle.trigger_group.specs.declared.order.Ctl.{Ctl}
-use Rattle.trigger_group.specs.declared.order.End.{End}
 use Rattle.trigger_group.specs.declared.order.End.TheVariants as end
-use Rattle.trigger_group.specs.declared.order.Member.{Member}
-use Rattle.trigger_group.specs.declared.order.Order.{Order}
 use Rattle.trigger_group.specs.declared.order.Order.TheVariants as order
 use Rattle.trigger_group.specs.declared.round.Phase.{Phase}
-use Rattle.trigger_group.specs.declared.round.Phase.TheVariants.{Goes, Rests, Sends}
 use Rattle.trigger_group.specs.declared.round.Round.{Round}
-use Rattle.trigger_group.specs.declared.round.Round.TheVariants.{Homes, Relays, Resets, Starts, Timeouts}
-use Rattle.trigger_group.specs.declared.seen.Fired.{Fired}
-use Rattle.trigger_group.specs.declared.seen.Seen.{Seen}
-use Rattle.trigger_group.specs.Group.{GroupState, all_fired, first_timeout, goes, limit, orders, orders_of_group, orders_to, phase, relay_in, relays_in, reset, round_of, steppers, stop, to_board, unless_fired}
-use Rattle.axis_homing.specs.declared.homing.Homing.{Homing}
-use Rattle.axis_homing.specs.Homing.{answer_in, by_answer, command_to, commands_to, hears_all, homing_turn, order_command}
-use Rattle.axis_homing.specs.Rising.{members_of}
-use Rattle.board_asking.specs.declared.asking.Asking.{Asking}
-use Rattle.board_asking.specs.declared.asking.Stage.{Stage}
-use Rattle.board_asking.specs.declared.asking.Stage.TheVariants.{Config, Configure, Connected, Identify, Uptime}
-use Rattle.board_asking.specs.declared.setup.Setup.{Setup}
+use Rattle.trigger_group.specs.declared.round.Round.TheVariants.{Relays, Resets, Timeouts}
+use Rattle.trigger_group.specs.Group.{goes, limit, orders, orders_of_group, orders_to, reset, stop, to_board, unless_fired}
 use Rattle.board_asking.specs.declared.setup.Setup.TheVariants.{Endstop, Finish, Oids, Stepper, Trsync}
-use Rattle.board_asking.specs.Asking.{asks, is_question_due, question, ready}
-use Rattle.board_asking.specs.Drift.{asks_now, clock_question, drifts, waits_in}
-use Rattle.board_asking.specs.Machine.{configuration, control_bytes, fitting, setup_command}
-use Rattle.host_reactor.specs.declared.ordered.Known.{Known}
-use Rattle.host_reactor.specs.Notes.{noted}
-use Rattle.host_reactor.specs.Reactor.{Reacted, homing_commands, stop_command, stops}
-use Rattle.host_reactor.specs.Runs.{Came, known_by, last_reacted}
+use Rattle.board_asking.specs.Asking.{asks, question}
+use Rattle.board_asking.specs.Machine.{control_bytes, fitting, setup_command}
 use Rattle.laws_board.specs.turns.Turns.{BoardTurn}
 use Rattle.laws_board.specs.clocks.Runs.{IsInRun}
 use Rattle.laws_board.proofs.clocks.Controls.{states_start}
 use Rattle.laws_board.proofs.clocks.Lines.{turn_of}
 use Rattle.laws_board.proofs.clocks.Turning.{Asks, BoardTurned, Ends, Runs}
 use Rattle.laws_homing.specs.home_runs.Told.{IsMember}
-use Rattle.laws_homing.proofs.home_runs.Grouped.{members_states}
 use Rattle.laws_run.specs.home_wholes.Still.{EachStill, IsStill}
+use Rattle.laws_homing.proofs.clear_groups.Reading.{member_or_not}
 
 each_both : (xs ys : List Cmd) → EachStill xs → EachStill ys → EachStill (xs ++ ys)
 each_both [] ys a b = b
@@ -189,14 +159,6 @@ ctls_still m clocks b start axis (c ∷ ctls) a =
     ])
     (ctls_still m clocks b start axis ctls a.1)
 
-member_or_not : (b : ℕ) (ms : List Member) → IsMember b ms ⊎ (IsMember b ms → ⊥)
-member_or_not b [] = inr (λ x. x)
-member_or_not b (x ∷ ms) =
-    elim (eqb_tells x.board b) [
-      | inl p ↦ inl (inl p.1)
-      | inr p ↦ elim (member_or_not b ms) [ inl i ↦ inl (inr i) | inr n ↦ inr (λ i. elim i [ inl e ↦ p.1 e | inr i ↦ n i ]) ]
-    ]
-
 -- a turn of a homing section's set-up, of which a board is a member
 pub record IsSettingUp (b k : ℕ) (o : Option Homing) : Type 0 where
   pub homing : Homing
@@ -231,7 +193,7 @@ homing_either m all k states (Some h) own b =
     let g = hears_all all states h in
     let turn = by_answer k g (answer_in k g.start g.group) in
     let same : g.group.start ≡ h.group.start = states_start all 0 h.start states h.group in
-    let members : members_of g.group ≡ members_of h.group = members_states all 0 h.start states h.group in
+    let members : members_of g.group ≡ members_of h.group = states-kept all 0 h.start states h.group in
     elim (group_either b k g) [
       | inl f ↦ inl (ctls_still m own b turn.start (axis_at m turn.axis) turn.ctls.items (answer_still b k g (answer_in k g.start g.group) (in_still b (phase g.group.start g.group.last k) g.group k f)))
       | inr x ↦ inr (record { homing = h; known = refl; soon = omega (arith, x.0, same); late = omega (arith, x.1, same); member = subst (λ (l : List Member). IsMember b l) members x.2 })

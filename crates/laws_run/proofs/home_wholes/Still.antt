@@ -1,47 +1,33 @@
 -- A board of which no trigger can trigger: no command but those that start a trigger or bind a stepper halts one, nor does time.
 use Rattle.std.proofs.Common.{◌≡◌, ℕ, zero, suc, ◌+◌, ◌/◌, ◌==◌, ◌&&◌, not, Bool, true, false, cond, ◌⊎◌, List, [], ◌∷◌, get_or, set, Option, Some, None, refl, ap, sym, ◌∙◌, subst, inl, inr}
 use Rattle.std.specs.Prelude.{slice_index_or}
-use Rattle.std.proofs.lemmas.Bool.Decides.{leb_tells}
-use Rattle.plan_types.specs.declared.plan.BoardState.{BoardState}
-use Rattle.plan_types.specs.declared.plan.BoardState.TheVariants.{Running, Shut}
+use Rattle.laws_board.proofs.Names.{leb_tells, BoardState, Running, Shut, Pending, Trigger, Cmd, Controller, Passed, Rig, Slot, slot_at, becomes, expires_at_once, set_timeout, acts, acts_running, takes, earliest_moment, runs_to, rests_to, happens_to, goes_on, at_of, passes_by, pass, passes, all_left}
 use Rattle.plan_types.specs.declared.plan.Triple.{Triple}
-use Rattle.board_step.specs.Steps.{Pending, ticks_at, with_ticks}
+use Rattle.board_step.specs.Steps.{ticks_at, with_ticks}
 use Rattle.board_trig.specs.declared.sampling.Homing.{Homing}
-use Rattle.board_trig.specs.declared.trigger.Trigger.{Trigger}
 use Rattle.board_trig.specs.Trigger as trig
-use Rattle.msg_code.specs.declared.cmd.Cmd.{Cmd}
 use Rattle.msg_code.specs.declared.cmd.Cmd.TheVariants as cmd
-use Rattle.board_sim.specs.Board.{Controller, stepper_at, slot_to, passes_on, with_stepper, refusal, takes_triple, first_of, queue_step, set_dir, reset, make_stepper, is_none_pending, stop}
+use Rattle.board_sim.specs.Board.{stepper_at, slot_to, passes_on, with_stepper, refusal, takes_triple, first_of, queue_step, set_dir, reset, make_stepper, is_none_pending, stop}
 use Rattle.board_sim.specs.Board as board
 use Rattle.board_sim.specs.Halted.{is_halted}
-use Rattle.board_sim.specs.Rig.{Passed, Rig, Slot, slot_at, levels_of, becomes, make_trigger, make_endstop, expires_at_once, set_timeout, trigger, home, acts, acts_running, takes, earliest_moment, runs_to, rests_to, happens_to, happens_at, goes_on, at_of, passes_by, pass, passes, all_left}
+use Rattle.board_sim.specs.Rig.{levels_of, make_trigger, make_endstop, trigger, home, happens_at}
 use Rattle.board_sim.proofs.Keeps.{slots_at}
 use Rattle.laws_homing.specs.clear_groups.Resting.{IsTame}
 use Rattle.laws_homing.proofs.clear_boards.Slots.{set_either}
 use Rattle.laws_homing.proofs.clear_groups.Off.{happens_off, passes_off, running_off}
 use Rattle.laws_run.specs.home_wholes.Still.{IsStill}
 use Rattle.laws_homing.specs.clear_boards.Limited.{AllFired}
+use Rattle.laws_board.proofs.causes.Made.{made_same, endstop_same}
+use Rattle.laws_board.proofs.sections.Free.{home_same}
+use Rattle.laws_board.proofs.sections.Stepping.{not_both as clash}
+use Rattle.std.proofs.lemmas.Bool.{and_left}
 
 -- a stepper is not halted
 abbrev pub IsFree : ℕ → Controller → Type 0
 IsFree oid b = is_halted (stepper_at b oid) ≡ false
 
--- a trigger that can't trigger becomes another such one: nothing is halted
-not_both : (a b : Bool) → a ≡ false → (a && b) ≡ false
-not_both true b e = cc
-not_both false b e = refl
-
 becomes_same : (r : Rig) (oid : ℕ) (s : Slot) (t : Trigger) → s.trigger.can ≡ false → (becomes r oid s t).controller ≡ r.controller
-becomes_same r oid s t fell = let e : (s.trigger.can && not t.can) ≡ false = not_both s.trigger.can (not t.can) fell in rw e refl
-
--- the board's steppers are as they were
-made_same : (r : Rig) (oid : ℕ) (o : Option Slot) → (make_trigger r oid o).controller ≡ r.controller
-made_same r oid None = refl
-made_same r oid (Some s) = refl
-
-endstop_same : (r : Rig) (oid pin : ℕ) (o : Option ℕ) → (make_endstop r oid pin o).controller ≡ r.controller
-endstop_same r oid pin None = refl
-endstop_same r oid pin (Some p) = refl
+becomes_same r oid s t fell = let e : (s.trigger.can && not t.can) ≡ false = and_left s.trigger.can (not t.can) fell in rw e refl
 
 expires_same : (o : Option ℕ) (r : Rig) (oid : ℕ) (s : Slot) (t : Trigger) → s.trigger.can ≡ false → (expires_at_once r oid s t o).rig.controller ≡ r.controller
 expires_same None r oid s t fell = becomes_same r oid s t fell
@@ -54,11 +40,6 @@ timeout_same r oid (Some s) clock at off = let t = trig.with_timeout r.controlle
 trigger_same : (r : Rig) (oid : ℕ) (o : Option Slot) (reason : ℕ) → slot_at r oid ≡ o → AllFired r → (trigger r oid o reason).rig.controller ≡ r.controller
 trigger_same r oid None reason at off = refl
 trigger_same r oid (Some s) reason at off = becomes_same r oid s (trig.triggered r.controller.tick reason s.trigger) (off oid s at)
-
-home_same : (r : Rig) (p : Option ℕ) (other : ℕ) (o : Option Slot) (h : Homing) → (home r p other o h).controller ≡ r.controller
-home_same r None other o h = refl
-home_same r (Some pin) other None h = refl
-home_same r (Some pin) other (Some s) h = refl
 
 -- one of the steppers' board changes no trigger
 abbrev Goes : Rig → Cmd → Rig → Type 0
@@ -96,9 +77,6 @@ with_free b other oid q free old =
       | inl p ↦ ap is_halted p.1 ∙ free p.0
       | inr p ↦ ap is_halted p ∙ old
     ]
-
-clash : (r t f : ℕ) → Shut r t f ≡ Running → ⊥
-clash r t f e = cc
 
 own_halt : (b : Controller) (other oid : ℕ) (q : Pending) → stepper_at b other ≡ Some q → IsFree oid b → other ≡ oid → q.halted ≡ false
 own_halt b other oid q at free same = sym (ap is_halted at) ∙ ap (λ n. is_halted (stepper_at b n)) same ∙ free

@@ -1,30 +1,23 @@
 -- A board and the reactor turn by turn, from what was put and taken.
 use Rattle.std.proofs.Common.{◌≡◌, ℕ, suc, ◌+◌, ◌^◌, ◌<◌, ◌≤◌, inl, inr, Bool, true, false, List, [], ◌∷◌, ◌++◌, map, length, refl, ap, sym, ◌∙◌, subst, arith}
-use Rattle.plan_types.specs.declared.clock.BoardClock.{BoardClock}
-use Rattle.plan_types.specs.declared.machine.Machine.{Machine}
-use Rattle.plan_types.specs.Clock.{board_tick, tick_limit}
+use Rattle.laws_board.proofs.Names.{BoardClock, Machine, board_tick, Control, State, Switch, orders, IsTurn, LinkState, Came, known_by, last_reacted, state_at, ReactorTurn, gather, item}
+use Rattle.plan_types.specs.Clock.{tick_limit}
 use Rattle.msg_code.specs.declared.unit.Batch.{Batch}
-use Rattle.msg_code.specs.declared.unit.Control.{Control}
-use Rattle.msg_code.specs.declared.talk.State.{State}
-use Rattle.wire_scene.specs.declared.scene.Switch.{Switch}
-use Rattle.link_work.specs.Stands.{SeenLink, StandsFor, orders}
+use Rattle.link_work.specs.Stands.{SeenLink, StandsFor}
 use Rattle.link_work.specs.Told.{IsTold}
-use Rattle.link_work.specs.Turn.{IsTurn, LinkState}
-use Rattle.host_reactor.specs.Runs.{Came, known_by, last_reacted, state_at}
 use Rattle.laws_board.specs.turns.Turns.{AreBoardTurns, BoardTurn, IsBoardOf, control_at, latest_state, stands_after}
 use Rattle.laws_board.specs.sections.Links.{AreTold}
 use Rattle.session_work.specs.declared.table.LinkTurn.{LinkTurn}
-use Rattle.session_work.specs.declared.table.ReactorTurn.{ReactorTurn}
 use Rattle.session_work.specs.Bares.{bare_state}
 use Rattle.session_work.specs.Heads.{IsRow}
 use Rattle.session_work.specs.Links.{LinkStep}
-use Rattle.session_work.specs.Rows.{gather, item}
 use Rattle.session_work.specs.Turns.{Goes}
 use Rattle.laws_run.specs.lanes.Boards.{turns_behind, orders_of, states_of}
 use Rattle.laws_board.specs.plans.Boards.{TookStates}
 use Rattle.laws_run.specs.lanes.Turns.{AllGoOn, GoesOnIn, IsLastTurn, ShowsLink, came_before}
 use Rattle.session_run.specs.Boards.{came_in}
-use Rattle.laws_run.proofs.lanes.Items.{item_control, item_some, item_state, none_out, one_out}
+use Rattle.laws_run.proofs.lanes.Items.{item_control, item_some, none_out, one_out}
+use Rattle.laws_homing.proofs.missed_groups.Told.{same_state}
 
 -- what a board made from a turn on, up to the last one that the reactor took
 pub record Walked (m : Machine) (switches : List Switch) (b : ℕ) (clock : BoardClock) (begin : LinkState) (before : List Came) (turns : List BoardTurn) (r : ReactorTurn) (more : List ReactorTurn) (us : List LinkTurn) : Type 0 where
@@ -42,7 +35,7 @@ pub record Walked (m : Machine) (switches : List Switch) (b : ℕ) (clock : Boar
 cons_same : {A : Type 0} → (x y : A) (xs ys : List A) → x ∷ xs ≡ y ∷ ys → (x ≡ y) × (xs ≡ ys)
 cons_same x y xs ys e = (cc, cc)
 
-row_length : (n k : ℕ) (r : ReactorTurn) → IsRow n (suc k) r.states r.note → length r.states ≡ n
+pub row_length : (n k : ℕ) (r : ReactorTurn) → IsRow n (suc k) r.states r.note → length r.states ≡ n
 row_length n k r (inl z) = let e = z.0 in absurd (omega arith)
 row_length n k r (inr z) = z.1
 
@@ -118,7 +111,7 @@ module _ {L : Type 0} (steps : L → ℕ → Control → Batch → State → L �
             let w = went turns k x u goes.0.0 number are st same on_time.3 in
             let ordered : control_at b (last_reacted m switches (came_in r) before).ordered.controls ≡ w.turn.control ∷ [] =
             ap (control_at b) (sym on.controls_are) ∙ item_control b r.controls ∙ control ∙ ap (λ (z : Control). z ∷ []) (taken.0 ∙ sym w.control_is) in
-            let told_now : state_at b r.states ≡ latest_state turns = item_state b r.states ∙ pending in
+            let told_now : state_at b r.states ≡ latest_state turns = same_state b r.states ∙ pending in
             record {
               u = u;
               more = us;

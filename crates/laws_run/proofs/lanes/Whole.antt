@@ -1,13 +1,8 @@
 -- A board in a whole run, from the logs of its lanes.
 use Rattle.std.proofs.Common.{◌≡◌, ℕ, zero, suc, ◌+◌, ◌<◌, ◌≤◌, inl, inr, List, [], ◌∷◌, ◌++◌, map, length, refl, ap, sym, ◌∙◌, subst, arith, append_assoc, append-nil}
-use Rattle.std.proofs.lemmas.List.{length-map}
-use Rattle.plan_types.specs.declared.clock.BoardClock.{BoardClock}
-use Rattle.plan_types.specs.declared.machine.Machine.{Machine}
-use Rattle.wire_scene.specs.declared.scene.Switch.{Switch}
-use Rattle.link_work.specs.Stands.{SeenLink, StandsFor, orders}
-use Rattle.link_work.specs.Turn.{LinkState, Orders}
-use Rattle.msg_code.specs.declared.talk.State.{State}
-use Rattle.host_reactor.specs.Runs.{Came, GoesOn, HaveStates, known_by}
+use Rattle.laws_board.proofs.Names.{length-map, BoardClock, Machine, Switch, orders, LinkState, Orders, State, Came, GoesOn, known_by, MotionTurn, ReactorTurn, gather, item}
+use Rattle.link_work.specs.Stands.{SeenLink, StandsFor}
+use Rattle.host_reactor.specs.Runs.{HaveStates}
 use Rattle.laws_board.specs.turns.Turns.{BoardTurn}
 use Rattle.laws_board.specs.clocks.Runs.{orders_in}
 use Rattle.session_work.specs.declared.machines.LinkMachine.{Ghosts as Link}
@@ -16,11 +11,8 @@ use Rattle.session_work.specs.declared.machines.ReactorMachine.{Ghosts as Reacto
 use Rattle.session_work.specs.declared.machines.Outside.{Ghosts as Out}
 use Rattle.session_work.specs.declared.head.Head.{Head}
 use Rattle.session_lanes.specs.declared.near.LinkLog.{LinkLog}
-use Rattle.session_work.specs.declared.table.MotionTurn.{MotionTurn}
-use Rattle.session_work.specs.declared.table.ReactorTurn.{ReactorTurn}
 use Rattle.session_work.specs.Heads.{IsRow, ReactorStep}
 use Rattle.session_work.specs.Leads.{last_controls}
-use Rattle.session_work.specs.Rows.{gather, item}
 use Rattle.session_lanes.specs.Runs.{AreLogs, Carried, IsLog}
 use Rattle.session_work.specs.Turns.{Goes}
 use Rattle.session_work.proofs.Goes.{gather_on}
@@ -29,7 +21,9 @@ use Rattle.laws_board.specs.plans.Boards.{TookStates}
 use Rattle.laws_run.specs.lanes.Turns.{AllGoOn, AllHaveControls, IsLastTurn, ShowsLink, came_before}
 use Rattle.session_run.specs.Boards.{came_in}
 use Rattle.laws_run.proofs.lanes.Items.{none_out}
-use Rattle.laws_run.proofs.lanes.Walking.{walk}
+use Rattle.laws_run.proofs.lanes.Walking.{walk, row_length}
+use Rattle.laws_run.proofs.run_headline.Earlier.{states_long}
+use Rattle.laws_run.proofs.run_lates.Unbegun.{gather_both}
 
 put_is : {T : Type 0} → (s : List T × List T) (put taken : List T) (c : Carried s put taken) → put ≡ taken ++ c.2.0
 put_is s put taken c = sym c.0 ∙ c.2.1 ∙ ap (λ l. l ++ c.2.0) c.1
@@ -60,11 +54,6 @@ orders_behind : (turns made : List BoardTurn) → orders_in (turns_behind turns 
 orders_behind turns [] = sym (append-nil (orders_in turns))
 orders_behind turns (t ∷ made) = orders_behind (t ∷ turns) made ∙ append_assoc (orders_in turns) (orders t.control t.batch ∷ []) (orders_of made)
 
--- what turns give, and others behind them
-pub gather_both : {T A : Type 0} (f : T → List A) (xs ys : List T) → gather f (xs ++ ys) ≡ gather f xs ++ gather f ys
-gather_both f [] ys = refl
-gather_both f (x ∷ xs) ys = ap (λ r. f x ++ r) (gather_both f xs ys) ∙ sym (append_assoc (f x) (gather f xs) (gather f ys))
-
 -- a list that begins as a longer one does is its front
 pub front_of : {A : Type 0} (xs ys us vs : List A) → xs ++ us ≡ ys ++ vs → length xs ≤ length ys → (left : List A) × (xs ++ left ≡ ys)
 front_of [] ys us vs e few = (ys, refl)
@@ -75,24 +64,14 @@ front_of (x ∷ xs) (y ∷ ys) us vs e few =
     let f = front_of xs ys us vs then (omega (arith, few)) in
     (f.0, ap (λ z. z ∷ (xs ++ f.0)) first ∙ ap (λ z. y ∷ z) f.1)
 
-took_many : (b : ℕ) (rs : List ReactorTurn) (states : List State) → TookStates b rs states → length states ≡ length rs
-took_many b [] states t = ap length t
-took_many b (r ∷ rs) [] t = absurd t
-took_many b (r ∷ rs) (s ∷ states) t = ap suc (took_many b rs states t.1)
-
 -- turns that go on, but the last
 all_parts : (m : Machine) (switches : List Switch) (before : List Came) (rs : List ReactorTurn) (last : ReactorTurn) → AllGoOn m switches before (rs ++ last ∷ []) → AllGoOn m switches before rs
 all_parts m switches before [] last all = tt
 all_parts m switches before (r ∷ rs) last all = (all.0, all_parts m switches (came_in r ∷ before) rs last all.1)
 
--- and the last, to which a state of each board came, as none wanted memory
-row_count : (n k : ℕ) (r : ReactorTurn) → IsRow n (suc k) r.states r.note → length r.states ≡ n
-row_count n k r (inl z) = let e = z.0 in absurd (omega arith)
-row_count n k r (inr z) = z.1
-
 last_turn_is : (m : Machine) (switches : List Switch) (before : List Came) (r : ReactorTurn) (rs : List ReactorTurn) (last : ReactorTurn) → AllGoOn m switches before (r ∷ (rs ++ last ∷ [])) → IsLastTurn m last
 last_turn_is m switches before r [] last all = record {
-  count = row_count (length m.boards) (length before) last all.1.0.row;
+  count = row_length (length m.boards) (length before) last all.1.0.row;
   in_memory = none_out m switches (known_by m switches (came_in r ∷ before)) (length (came_in r ∷ before)) last.states last.note all.1.0.goes_on;
 }
 last_turn_is m switches before r (x ∷ rs) last all = last_turn_is m switches (came_in r ∷ before) x rs last all.1
@@ -159,7 +138,7 @@ module _ {M L A O : Type 0} (mo : Motion M) (l : Link L) (a : Reactor A) (o : Ou
       let batches : taken ++ (w.left ++ log.4.2.0) ≡ gather batches_of front ++ gather batches_of later =
       sym (append_assoc taken w.left log.4.2.0) ∙ ap (λ z. z ++ log.4.2.0) w.batches ∙ sym (put_is _ _ _ log.4) ∙ ap (gather batches_of) cut ∙ gather_both batches_of front later in
       let few : length taken ≤ length (gather batches_of front) =
-      (let many = took_many b (rest ++ last ∷ []) (states_of w.made) w.states in let a = length-map (orders_of w.made) (λ (z : Orders). z.batch) in let c = length-map w.made (λ (z : BoardTurn). orders z.control z.batch) in
+      (let many = states_long b (rest ++ last ∷ []) (states_of w.made) w.states in let a = length-map (orders_of w.made) (λ (z : Orders). z.batch) in let c = length-map w.made (λ (z : BoardTurn). orders z.control z.batch) in
       let d = length-map w.made (λ (z : BoardTurn). z.state) in omega (arith, many, a, c, d, long)) in
       let f = front_of taken (gather batches_of front) (w.left ++ log.4.2.0) (gather batches_of later) batches few in
       record {

@@ -1,45 +1,18 @@
 -- A run that ends since no switch closed in a homing section missed its switch.
 use Rattle.std.proofs.Common.{◌≡◌, ◌≢◌, ℕ, ◌+◌, ◌-◌, ◌*◌, ◌^◌, ◌<◌, ◌≤◌, List, [], ◌∷◌, ◌++◌, length, map, Option, Some, None, refl, ap, sym, ◌∙◌, subst, arith, length-append}
-use Rattle.std.proofs.Math.Logic.{∥∥₁_map}
-use Rattle.plan_types.specs.declared.cause.Cause.{Cause}
+use Rattle.laws_board.proofs.Names.{∥∥₁_map, Cause, Level, Machine, Running, Home, board_tick, clock_of, turn_ns, lines_tick, IsValidMachine, axis_at, board_at, clocks_at, State, Entry, Scene, Switch, first_state, pins_of, Homing, answer_in, hears_all, Known, Connecting, noted, Run, IsOwn, Came, GoesOn, known_by, Started, Told, MotionTurn, ReactorTurn}
 use Rattle.plan_types.specs.declared.cause.Cause.TheVariants as cause
-use Rattle.plan_types.specs.declared.levels.Level.{Level}
-use Rattle.plan_types.specs.declared.machine.Machine.{Machine}
-use Rattle.plan_types.specs.declared.plan.BoardState.TheVariants.{Running}
-use Rattle.plan_types.specs.declared.plan.SectionKind.TheVariants.{Home}
-use Rattle.plan_types.specs.Clock.{board_tick, clock_of, turn_ns}
-use Rattle.plan_types.specs.Lines.{lines_tick}
-use Rattle.plan_types.specs.Machines.{IsValidMachine, axis_at, board_at}
-use Rattle.plan_types.specs.Sections.{clocks_at}
 use Rattle.plan_types.proofs.OwnTicks.{rise}
 use Rattle.io_core.specs.declared.traits.Files.{Ghosts as Files}
 use Rattle.io_core.specs.declared.traits.Sink.{Ghosts as Sink}
 use Rattle.gcode_program.specs.Programs.{outcome_of}
-use Rattle.msg_code.specs.declared.talk.State.{State}
-use Rattle.wire_scene.specs.declared.scene.Entry.{Entry}
-use Rattle.wire_scene.specs.declared.scene.Scene.{Scene}
-use Rattle.wire_scene.specs.declared.scene.Switch.{Switch}
-use Rattle.link_work.specs.Stands.{first_state}
-use Rattle.link_work.specs.Switches.{pins_of}
 use Rattle.trigger_group.specs.declared.order.End.TheVariants as end_of
-use Rattle.axis_homing.specs.declared.homing.Homing.{Homing}
-use Rattle.axis_homing.specs.Homing.{answer_in, hears_all}
-use Rattle.host_reactor.specs.declared.ordered.Known.{Known}
 use Rattle.host_reactor.specs.declared.ordered.Phase.TheVariants as phase
-use Rattle.host_reactor.specs.declared.ordered.Phase.TheVariants.{Connecting}
-use Rattle.host_reactor.specs.Notes.{noted}
-use Rattle.host_reactor.specs.Reactor.{Run}
-use Rattle.host_reactor.specs.Rows.{IsOwn}
-use Rattle.host_reactor.specs.Runs.{Came, GoesOn, known_by}
 use Rattle.motion_work.specs.Known.{lines_by}
-use Rattle.motion_work.specs.Seen.{Started}
-use Rattle.motion_work.specs.Told.{Told}
 use Rattle.session_lanes.specs.declared.near.Told as near
 use Rattle.session_run.specs.declared.tell.Kept.{Kept}
 use Rattle.session_run.specs.Boards.{came_from, came_in}
 use Rattle.session_run.specs.Runs.{RunsOver}
-use Rattle.session_work.specs.declared.table.MotionTurn.{MotionTurn}
-use Rattle.session_work.specs.declared.table.ReactorTurn.{ReactorTurn}
 use Rattle.laws_board.specs.causes.Short.{HaveShortDictionaries}
 use Rattle.laws_board.specs.clocks.Near.{LinesKeepUp}
 use Rattle.laws_board.specs.clocks.Runs.{IsInRun}
@@ -56,7 +29,6 @@ use Rattle.laws_board.specs.plans.Rows.{AreInARow}
 use Rattle.laws_homing.specs.missed_runs.Missed.{IsHeardWell, IsMissedOf}
 use Rattle.laws_homing.specs.switch_runs.Runs.{KnewSo}
 use Rattle.laws_homing.specs.switch_runs.Taken.{TookHome}
-use Rattle.laws_homing.proofs.clear_groups.Known.{answered_late}
 use Rattle.laws_homing.proofs.home_parts.Apart.{begin_apart, one_behind, so_begun}
 use Rattle.laws_board.proofs.plans.Rows.{row_from}
 use Rattle.laws_homing.proofs.home_plans.Knowing.{now_was}
@@ -69,7 +41,7 @@ use Rattle.laws_run.specs.home_headline.Near.{AllReadAsTold}
 use Rattle.laws_run.specs.run_ends.Ends.{EndsSo}
 use Rattle.laws_run.specs.run_headline.Made.{IsMade}
 use Rattle.laws_run.proofs.clear_homes.Expired.{missed_of}
-use Rattle.laws_run.proofs.clear_homes.Together.{is_low, turns_by, turns_same}
+use Rattle.laws_run.proofs.clear_homes.Together.{turns_by, turns_same}
 use Rattle.laws_run.proofs.clear_runs.Bare.{latest_behind}
 use Rattle.laws_run.proofs.clock_ages.Own.{follow_to}
 use Rattle.laws_run.proofs.clock_ages.Renews.{renews}
@@ -78,9 +50,8 @@ use Rattle.laws_run.proofs.home_headline.Clocks.{end_knows}
 use Rattle.laws_run.proofs.home_headline.Planned.{all_notes}
 use Rattle.laws_run.proofs.home_wholes.Axes.{axis_low}
 use Rattle.laws_run.proofs.home_wholes.Lines.{By, Came_all, Turns_of, by, connected, knows, lines, range, row, run_of, turn, whole}
-use Rattle.laws_run.proofs.home_wholes.Near.{in_range_at, starts_near}
+use Rattle.laws_run.proofs.home_wholes.Near.{starts_near}
 use Rattle.laws_run.proofs.home_wholes.Own.{axis_board}
-use Rattle.laws_run.proofs.lanes.Items.{item_state}
 use Rattle.laws_run.proofs.run_ends.Ending.{ends_so}
 use Rattle.laws_run.proofs.run_headline.Boarded.{came_cut, came_long, came_split, lines_renewed, sound_of, took, valid_at}
 use Rattle.laws_run.proofs.run_headline.Going.{Lasts, lasts}
@@ -88,6 +59,10 @@ use Rattle.laws_run.proofs.run_headline.Joining.{of_sections}
 use Rattle.laws_run.proofs.run_headline.Making.{run_made}
 use Rattle.laws_run.proofs.run_headline.Runs.{facts}
 use Rattle.laws_run.proofs.run_headline.Showing.{Facts, ends_own, few, in_none, long_own, not_told, notes_before, took_notes}
+use Rattle.laws_homing.proofs.home_parts.Known.{answer_late}
+use Rattle.plan_types.proofs.Facts.{less_or_from}
+use Rattle.laws_homing.proofs.home_parts.Controls.{range_at}
+use Rattle.laws_homing.proofs.missed_groups.Told.{same_state}
 
 -- a board whose latest state tells of no shutdown runs
 last_runs : (m : Machine) (switches : List Switch) (pins : List (List Level)) (entries : List Entry) (b : ℕ) (came : List Came) (turns : List BoardTurn) (last : State)
@@ -184,7 +159,7 @@ module _ (m : Machine) (v : IsValidMachine m) (s : Scene) (ts : List MotionTurn)
         let run = run_of m v s ts p t first rest end c told f short b low in
         subst (λ (z : List BoardTurn). IsHeardWell m s.switches (Pins b) s.entries t.clocks b start (came_in end) Heard z) (sym same) (record {
           run = run;
-          latest = item_state b end.states ∙ last_of.at ∙ sym latest;
+          latest = same_state b end.states ∙ last_of.at ∙ sym latest;
           runs = last_runs m s.switches (Pins b) s.entries b Heard (Turns b low) last_of.last run latest (shut b last_of.last low last_of.at);
           reads = reads b low (whole m v s ts p t first rest end c told f short b low);
           behind = behind_all;
@@ -220,13 +195,13 @@ module _ (m : Machine) (v : IsValidMachine m) (s : Scene) (ts : List MotionTurn)
     after = let r = turn m v s ts p t first rest end c told f short in let early = r.early in let at = in_row.0 in omega (arith, early, at)
 
     late_enough : h.start ≤ length Heard
-    late_enough = answered_late (length Heard) h.start (hears_all (noted m end.note (known_by m s.switches Heard)).clocks end.states h).group end_of.NoSwitch answers
+    late_enough = answer_late (length Heard) h.start (hears_all (noted m end.note (known_by m s.switches Heard)).clocks end.states h).group end_of.NoSwitch answers
 
     abbrev Family : ℕ → List BoardTurn
-    Family i = turns_by i (length m.boards) Turns (is_low i (length m.boards))
+    Family i = turns_by i (length m.boards) Turns (less_or_from i (length m.boards))
 
     same_turns : (b : ℕ) (low : b < length m.boards) → Family b ≡ Turns b low
-    same_turns b low = turns_same b (length m.boards) Turns (is_low b (length m.boards)) low
+    same_turns b low = turns_same b (length m.boards) Turns (less_or_from b (length m.boards)) low
 
     abbrev Missed : ℕ → ℕ → ℕ → List BoardTurn → Type 0
     Missed start axis last turns =
@@ -270,7 +245,7 @@ module _ (m : Machine) (v : IsValidMachine m) (s : Scene) (ts : List MotionTurn)
         let knew : Knew X.start Axis = subst (λ (n : ℕ). Knew n Axis) begins (subst (λ (i : ℕ). Knew h.start i) was.9 knew_h.1) in
         let lines_are = knew_tick m s.switches B Ready (X.start - 250) X.start Axis knew_h.0 t.clocks Heard (omega arith) (omega (arith, at, early)) l.tracked.kept (connected m v s ts p t first rest end c told f short) (knows m v s ts p t first rest end c told f short) knew in
         let In : List Started → Type 0 = λ z. StartInRange (clocks_at t.clocks B) z in
-        let small : base < 2 ^ 64 = in_range_at (clocks_at t.clocks B) was.0 X was.2 (subst In was.4 (range m v s ts p t first rest end c told f short B there)) in
+        let small : base < 2 ^ 64 = range_at (clocks_at t.clocks B) was.0 X was.2 (subst In was.4 (range m v s ts p t first rest end c told f short B there)) in
         let freq = (valid_at m.boards B there v.boards).freq.low in
         let at_turn = k.at in
         let set_up = k.set_up in

@@ -1,47 +1,22 @@
 -- A whole run ends for a board that gives no answer, or whose clock line is too old, only where its askings were hindered.
 use Rattle.std.proofs.Common.{All, ◌≡◌, ℕ, ◌+◌, ◌^◌, ◌<◌, ◌≤◌, List, [], ◌∷◌, ◌++◌, length, map, Option, Some, None, refl, ap, sym, ◌∙◌, subst, arith, inl, inr}
-use Rattle.std.proofs.Math.Logic.{∥∥₁_map}
-use Rattle.std.proofs.lemmas.List.{length-map}
-use Rattle.std.proofs.lemmas.List.Elements.{All-cons, All-head, All-nil, All-tail}
-use Rattle.plan_types.specs.declared.cause.Cause.{Cause}
+use Rattle.laws_board.proofs.Names.{∥∥₁_map, length-map, All-cons, All-head, All-nil, All-tail, Cause, Machine, Moves, clock_of, IsValidMachine, board_at, State, Scene, listen_all, stale, orders, pins_of, Orders, Known, Connecting, is_out, noted, Run, reacts, IsOwn, first_cause, Came, known_by, state_at, parts_on, Started, Told, MotionTurn, ReactorTurn}
 use Rattle.plan_types.specs.declared.cause.Cause.TheVariants as cause
-use Rattle.plan_types.specs.declared.machine.Machine.{Machine}
-use Rattle.plan_types.specs.declared.plan.SectionKind.TheVariants.{Moves}
-use Rattle.plan_types.specs.Clock.{clock_of}
-use Rattle.plan_types.specs.Machines.{IsValidMachine, board_at}
-use Rattle.msg_code.specs.declared.talk.State.{State}
 use Rattle.io_core.specs.declared.traits.Files.{Ghosts as Files}
 use Rattle.io_core.specs.declared.traits.Sink.{Ghosts as Sink}
-use Rattle.wire_scene.specs.declared.scene.Scene.{Scene}
-use Rattle.board_asking.specs.Connecting.{listen_all}
-use Rattle.board_asking.specs.Drift.{stale}
-use Rattle.link_work.specs.Stands.{orders}
-use Rattle.link_work.specs.Switches.{pins_of}
-use Rattle.link_work.specs.Turn.{Orders}
-use Rattle.host_reactor.specs.declared.ordered.Known.{Known}
-use Rattle.host_reactor.specs.declared.ordered.Phase.TheVariants.{Connecting, Running}
-use Rattle.host_reactor.specs.Notes.{is_out, noted}
-use Rattle.host_reactor.specs.Reactor.{Run, reacts}
-use Rattle.host_reactor.specs.Rows.{IsOwn}
-use Rattle.host_reactor.specs.Running.{first_cause}
-use Rattle.host_reactor.specs.Runs.{Came, HaveStates, known_by, state_at, told_by}
+use Rattle.host_reactor.specs.declared.ordered.Phase.TheVariants.{Running}
+use Rattle.host_reactor.specs.Runs.{HaveStates, told_by}
 use Rattle.host_reactor.proofs.Connects.{silent-eight}
-use Rattle.host_reactor.proofs.Rowing.{stays-whole}
+use Rattle.host_reactor.proofs.Rowing.{stays-whole, listened}
 use Rattle.laws_board.specs.turns.Turns.{BoardTurn, latest_state}
 use Rattle.laws_board.specs.clocks.Runs.{IsInRun, UnitsFit}
 use Rattle.laws_board.proofs.clocks.Lines.{as_long, noted_phase}
-use Rattle.motion_work.specs.Boards.{parts_on}
-use Rattle.motion_work.specs.Seen.{Started}
-use Rattle.motion_work.specs.Told.{Told}
 use Rattle.session_lanes.specs.declared.near.Told as near
-use Rattle.session_work.specs.declared.table.MotionTurn.{MotionTurn}
-use Rattle.session_work.specs.declared.table.ReactorTurn.{ReactorTurn}
 use Rattle.session_run.specs.declared.tell.Kept.{Kept}
 use Rattle.session_run.specs.Boards.{AreReactorTurns, came_from, came_in}
 use Rattle.session_run.specs.Runs.{RunsOver}
 use Rattle.laws_board.specs.sections.Parts.{AreOrdersOf}
 use Rattle.laws_run.specs.lanes.Boards.{IsInWhole, turns_behind, orders_of, states_of}
-use Rattle.laws_run.proofs.lanes.Items.{item_state}
 use Rattle.laws_board.specs.plans.Given.{TookControls}
 use Rattle.laws_board.specs.plans.Lines.{TookNotes}
 use Rattle.laws_board.specs.plans.Planned.{Plans}
@@ -55,17 +30,19 @@ use Rattle.laws_board.proofs.causes.Connect.{connect_cause}
 use Rattle.laws_board.proofs.causes.Stale.{stale_cause}
 use Rattle.laws_run.specs.run_headline.Timely.{link_of}
 use Rattle.laws_run.proofs.run_headline.Asked.{whole_by}
-use Rattle.laws_run.proofs.run_headline.Boarded.{came_cut, ready, took, took_long, valid_at}
+use Rattle.laws_run.proofs.run_headline.Boarded.{came_cut, ready, took, valid_at}
 use Rattle.laws_run.proofs.run_headline.Fronts.{controlled}
 use Rattle.laws_run.proofs.run_headline.Going.{Lasts, lasts}
 use Rattle.laws_run.proofs.run_headline.Making.{run_made}
 use Rattle.laws_run.proofs.run_headline.Plain.{AllMoves, all_moves}
 use Rattle.laws_run.proofs.run_headline.Runs.{facts, row_full}
 use Rattle.laws_run.proofs.run_headline.Showing.{Facts, came_long, ends_own, front_notes, long_own, not_told, took_notes, turns_cut}
-use Rattle.laws_run.proofs.clear_runs.Bare.{few_turns, have_more, latest_behind, listened, no_steps, stale_low, unbegun_units}
+use Rattle.laws_run.proofs.clear_runs.Bare.{few_turns, have_more, latest_behind, no_steps, stale_low, unbegun_units}
 use Rattle.laws_run.proofs.clear_runs.Punctual.{NoUnits}
 use Rattle.laws_run.proofs.clear_runs.Through.{first_none}
 use Rattle.laws_run.specs.run_causes.Unanswered.{GaveNoAnswer, IsStaleSince}
+use Rattle.laws_homing.proofs.missed_groups.Told.{same_state}
+use Rattle.laws_run.proofs.run_headline.Earlier.{states_long}
 
 -- askings in a row are not before the first one, and end four turns before the last turn
 row_low : (first until : ℕ) (asked : List ℕ) → AreInRow first until asked → All (λ k. (first ≤ k) × (k + 4 ≤ until)) asked
@@ -134,10 +111,10 @@ module _ (m : Machine) (v : IsValidMachine m) (s : Scene) (ts : List MotionTurn)
 
     count : length (orders_of w.made) ≡ length (rest ++ end ∷ [])
     count =
-        length-map w.made (λ (x : BoardTurn). orders x.control x.batch) ∙ sym (length-map w.made (λ (x : BoardTurn). x.state)) ∙ took_long b (rest ++ end ∷ []) (states_of w.made) w.states
+        length-map w.made (λ (x : BoardTurn). orders x.control x.batch) ∙ sym (length-map w.made (λ (x : BoardTurn). x.state)) ∙ states_long b (rest ++ end ∷ []) (states_of w.made) w.states
 
     heard : state_at b end.states ≡ latest_state (turns_behind [] w.made)
-    heard = item_state b end.states ∙ last.at ∙ sym (latest_behind [] w.made last.front last.last last.are)
+    heard = same_state b end.states ∙ last.at ∙ sym (latest_behind [] w.made last.front last.last last.are)
 
     few_came : length (came_from [] (first ∷ rest)) < 2 ^ 59
     few_came =

@@ -1,25 +1,12 @@
 -- The first clock line of a board is taken at once where nothing disturbed its link while connecting.
 use Rattle.std.proofs.Common.{◌≡◌, ℕ, suc, ◌<◌, true, cond, pos, List, [], ◌∷◌, ◌++◌, length, Some, refl, ap, sym, ◌∙◌, subst, arith, inl, inr, length-append}
 use Rattle.std.specs.List.{All}
-use Rattle.std.proofs.lemmas.Bool.Decides.{leb_tells}
-use Rattle.std.proofs.lemmas.List.Elements.{All-head}
-use Rattle.plan_types.specs.declared.machine.Machine.{Machine}
-use Rattle.plan_types.specs.declared.plan.Line.{Line}
-use Rattle.plan_types.specs.Clock.{clock_of}
-use Rattle.plan_types.specs.Lines.{Clocks}
-use Rattle.plan_types.specs.Machines.{IsValidMachine, board_at}
-use Rattle.plan_types.specs.Sections.{clocks_at}
-use Rattle.plan_types.specs.declared.cause.Cause.{Cause}
+use Rattle.laws_board.proofs.Names.{leb_tells, All-head, Machine, Line, clock_of, Clocks, IsValidMachine, board_at, clocks_at, Cause, Scene, Down, Up, pins_of, Run, Came, Told, MotionTurn, ReactorTurn}
 use Rattle.plan_types.specs.declared.cause.Cause.TheVariants as cause
 use Rattle.io_core.specs.declared.traits.Files.{Ghosts as Files}
 use Rattle.io_core.specs.declared.traits.Sink.{Ghosts as Sink}
 use Rattle.msg_code.specs.declared.talk.WordNews.{WordNews}
-use Rattle.wire_scene.specs.declared.scene.Scene.{Scene}
-use Rattle.wire_scene.specs.declared.scene.Way.TheVariants.{Down, Up}
 use Rattle.wire_scene.specs.Wire.{entries_of}
-use Rattle.link_work.specs.Switches.{pins_of}
-use Rattle.host_reactor.specs.Reactor.{Run}
-use Rattle.host_reactor.specs.Runs.{Came}
 use Rattle.laws_board.specs.turns.Turns.{BoardTurn, stands_after}
 use Rattle.laws_board.specs.clocks.Near.{IsExact, IsUndisturbed}
 use Rattle.laws_board.specs.clocks.Runs.{IsInRun}
@@ -27,10 +14,7 @@ use Rattle.laws_board.specs.clocks.Samples.{IsSampledAtOnce, lines_told}
 use Rattle.laws_board.proofs.clocks.Exact.{lines_exact, none_disturbs}
 use Rattle.laws_board.proofs.clocks.Lines.{as_long}
 use Rattle.laws_board.specs.causes.Causes.{before_turn}
-use Rattle.motion_work.specs.Told.{Told}
 use Rattle.session_lanes.specs.declared.near.Told as near
-use Rattle.session_work.specs.declared.table.MotionTurn.{MotionTurn}
-use Rattle.session_work.specs.declared.table.ReactorTurn.{ReactorTurn}
 use Rattle.session_run.specs.declared.tell.Kept.{Kept}
 use Rattle.session_run.specs.Boards.{came_from, came_in}
 use Rattle.session_run.specs.Runs.{RunsOver}
@@ -38,13 +22,14 @@ use Rattle.laws_run.specs.lanes.Boards.{IsInWhole, turns_behind}
 use Rattle.laws_board.specs.plans.Planned.{Plans}
 use Rattle.laws_run.specs.run_headline.Made.{IsMade}
 use Rattle.laws_run.specs.run_headline.Timely.{link_of}
-use Rattle.laws_run.proofs.run_headline.Boarded.{Ready, came_long, drift_few, first_same, ready, run_of, valid_at}
+use Rattle.laws_run.proofs.run_headline.Boarded.{Ready, came_long, first_same, ready, run_of, valid_at}
 use Rattle.laws_run.proofs.run_headline.Fronts.{front_of, one_less}
 use Rattle.laws_run.proofs.run_headline.Runs.{facts}
 use Rattle.laws_run.proofs.run_headline.Showing.{Facts, none_told}
 use Rattle.laws_run.proofs.run_headline.Words.{line_is}
 use Rattle.laws_run.proofs.run_headline.Near.{sample_follows}
 use Rattle.laws_run.specs.run_clocks.First.{AreFirstTaken, IsTakenAtOnce}
+use Rattle.laws_homing.proofs.clear_groups.Noted.{drift_small}
 
 -- those of some turns that come before one of them
 before_cut : (later : List BoardTurn) (t : BoardTurn) (turns : List BoardTurn) → before_turn (length turns) (later ++ t ∷ turns) ≡ turns
@@ -112,7 +97,7 @@ module _ (m : Machine) (v : IsValidMachine m) (s : Scene) (ts : List MotionTurn)
       let first_is : l.0 ≡ (clocks_at r.heard.clocks b).first = ap (λ (c : Clocks). c.first) (sym l.2 ∙ ap (λ cs. clocks_at cs b) (sym r.is.clocks_are)) in
       let one = (All-head Good l.0 [] some).0 in
       let At : Line → Type 0 = λ z. IsTakenAtOnce clock z in
-      let here = sample_follows clock x.turns one.0 valid.freq.whole (drift_few (board_at m b).drift valid.drift_low valid.drift_high) one.1 in
+      let here = sample_follows clock x.turns one.0 valid.freq.whole (drift_small (board_at m b).drift valid.drift_low valid.drift_high) one.1 in
       subst At (sym one.2 ∙ first_is ∙ sym (first_same m v s ts p t first rest end told b r h)) (here, one.3)
 
 first_of : (m : Machine) (v : IsValidMachine m) (s : Scene) (ts : List MotionTurn) (p : Plans m (length m.boards) ts) (t : Told) (end : ReactorTurn) (c : Cause) (rs : List ReactorTurn) → p.seen.told ≡ Some t → Facts m s ts rs end c

@@ -1,41 +1,25 @@
 -- The `board` lines of a report tell clock lines that follow the boards' clocks.
 use Rattle.std.proofs.Common.{◌≡◌, ◌⊎◌, ℕ, zero, suc, ◌<◌, List, [], ◌∷◌, ◌++◌, length, refl, ap, sym, ◌∙◌, subst, arith, inl, inr, append_assoc, append-nil}
-use Rattle.plan_types.specs.declared.cause.Cause.{Cause}
+use Rattle.laws_board.proofs.Names.{Cause, Machine, Line, clock_of, Clocks, IsValidMachine, board_at, clocks_at, ReportLine, Scene, Switch, pins_of, Connecting, noted, Run, Came, known_by, last_reacted, MotionTurn, ReactorTurn, gather}
 use Rattle.plan_types.specs.declared.cause.Cause.TheVariants as cause
-use Rattle.plan_types.specs.declared.machine.Machine.{Machine}
-use Rattle.plan_types.specs.declared.plan.Line.{Line}
-use Rattle.plan_types.specs.Clock.{clock_of}
-use Rattle.plan_types.specs.Lines.{Clocks}
-use Rattle.plan_types.specs.Machines.{IsValidMachine, board_at}
-use Rattle.plan_types.specs.Sections.{clocks_at, first_start}
-use Rattle.report_text.specs.declared.line.ReportLine.{ReportLine}
+use Rattle.plan_types.specs.Sections.{first_start}
 use Rattle.io_core.specs.declared.traits.Files.{Ghosts as Files}
 use Rattle.io_core.specs.declared.traits.Sink.{Ghosts as Sink}
-use Rattle.wire_scene.specs.declared.scene.Scene.{Scene}
-use Rattle.wire_scene.specs.declared.scene.Switch.{Switch}
-use Rattle.link_work.specs.Switches.{pins_of}
-use Rattle.host_reactor.specs.declared.ordered.Phase.TheVariants.{Connecting, Running}
-use Rattle.host_reactor.specs.Notes.{noted}
-use Rattle.host_reactor.specs.Reactor.{Run}
+use Rattle.host_reactor.specs.declared.ordered.Phase.TheVariants.{Running}
 use Rattle.host_reactor.specs.Rows.{HasEachBoard}
-use Rattle.host_reactor.specs.Runs.{Came, known_by, last_reacted}
 use Rattle.host_reactor.proofs.Rowing.{rowed, whole-first}
 use Rattle.laws_board.specs.clocks.Runs.{IsInRun}
 use Rattle.laws_board.specs.clocks.Samples.{first_line}
 use Rattle.laws_board.proofs.clocks.Lines.{known_lines, noted_phase}
 use Rattle.session_lanes.specs.declared.near.Told as near
-use Rattle.session_work.specs.declared.table.MotionTurn.{MotionTurn}
-use Rattle.session_work.specs.declared.table.ReactorTurn.{ReactorTurn}
-use Rattle.session_work.specs.Rows.{gather}
 use Rattle.session_run.specs.declared.tell.Kept.{Kept}
 use Rattle.session_run.specs.Boards.{AreReactorTurns, came_from, came_in}
 use Rattle.session_run.specs.Runs.{RunsOver}
 use Rattle.laws_run.specs.lanes.Boards.{turns_behind}
-use Rattle.laws_run.proofs.lanes.Whole.{gather_both}
 use Rattle.laws_run.specs.run_ends.Boards.{boards_of, lines_at}
 use Rattle.laws_run.proofs.run_ends.Connecting.{Connects, after_boards, as_clocks, boards_append, both_none, end_none, tells_boards}
 use Rattle.laws_run.specs.run_headline.Near.{FollowsClock}
-use Rattle.laws_run.proofs.run_headline.Boarded.{came_cut, came_long, came_split, drift_few, valid_at}
+use Rattle.laws_run.proofs.run_headline.Boarded.{came_cut, came_long, came_split, valid_at}
 use Rattle.laws_run.proofs.run_headline.Facts.{turns_cut}
 use Rattle.laws_run.proofs.run_headline.Fronts.{front_of}
 use Rattle.laws_run.proofs.run_headline.Near.{follows_clock}
@@ -43,6 +27,8 @@ use Rattle.laws_run.proofs.run_headline.Runs.{run_ended}
 use Rattle.laws_run.proofs.run_headline.Showing.{Ended, Facts}
 use Rattle.laws_run.proofs.home_headline.Clocks.{clocks_on}
 use Rattle.laws_run.specs.run_clocks.Printed.{TellKnownLines}
+use Rattle.laws_run.proofs.run_lates.Unbegun.{gather_both}
+use Rattle.laws_homing.proofs.clear_groups.Noted.{drift_small}
 
 abbrev Lines : List ReactorTurn → List ReportLine
 Lines turns = gather (λ (t : ReactorTurn). t.lines) turns
@@ -95,7 +81,7 @@ module _ (m : Machine) (v : IsValidMachine m) (s : Scene) (ts : List MotionTurn)
       let known = known_lines m s.switches pins s.entries b came front.front front.run (λ e. let g : Running ≡ Connecting = sym x.tells.after ∙ e in cc) in
       let valid = valid_at m.boards b h v.boards in
       let Follows : Line → Type 0 = λ z. FollowsClock clock z in
-      subst Follows (sym (first_at b (known_by m s.switches came).clocks known.0 known.1)) (follows_clock clock front.front known.0 valid.freq.whole (drift_few (board_at m b).drift valid.drift_low valid.drift_high) known.2)
+      subst Follows (sym (first_at b (known_by m s.switches came).clocks known.0 known.1)) (follows_clock clock front.front known.0 valid.freq.whole (drift_small (board_at m b).drift valid.drift_low valid.drift_high) known.2)
 
   told_lines : (rs : List ReactorTurn) → Ended m s ts rs end c → (boards_of (Lines (rs ++ end ∷ [])) ≡ []) ⊎ TellKnownLines m s.switches rs (Lines (rs ++ end ∷ []))
   told_lines rs e = by (find m s.switches [] rs e.facts.turns)

@@ -1,33 +1,16 @@
 -- A cause that is so in a turn ends the run, or one before it does.
 use Rattle.std.proofs.Common.{◌≡◌, ◌⊎◌, ℕ, ◌<◌, Bool, true, false, cond, List, ◌++◌, Option, Some, None, refl, ap, sym, ◌∙◌, subst, arith, inl, inr}
 use Rattle.std.specs.Prelude.{◌-◌, ◌&&◌, ◌||◌, nat_lt}
-use Rattle.std.proofs.lemmas.Bool.Decides.{leb_tells}
-use Rattle.plan_types.specs.declared.cause.Cause.{Cause}
+use Rattle.laws_board.proofs.Names.{leb_tells, Cause, Machine, ReadStop, axis_at, Note, State, ReportLine, Switch, Asking, listen_all, stale, HomingTurn, homing_turn, Known, Phase, Connecting, Stopping, noted, news_of, is_out, by_phase, cut_line, reacts, unless_ended, unless_stale, first_lines, first_cause, stop_of, and_from}
 use Rattle.plan_types.specs.declared.cause.Cause.TheVariants as cause
-use Rattle.plan_types.specs.declared.machine.Machine.{Machine}
-use Rattle.plan_types.specs.declared.plan.ReadStop.{ReadStop}
 use Rattle.plan_types.specs.declared.plan.ReadStop.TheVariants as read
-use Rattle.plan_types.specs.Machines.{axis_at}
-use Rattle.msg_code.specs.declared.talk.Note.{Note}
-use Rattle.msg_code.specs.declared.talk.State.{State}
-use Rattle.report_text.specs.declared.line.ReportLine.{ReportLine}
-use Rattle.wire_scene.specs.declared.scene.Switch.{Switch}
-use Rattle.board_asking.specs.declared.asking.Asking.{Asking}
-use Rattle.board_asking.specs.Connecting.{listen_all}
-use Rattle.board_asking.specs.Drift.{stale}
-use Rattle.axis_homing.specs.declared.homing.HomingTurn.{HomingTurn}
-use Rattle.axis_homing.specs.Homing.{homing_turn}
-use Rattle.host_reactor.specs.declared.ordered.Known.{Known}
-use Rattle.host_reactor.specs.declared.ordered.Phase.{Phase}
-use Rattle.host_reactor.specs.declared.ordered.Phase.TheVariants.{Connecting, Running, Stopping}
-use Rattle.host_reactor.specs.Notes.{noted, news_of, is_out}
-use Rattle.host_reactor.specs.Reactor.{after_homing, by_phase, carries_on, cut_line, finishes, reacts, unless_ended, unless_homing_ends, unless_late_stale, unless_stale}
-use Rattle.host_reactor.specs.Report.{first_lines}
-use Rattle.host_reactor.specs.Running.{all_ended, all_idle, any_out, first_cause, is_finished, late, stop_of}
-use Rattle.host_reactor.proofs.Blames.{blames}
+use Rattle.host_reactor.specs.declared.ordered.Phase.TheVariants.{Running}
+use Rattle.host_reactor.specs.Reactor.{after_homing, carries_on, finishes, unless_homing_ends, unless_late_stale}
+use Rattle.host_reactor.specs.Running.{all_ended, all_idle, any_out, is_finished, late}
+use Rattle.host_reactor.proofs.Blames.{blames, note-stays}
 use Rattle.host_reactor.proofs.Ends.{connecting-ends, first-ends, homing-ends, late-is-next, memory-is-first, stale-ends}
 use Rattle.laws_run.specs.run_ends.Ends.{EndsSo, IsThrough, WentThrough, order}
-use Rattle.laws_run.proofs.run_ends.Ending.{IsHoming, IsLate, IsStale, homing_is, late_is, note_stays, of_some, stale_is}
+use Rattle.laws_run.proofs.run_ends.Ending.{IsHoming, IsLate, IsStale, homing_is, late_is, of_some, stale_is}
 
 -- a turn ends a run for a cause, or for one before it
 abbrev Comes : Cause → Option Cause → Type 0
@@ -47,14 +30,10 @@ homing_order (cause.NoSwitch section) i = refl
 homing_order (cause.Expired board turn) i = refl
 homing_order c i = absurd i
 
-both_true : (a b : Bool) → a ≡ true → b ≡ true → (a && b) ≡ true
-both_true true b e f = f
-both_true false b e f = e
-
 finished : (r : Known) (k : ℕ) (states : List State) → IsThrough r k states → is_finished r k states ≡ true
 finished r k states t =
     let late : nat_lt 4 (k - r.ended) ≡ true = elim (leb_tells 5 (k - r.ended)) [ inl p ↦ p.0 | inr p ↦ absurd (let b = t.behind in omega (arith, p.1, b)) ] in
-    both_true (all_ended r.done r.reading) (nat_lt 4 (k - r.ended) && all_idle states) t.ended (both_true (nat_lt 4 (k - r.ended)) (all_idle states) late t.idle)
+    and_from (all_ended r.done r.reading) (nat_lt 4 (k - r.ended) && all_idle states) t.ended (and_from (nat_lt 4 (k - r.ended)) (all_idle states) late t.idle)
 
 module _ (m : Machine) (switches : List Switch) (r : Known) (k : ℕ) (states : List State) (note : Option Note) (none : (noted m note r).stopped ≡ None) where
   abbrev End : Option Cause
@@ -163,9 +142,9 @@ module _ (m : Machine) (switches : List Switch) (r : Known) (k : ℕ) (states : 
 pub none_comes : (m : Machine) (switches : List Switch) (r : Known) (k : ℕ) (states : List State) (note : Option Note) → (reacts m switches r k states note).ordered.end ≡ None → (c : Cause) → EndsSo m (noted m note r) k states c → ⊥
 none_comes m switches r k states note e c h =
     let untold = (blames m switches r k states note).goes e in
-    subst (Comes c) e (comes m switches r k states note (note_stays m note r ∙ untold.0) c h)
+    subst (Comes c) e (comes m switches r k states note (note-stays m note r ∙ untold.0) c h)
 
 -- and one that ends a run has the first
 pub first_comes : (m : Machine) (switches : List Switch) (r : Known) (k : ℕ) (states : List State) (note : Option Note) (c : Cause) → r.stopped ≡ None → (reacts m switches r k states note).ordered.end ≡ Some c
     → (d : Cause) → EndsSo m (noted m note r) k states d → (d ≡ c) ⊎ (order c < order d)
-first_comes m switches r k states note c untold e d h = subst (Comes d) e (comes m switches r k states note (note_stays m note r ∙ untold) d h)
+first_comes m switches r k states note c untold e d h = subst (Comes d) e (comes m switches r k states note (note-stays m note r ∙ untold) d h)

@@ -1,47 +1,24 @@
 -- The boards have their lines in the turn in which connecting ends.
 use Rattle.std.proofs.Common.{◌≡◌, ◌⊎◌, ℕ, ◌+◌, Bool, true, false, List, [], ◌∷◌, ◌++◌, length, map, Option, Some, None, refl, ap, sym, ◌∙◌, subst, inl, inr}
-use Rattle.std.specs.List.{flat_map}
+use Rattle.laws_board.proofs.Names.{flat_map, flat_map-append, Cause, AxisDef, Machine, Line, Pulse, ReadStop, one_line, axis_at, Note, NoteNews, State, ReportLine, Switch, Asking, all_connected, giving_up, listen_all, ready_all, stale, HomingTurn, homing_turn, Known, Phase, Connecting, Stopping, noted, news_of, is_out, Reacted, by_phase, cut_line, reacts, unless_ended, unless_stale, first_lines, machine_line, first_cause, stop_of, Came, known_by, last_reacted, ReactorTurn, gather}
 use Rattle.std.specs.Prelude.{◌==◌, if◌then◌else◌}
-use Rattle.std.proofs.lemmas.Grind.{flat_map-append}
 use Rattle.plan_types.specs.Sections.{first_start}
-use Rattle.plan_types.specs.declared.cause.Cause.{Cause}
-use Rattle.plan_types.specs.declared.machine.AxisDef.{AxisDef}
-use Rattle.plan_types.specs.declared.machine.Machine.{Machine}
-use Rattle.plan_types.specs.declared.plan.Line.{Line}
-use Rattle.plan_types.specs.declared.plan.Pulse.{Pulse}
-use Rattle.plan_types.specs.declared.plan.ReadStop.{ReadStop}
 use Rattle.plan_types.specs.declared.plan.ReadStop.TheVariants as read
-use Rattle.plan_types.specs.Lines.{one_line}
-use Rattle.plan_types.specs.Machines.{axis_at}
-use Rattle.msg_code.specs.declared.talk.Note.{Note}
-use Rattle.msg_code.specs.declared.talk.NoteNews.{NoteNews}
 use Rattle.msg_code.specs.declared.talk.NoteNews.TheVariants as news
-use Rattle.msg_code.specs.declared.talk.State.{State}
 use Rattle.msg_code.specs.declared.talk.WordNews.TheVariants as word
-use Rattle.report_text.specs.declared.line.ReportLine.{ReportLine}
 use Rattle.report_text.specs.declared.line.ReportLine.TheVariants as report
-use Rattle.wire_scene.specs.declared.scene.Switch.{Switch}
-use Rattle.board_asking.specs.declared.asking.Asking.{Asking}
-use Rattle.board_asking.specs.Connecting.{all_connected, board_lines, connected_lines, giving_up, listen_all, ready_all, turn_tick}
-use Rattle.board_asking.specs.Drift.{stale}
-use Rattle.axis_homing.specs.declared.homing.HomingTurn.{HomingTurn}
-use Rattle.axis_homing.specs.Homing.{homing_turn}
+use Rattle.board_asking.specs.Connecting.{board_lines, connected_lines, turn_tick}
 use Rattle.host_reactor.specs.declared.ordered.Begun.{Begun}
-use Rattle.host_reactor.specs.declared.ordered.Known.{Known}
-use Rattle.host_reactor.specs.declared.ordered.Phase.{Phase}
-use Rattle.host_reactor.specs.declared.ordered.Phase.TheVariants.{Connecting, Running, Stopping}
+use Rattle.host_reactor.specs.declared.ordered.Phase.TheVariants.{Running}
 use Rattle.host_reactor.specs.declared.ordered.Reading.{Reading}
-use Rattle.host_reactor.specs.Notes.{noted, news_of, is_out}
-use Rattle.host_reactor.specs.Reactor.{Reacted, after_homing, asks_boards, by_phase, carries_on, cut_line, finishes, is_connected_now, phase_after, reacts, unless_ended, unless_given_up, unless_homing_ends, unless_late_stale, unless_stale}
-use Rattle.host_reactor.specs.Report.{count_lines, drift_line, drift_lines, first_lines, machine_line, stepper_place, pulse_at, pulse_line, pulse_lines, section_line}
-use Rattle.host_reactor.specs.Running.{first_cause, is_finished, stop_of}
-use Rattle.host_reactor.specs.Runs.{Came, known_by, last_reacted}
+use Rattle.host_reactor.specs.Reactor.{after_homing, asks_boards, carries_on, finishes, is_connected_now, phase_after, unless_given_up, unless_homing_ends, unless_late_stale}
+use Rattle.host_reactor.specs.Report.{count_lines, drift_line, drift_lines, stepper_place, pulse_at, pulse_line, pulse_lines, section_line}
+use Rattle.host_reactor.specs.Running.{is_finished}
 use Rattle.laws_board.proofs.clocks.Lines.{noted_phase}
 use Rattle.laws_board.proofs.clocks.Turning.{goes}
-use Rattle.session_work.specs.declared.table.ReactorTurn.{ReactorTurn}
-use Rattle.session_work.specs.Rows.{gather}
 use Rattle.session_run.specs.Boards.{AreReactorTurns, came_from, came_in}
 use Rattle.laws_run.specs.run_ends.Boards.{board_in, boards_of, lines_at}
+use Rattle.host_reactor.proofs.Connects.{stop-phase}
 
 pub boards_append : (xs ys : List ReportLine) → boards_of (xs ++ ys) ≡ boards_of xs ++ boards_of ys
 boards_append xs ys = flat_map-append board_in xs ys
@@ -186,17 +163,12 @@ tells_boards m switches r k states note =
 pub end_none : (m : Machine) (switches : List Switch) (r : Known) (k : ℕ) (states : List State) (note : Option Note) (c : Cause) → (reacts m switches r k states note).ordered.end ≡ Some c → boards_of (reacts m switches r k states note).ordered.lines ≡ []
 end_none m switches r k states note c e = elim (tells_boards m switches r k states note) [ inl n ↦ n.0 | inr x ↦ absurd (let f : Some c ≡ None = sym e ∙ x.on in cc) ]
 
--- the phases of turns that go on
-not_running : (stop : Option ℕ) → phase_after stop ≡ Connecting → ⊥
-not_running None e = let f : Running ≡ Connecting = e in cc
-not_running (Some line) e = let f : Stopping line ≡ Connecting = e in cc
-
 pub was_connecting : (m : Machine) (switches : List Switch) (c : Came) (before : List Came) → (last_reacted m switches c before).ordered.end ≡ None → (known_by m switches (c ∷ before)).phase ≡ Connecting → (known_by m switches before).phase ≡ Connecting
 was_connecting m switches c before on e =
     let r = known_by m switches before in
     elim (goes m switches r (length before) c.states c.note on) [
       | inl a ↦ sym (noted_phase m c.note r) ∙ a.phase
-      | inr a ↦ elim a [ inl x ↦ sym (noted_phase m c.note r) ∙ x.phase | inr x ↦ absurd (not_running x.stop (sym (ap (λ (y : Reacted). y.known.phase) x.is) ∙ e)) ]
+      | inr a ↦ elim a [ inl x ↦ sym (noted_phase m c.note r) ∙ x.phase | inr x ↦ absurd (stop-phase x.stop (sym (ap (λ (y : Reacted). y.known.phase) x.is) ∙ e)) ]
     ]
 
 -- turns up to one that is still connecting

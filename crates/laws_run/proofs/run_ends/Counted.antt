@@ -1,50 +1,31 @@
 -- The numbers of what was read stand in the turn that ends a run.
 use Rattle.std.proofs.Common.{◌≡◌, ◌⊎◌, inl, inr, ℕ, ◌+◌, Bool, true, false, List, [], ◌∷◌, ◌++◌, length, Option, Some, None, refl, ap, sym, ◌∙◌, subst}
-use Rattle.std.specs.List.{flat_map}
+use Rattle.laws_board.proofs.Names.{flat_map, flat_map-append, Cause, AxisDef, Machine, Line, Pulse, ReadStop, axis_at, Note, NoteNews, State, ReportLine, Switch, Asking, all_connected, giving_up, listen_all, ready_all, stale, HomingTurn, homing_turn, Known, Phase, Connecting, Stopping, noted, news_of, is_out, Reacted, by_phase, cut_line, reacts, unless_ended, unless_stale, first_lines, machine_line, stop_of}
 use Rattle.std.specs.Prelude.{◌==◌, ◌||◌, if◌then◌else◌}
-use Rattle.std.proofs.lemmas.Grind.{flat_map-append}
-use Rattle.plan_types.specs.declared.cause.Cause.{Cause}
 use Rattle.plan_types.specs.declared.cause.Cause.TheVariants as cause
-use Rattle.plan_types.specs.declared.machine.AxisDef.{AxisDef}
-use Rattle.plan_types.specs.declared.machine.Machine.{Machine}
-use Rattle.plan_types.specs.declared.plan.Line.{Line}
-use Rattle.plan_types.specs.declared.plan.Pulse.{Pulse}
-use Rattle.plan_types.specs.declared.plan.ReadStop.{ReadStop}
 use Rattle.plan_types.specs.declared.plan.ReadStop.TheVariants as read
-use Rattle.plan_types.specs.Machines.{axis_at}
-use Rattle.msg_code.specs.declared.talk.Note.{Note}
-use Rattle.msg_code.specs.declared.talk.NoteNews.{NoteNews}
 use Rattle.msg_code.specs.declared.talk.NoteNews.TheVariants as news
-use Rattle.msg_code.specs.declared.talk.State.{State}
-use Rattle.report_text.specs.declared.line.ReportLine.{ReportLine}
 use Rattle.report_text.specs.declared.line.ReportLine.TheVariants as report
-use Rattle.wire_scene.specs.declared.scene.Switch.{Switch}
-use Rattle.board_asking.specs.declared.asking.Asking.{Asking}
-use Rattle.board_asking.specs.Connecting.{all_connected, board_lines, connected_lines, giving_up, listen_all, ready_all}
-use Rattle.board_asking.specs.Drift.{stale}
-use Rattle.axis_homing.specs.declared.homing.HomingTurn.{HomingTurn}
-use Rattle.axis_homing.specs.Homing.{homing_turn}
+use Rattle.board_asking.specs.Connecting.{board_lines, connected_lines}
 use Rattle.host_reactor.specs.declared.ordered.Begun.{Begun}
-use Rattle.host_reactor.specs.declared.ordered.Known.{Known}
-use Rattle.host_reactor.specs.declared.ordered.Phase.{Phase}
-use Rattle.host_reactor.specs.declared.ordered.Phase.TheVariants.{Connecting, Running, Stopping}
+use Rattle.host_reactor.specs.declared.ordered.Phase.TheVariants.{Running}
 use Rattle.host_reactor.specs.declared.ordered.Reading.{Reading}
-use Rattle.host_reactor.specs.Notes.{noted, news_of, is_out}
-use Rattle.host_reactor.specs.Reactor.{Reacted, after_homing, asks_boards, by_phase, carries_on, cut_line, ends, finishes, is_connected_now, reacts, unless_ended, unless_given_up, unless_homing_ends, unless_late_stale, unless_stale}
-use Rattle.host_reactor.specs.Report.{count_lines, drift_line, drift_lines, first_lines, machine_line, stepper_place, pulse_at, pulse_line, pulse_lines, section_line}
-use Rattle.host_reactor.specs.Running.{any_out, is_finished, late, or_cause, stop_of}
+use Rattle.host_reactor.specs.Reactor.{after_homing, asks_boards, carries_on, ends, finishes, is_connected_now, unless_given_up, unless_homing_ends, unless_late_stale}
+use Rattle.host_reactor.specs.Report.{count_lines, drift_line, drift_lines, stepper_place, pulse_at, pulse_line, pulse_lines, section_line}
+use Rattle.host_reactor.specs.Running.{any_out, is_finished, late, or_cause}
 use Rattle.laws_run.specs.run_ends.Boards.{count_in, counts_of}
 use Rattle.laws_run.specs.run_ends.Ends.{GoesThrough}
-use Rattle.laws_run.proofs.run_ends.Ending.{If, IsConnect, IsHoming, IsLate, IsStale, connect_is, homing_is, late_is, note_stays, stale_is}
+use Rattle.laws_run.proofs.run_ends.Ending.{If, IsConnect, IsHoming, IsLate, IsStale, connect_is, homing_is, late_is, stale_is}
+use Rattle.host_reactor.proofs.Blames.{note-stays}
 
 pub counts_append : (xs ys : List ReportLine) → counts_of (xs ++ ys) ≡ counts_of xs ++ counts_of ys
 counts_append xs ys = flat_map-append count_in xs ys
 
-both_none : (xs ys : List ReportLine) → counts_of xs ≡ [] → counts_of ys ≡ [] → counts_of (xs ++ ys) ≡ []
+pub both_none : (xs ys : List ReportLine) → counts_of xs ≡ [] → counts_of ys ≡ [] → counts_of (xs ++ ys) ≡ []
 both_none xs ys a b = counts_append xs ys ∙ ap (λ z. z ++ counts_of ys) a ∙ b
 
 -- the lines that stand in a turn whatever the phase tell none of them
-machine_none : (b : Bool) (m : Machine) → counts_of (if b then report.Machine m.corexy (length m.boards) (length m.steppers) ∷ [] else []) ≡ []
+pub machine_none : (b : Bool) (m : Machine) → counts_of (if b then report.Machine m.corexy (length m.boards) (length m.steppers) ∷ [] else []) ≡ []
 machine_none true m = refl
 machine_none false m = refl
 
@@ -52,33 +33,33 @@ begun_none : (b : Bool) (s : Begun) → counts_of (if b then report.Section s.se
 begun_none true s = refl
 begun_none false s = refl
 
-section_none : (k : ℕ) (o : Option Begun) → counts_of (section_line k o) ≡ []
+pub section_none : (k : ℕ) (o : Option Begun) → counts_of (section_line k o) ≡ []
 section_none k None = refl
 section_none k (Some s) = begun_none (s.turn == k) s
 
-one_drift : (n : NoteNews) → counts_of (drift_line n) ≡ []
+pub one_drift : (n : NoteNews) → counts_of (drift_line n) ≡ []
 one_drift (news.Start section kind turn last moving) = refl
 one_drift (news.Done section turn) = refl
 one_drift (news.Read end sections) = refl
 one_drift (news.Line board line from) = refl
 
-drift_none : (ns : List NoteNews) → counts_of (drift_lines ns) ≡ []
+pub drift_none : (ns : List NoteNews) → counts_of (drift_lines ns) ≡ []
 drift_none [] = refl
 drift_none (n ∷ ns) = both_none (drift_line n) (drift_lines ns) (one_drift n) (drift_none ns)
 
-one_pulse : (m : Machine) (b : ℕ) (p : Pulse) (o : Option ℕ) → counts_of (pulse_at m b p o) ≡ []
+pub one_pulse : (m : Machine) (b : ℕ) (p : Pulse) (o : Option ℕ) → counts_of (pulse_at m b p o) ≡ []
 one_pulse m b p None = refl
 one_pulse m b p (Some place) = refl
 
-pulses_none : (m : Machine) (b : ℕ) (ps : List Pulse) → counts_of (flat_map (pulse_line m b) ps) ≡ []
+pub pulses_none : (m : Machine) (b : ℕ) (ps : List Pulse) → counts_of (flat_map (pulse_line m b) ps) ≡ []
 pulses_none m b [] = refl
 pulses_none m b (p ∷ ps) = both_none (pulse_line m b p) (flat_map (pulse_line m b) ps) (one_pulse m b p (stepper_place 0 b p.stepper m.steppers)) (pulses_none m b ps)
 
-states_none : (m : Machine) (b : ℕ) (states : List State) → counts_of (pulse_lines m b states) ≡ []
+pub states_none : (m : Machine) (b : ℕ) (states : List State) → counts_of (pulse_lines m b states) ≡ []
 states_none m b [] = refl
 states_none m b (s ∷ states) = both_none (flat_map (pulse_line m b) s.pulses) (pulse_lines m (b + 1) states) (pulses_none m b s.pulses) (states_none m (b + 1) states)
 
-first_none : (m : Machine) (r : Known) (k : ℕ) (ns : List NoteNews) (states : List State) → counts_of (first_lines m r k ns states) ≡ []
+pub first_none : (m : Machine) (r : Known) (k : ℕ) (ns : List NoteNews) (states : List State) → counts_of (first_lines m r k ns states) ≡ []
 first_none m r k ns states =
     both_none (machine_line m k) (section_line k r.begun ++ (drift_lines ns ++ pulse_lines m 0 states)) (machine_none (k == 0) m)
     (both_none (section_line k r.begun) (drift_lines ns ++ pulse_lines m 0 states) (section_none k r.begun) (both_none (drift_lines ns) (pulse_lines m 0 states) (drift_none ns) (states_none m 0 states)))
@@ -191,4 +172,4 @@ first false None None m switches r k states lines e i n = phases r.phase m switc
 pub counted : (m : Machine) (switches : List Switch) (r : Known) (k : ℕ) (states : List State) (note : Option Note) → r.stopped ≡ None → Counted (noted m note r) (reacts m switches r k states note)
 counted m switches r k states note e =
     let s = noted m note r in
-    first (is_out note || any_out states) s.stopped (late 0 states) m switches s k states (first_lines m s k (news_of note) states) (note_stays m note r ∙ e) (late_is 0 states) (first_none m s k (news_of note) states)
+    first (is_out note || any_out states) s.stopped (late 0 states) m switches s k states (first_lines m s k (news_of note) states) (note-stays m note r ∙ e) (late_is 0 states) (first_none m s k (news_of note) states)

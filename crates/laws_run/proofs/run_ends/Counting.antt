@@ -1,29 +1,20 @@
 -- How many sections ended, by the planner's notes.
 use Rattle.std.proofs.Common.{◌≡◌, ◌≢◌, ◌⊎◌, ℕ, suc, ◌+◌, ◌<◌, ◌≤◌, List, [], ◌∷◌, ◌++◌, All, length, map, Option, Some, None, refl, ap, sym, ◌∙◌, subst, arith, inl, inr}
-use Rattle.std.proofs.lemmas.Bool.Decides.{eqb_tells, leb_tells}
-use Rattle.std.proofs.lemmas.List.Elements.{All-cons, All-head, All-nil, All-tail}
+use Rattle.laws_board.proofs.Names.{eqb_tells, leb_tells, All-cons, All-head, All-nil, All-tail, Machine, Note, NoteNews, Switch, Known, noted, known_behind, told_all, Came, known_by, Started, MotionTurn, ReactorTurn}
 use Rattle.std.specs.Prelude.{◌==◌, if◌then◌else◌, nat_lt}
 use Rattle.gcode_program.specs.Programs.{program_sections}
-use Rattle.plan_types.specs.declared.machine.Machine.{Machine}
-use Rattle.msg_code.specs.declared.talk.Note.{Note}
-use Rattle.msg_code.specs.declared.talk.NoteNews.{NoteNews}
 use Rattle.msg_code.specs.declared.talk.NoteNews.TheVariants as news
-use Rattle.wire_scene.specs.declared.scene.Switch.{Switch}
-use Rattle.host_reactor.specs.declared.ordered.Known.{Known}
 use Rattle.host_reactor.specs.declared.ordered.Reading.{Reading}
-use Rattle.host_reactor.specs.Notes.{noted, known_behind, told_all}
-use Rattle.host_reactor.specs.Runs.{Came, known_by}
 use Rattle.motion_work.specs.Further.{AreFurther}
 use Rattle.motion_work.specs.Puts.{ArePut, IsReadNews, begun_notes}
-use Rattle.motion_work.specs.Seen.{AreOut, Started}
+use Rattle.motion_work.specs.Seen.{AreOut}
 use Rattle.motion_work.specs.Turns.{done_notes}
-use Rattle.session_work.specs.declared.table.MotionTurn.{MotionTurn}
-use Rattle.session_work.specs.declared.table.ReactorTurn.{ReactorTurn}
 use Rattle.laws_board.specs.plans.Lines.{TookEach, TookNotes, came_in}
 use Rattle.laws_board.specs.plans.Planned.{puts_of}
 use Rattle.session_run.specs.Boards.{came_from}
 use Rattle.laws_run.specs.run_ends.Ends.{Counts, ended_by, reading_of}
 use Rattle.laws_run.proofs.run_ends.Keeping.{keeps}
+use Rattle.laws_board.proofs.plans.Beginning.{all_append}
 
 -- how many end in a turn
 abbrev ending_at : ℕ → List Started → ℕ
@@ -45,10 +36,6 @@ one_by e k = elim (leb_tells (suc e) k) [
 by_next : (k : ℕ) (ss : List Started) → ended_by (k + 1) ss ≡ ended_by k ss + ending_at k ss
 by_next k [] = refl
 by_next k (s ∷ ss) = let one = one_by s.end k in let rest = by_next k ss in omega (arith, one, rest)
-
-all_told : (m : Machine) (xs ys : List NoteNews) (r : Known) → told_all m (xs ++ ys) r ≡ told_all m ys (told_all m xs r)
-all_told m [] ys r = refl
-all_told m (x ∷ xs) ys r = all_told m xs ys (known_behind m r x)
 
 -- the notes of ends
 done_few : (m : Machine) (k i : ℕ) (ss : List Started) (r : Known) → (told_all m (done_notes k i ss) r).done ≤ r.done + ending_at k ss
@@ -123,7 +110,7 @@ note_counts m text k ss note read further r is out are e c =
     let second = told_all m (begun_notes k 0 ss) first in
     let third = told_all m read second in
     let whole : told_all m note.news r ≡ told_all m further third =
-    ap (λ x. told_all m x r) e ∙ all_told m (done_notes k 0 ss) (begun_notes k 0 ss ++ (read ++ further)) r ∙ all_told m (begun_notes k 0 ss) (read ++ further) first ∙ all_told m read further second in
+    ap (λ x. told_all m x r) e ∙ all_append m (done_notes k 0 ss) (begun_notes k 0 ss ++ (read ++ further)) r ∙ all_append m (begun_notes k 0 ss) (read ++ further) first ∙ all_append m read further second in
     let on = further_same m k further third are in
     let begun = begun_same m k 0 ss first in
     let reading : second.reading ≡ r.reading = begun.2 ∙ done_read m k 0 ss r in

@@ -1,40 +1,18 @@
 -- For what a turn of the reactor ends a run.
 use Rattle.std.proofs.Common.{◌≡◌, ℕ, ◌+◌, Bool, true, false, cond, List, [], ◌∷◌, ◌++◌, Option, Some, None, refl, ap, sym, ◌∙◌, subst, arith, inl, inr, ◌⊎◌}
-use Rattle.std.proofs.lemmas.Bool.Decides.{leb_tells}
+use Rattle.laws_board.proofs.Names.{leb_tells, Cause, Machine, ReadStop, Clocks, axis_at, Note, NoteNews, ShutNews, State, ReportLine, Switch, End, Asking, all_connected, giving_up, listen_all, ready_all, stale, Homing, HomingTurn, answer_in, by_answer, hears_all, homing_turn, Known, Phase, Connecting, Stopping, noted, news_of, is_out, known_behind, told_all, IsOwn, by_phase, cut_line, reacts, unless_ended, unless_stale, first_lines, stop_of, both_parts}
 use Rattle.std.specs.Prelude.{◌-◌, ◌&&◌, ◌||◌, ◌==◌, nat_lt}
-use Rattle.plan_types.specs.declared.cause.Cause.{Cause}
 use Rattle.plan_types.specs.declared.cause.Cause.TheVariants as cause
-use Rattle.plan_types.specs.declared.machine.Machine.{Machine}
-use Rattle.plan_types.specs.declared.plan.ReadStop.{ReadStop}
 use Rattle.plan_types.specs.declared.plan.ReadStop.TheVariants as read
-use Rattle.plan_types.specs.Lines.{Clocks}
-use Rattle.plan_types.specs.Machines.{axis_at}
-use Rattle.msg_code.specs.declared.talk.Note.{Note}
-use Rattle.msg_code.specs.declared.talk.NoteNews.{NoteNews}
 use Rattle.msg_code.specs.declared.talk.NoteNews.TheVariants as news
-use Rattle.msg_code.specs.declared.talk.ShutNews.{ShutNews}
-use Rattle.msg_code.specs.declared.talk.State.{State}
-use Rattle.report_text.specs.declared.line.ReportLine.{ReportLine}
-use Rattle.wire_scene.specs.declared.scene.Switch.{Switch}
-use Rattle.trigger_group.specs.declared.order.End.{End}
 use Rattle.trigger_group.specs.declared.order.End.TheVariants as end
-use Rattle.board_asking.specs.declared.asking.Asking.{Asking}
 use Rattle.board_asking.specs.Asking.{gives_up}
-use Rattle.board_asking.specs.Connecting.{all_connected, giving_up, listen_all, ready_all}
 use Rattle.board_asking.specs.Drift as drift
-use Rattle.board_asking.specs.Drift.{stale}
-use Rattle.axis_homing.specs.declared.homing.Homing.{Homing}
-use Rattle.axis_homing.specs.declared.homing.HomingTurn.{HomingTurn}
-use Rattle.axis_homing.specs.Homing.{answer_in, by_answer, hears_all, homing_turn}
-use Rattle.host_reactor.specs.declared.ordered.Known.{Known}
-use Rattle.host_reactor.specs.declared.ordered.Phase.{Phase}
-use Rattle.host_reactor.specs.declared.ordered.Phase.TheVariants.{Connecting, Running, Stopping}
-use Rattle.host_reactor.specs.Notes.{noted, news_of, is_out, known_behind, told_all}
-use Rattle.host_reactor.specs.Rows.{IsOwn}
-use Rattle.host_reactor.specs.Reactor.{after_homing, asks_boards, by_phase, carries_on, cut_line, finishes, is_connected_now, reacts, unless_ended, unless_given_up, unless_homing_ends, unless_late_stale, unless_stale}
-use Rattle.host_reactor.specs.Report.{first_lines}
-use Rattle.host_reactor.specs.Running.{all_ended, all_idle, any_out, is_finished, late, late_of, or_cause, stop_of, text_end}
+use Rattle.host_reactor.specs.declared.ordered.Phase.TheVariants.{Running}
+use Rattle.host_reactor.specs.Reactor.{after_homing, asks_boards, carries_on, finishes, is_connected_now, unless_given_up, unless_homing_ends, unless_late_stale}
+use Rattle.host_reactor.specs.Running.{all_ended, all_idle, any_out, is_finished, late, late_of, or_cause, text_end}
 use Rattle.laws_run.specs.run_ends.Ends.{EndsSo, GoesThrough, IsThrough, WentThrough}
+use Rattle.host_reactor.proofs.Blames.{told-stays, all-stay, note-stays}
 
 -- a cause is one of its kind
 abbrev pub IsLate : Cause → Type 0
@@ -113,10 +91,10 @@ homing_ends m r k states (cause.NoSwitch section) i p e = (p, e)
 homing_ends m r k states (cause.Expired board turn) i p e = (p, e)
 homing_ends m r k states c i p e = absurd i
 
-same_cause : (d c : Cause) → Some d ≡ Some c → d ≡ c
+pub same_cause : (d c : Cause) → Some d ≡ Some c → d ≡ c
 same_cause d c e = cc
 
-none_some : (c : Cause) → None ≡ Some c → ⊥
+pub none_some : (c : Cause) → None ≡ Some c → ⊥
 none_some c e = cc
 
 -- connecting
@@ -131,15 +109,10 @@ given_so (Some d) m r k states lines askings c o p e =
     let is : giving_up k 0 (ready_all m 0 (listen_all r.askings.items states)) ≡ Some c = sym o ∙ e in
     connect_ends m r k states c (of_some IsConnect _ c is (connect_is k 0 (ready_all m 0 (listen_all r.askings.items states)))) p is
 
--- both of two
-both_are : (a b : Bool) → (a && b) ≡ true → (a ≡ true) × (b ≡ true)
-both_are true b e = (refl, e)
-both_are false b e = cc
-
 through : (r : Known) (k : ℕ) (states : List State) → is_finished r k states ≡ true → IsThrough r k states
 through r k states e =
-    let all = both_are (all_ended r.done r.reading) (nat_lt 4 (k - r.ended) && all_idle states) e in
-    let late = both_are (nat_lt 4 (k - r.ended)) (all_idle states) all.1 in
+    let all = both_parts (all_ended r.done r.reading) (nat_lt 4 (k - r.ended) && all_idle states) e in
+    let late = both_parts (nat_lt 4 (k - r.ended)) (all_idle states) all.1 in
     record {
       ended = all.0;
       behind = elim (leb_tells 5 (k - r.ended)) [ inl p ↦ omega (arith, p.1) | inr p ↦ absurd (let f : false ≡ true = sym p.0 ∙ late.0 in cc) ];
@@ -213,29 +186,14 @@ first_so false None (Some d) m switches r k states lines c n is other e =
     late_ends m r k states c (of_some IsLate _ c own (late_is 0 states)) own
 first_so false None None m switches r k states lines c n is other e = phase_so r.phase m switches r k states lines c refl is e
 
--- what a note tells isn't what the reactor is told to stop for
-told_stays : (m : Machine) (r : Known) (n : NoteNews) → (known_behind m r n).stopped ≡ r.stopped
-told_stays m r (news.Start section kind turn last moving) = refl
-told_stays m r (news.Done section turn) = refl
-told_stays m r (news.Read end sections) = refl
-told_stays m r (news.Line board line from) = refl
-
-all_stay : (m : Machine) (ns : List NoteNews) (r : Known) → (told_all m ns r).stopped ≡ r.stopped
-all_stay m [] r = refl
-all_stay m (n ∷ ns) r = all_stay m ns (known_behind m r n) ∙ told_stays m r n
-
-pub note_stays : (m : Machine) (note : Option Note) (r : Known) → (noted m note r).stopped ≡ r.stopped
-note_stays m None r = refl
-note_stays m (Some note) r = all_stay m note.news r
-
 pub ends_so : (m : Machine) (switches : List Switch) (r : Known) (k : ℕ) (states : List State) (note : Option Note) (c : Cause) → r.stopped ≡ None → (c ≡ cause.Memory → ⊥)
     → (reacts m switches r k states note).ordered.end ≡ Some c → EndsSo m (noted m note r) k states c
 ends_so m switches r k states note c none other e =
     let s = noted m note r in
-    first_so (is_out note || any_out states) s.stopped (late 0 states) m switches s k states (first_lines m s k (news_of note) states) c (note_stays m note r ∙ none) refl other e
+    first_so (is_out note || any_out states) s.stopped (late 0 states) m switches s k states (first_lines m s k (news_of note) states) c (note-stays m note r ∙ none) refl other e
 
 -- a turn behind which the reactor is about to stop
-some_none : (c : Cause) → Some c ≡ None → ⊥
+pub some_none : (c : Cause) → Some c ≡ None → ⊥
 some_none c e = cc
 
 not_stopping : (line : ℕ) → Running ≡ Stopping line → ⊥

@@ -1,27 +1,11 @@
 -- What a turn of the reactor leaves of what the notes told.
 use Rattle.std.proofs.Common.{◌≡◌, ◌⊎◌, ℕ, Bool, true, false, List, ◌++◌, Option, Some, None, refl, inl, inr}
 use Rattle.std.specs.Prelude.{if◌then◌else◌}
-use Rattle.plan_types.specs.declared.cause.Cause.{Cause}
-use Rattle.plan_types.specs.declared.machine.Machine.{Machine}
-use Rattle.plan_types.specs.declared.plan.ReadStop.{ReadStop}
+use Rattle.laws_board.proofs.Names.{Cause, Machine, ReadStop, axis_at, Note, State, ReportLine, Switch, Asking, all_connected, giving_up, listen_all, ready_all, stale, HomingTurn, homing_turn, Known, Phase, Connecting, Stopping, noted, news_of, is_out, Reacted, by_phase, cut_line, reacts, unless_ended, unless_stale, first_lines, first_cause, stop_of}
 use Rattle.plan_types.specs.declared.plan.ReadStop.TheVariants as read
-use Rattle.plan_types.specs.Machines.{axis_at}
-use Rattle.msg_code.specs.declared.talk.Note.{Note}
-use Rattle.msg_code.specs.declared.talk.State.{State}
-use Rattle.report_text.specs.declared.line.ReportLine.{ReportLine}
-use Rattle.wire_scene.specs.declared.scene.Switch.{Switch}
-use Rattle.board_asking.specs.declared.asking.Asking.{Asking}
-use Rattle.board_asking.specs.Connecting.{all_connected, giving_up, listen_all, ready_all}
-use Rattle.board_asking.specs.Drift.{stale}
-use Rattle.axis_homing.specs.declared.homing.HomingTurn.{HomingTurn}
-use Rattle.axis_homing.specs.Homing.{homing_turn}
-use Rattle.host_reactor.specs.declared.ordered.Known.{Known}
-use Rattle.host_reactor.specs.declared.ordered.Phase.{Phase}
-use Rattle.host_reactor.specs.declared.ordered.Phase.TheVariants.{Connecting, Running, Stopping}
-use Rattle.host_reactor.specs.Notes.{noted, news_of, is_out}
-use Rattle.host_reactor.specs.Reactor.{Reacted, after_homing, asks_boards, by_phase, carries_on, cut_line, finishes, is_connected_now, reacts, unless_ended, unless_given_up, unless_homing_ends, unless_late_stale, unless_stale}
-use Rattle.host_reactor.specs.Report.{first_lines}
-use Rattle.host_reactor.specs.Running.{first_cause, is_finished, stop_of}
+use Rattle.host_reactor.specs.declared.ordered.Phase.TheVariants.{Running}
+use Rattle.host_reactor.specs.Reactor.{after_homing, asks_boards, carries_on, finishes, is_connected_now, unless_given_up, unless_homing_ends, unless_late_stale}
+use Rattle.host_reactor.specs.Running.{is_finished}
 
 -- the sections that ended and how the text was read stay as they were; the last end may be that of connecting
 pub record Keeps (r : Known) (k : ℕ) (x : Reacted) : Type 0 where

@@ -1,41 +1,22 @@
 -- When further clock lines are told: a drifting board is asked in each thousandth turn behind connecting.
 use Rattle.std.proofs.Common.{◌≡◌, ℕ, suc, ◌+◌, ◌<◌, ◌≤◌, ◌⊎◌, inl, inr, Bool, true, false, cond, List, [], ◌∷◌, ◌++◌, drop, length, Option, Some, None, refl, ap, sym, ◌∙◌, subst, arith}
 use Rattle.std.specs.Prelude.{◌%◌, ◌==◌, ◌&&◌, not}
-use Rattle.std.proofs.lemmas.Bool.{eqb-true}
-use Rattle.plan_types.specs.declared.machine.BoardDef.{BoardDef}
-use Rattle.plan_types.specs.declared.machine.Machine.{Machine}
-use Rattle.plan_types.specs.declared.plan.Line.{Line}
-use Rattle.plan_types.specs.Lines.{Clocks}
-use Rattle.plan_types.specs.Machines.{board_at}
-use Rattle.msg_code.specs.declared.cmd.Cmd.{Cmd}
+use Rattle.laws_board.proofs.Names.{eqb-true, BoardDef, Machine, Line, Clocks, board_at, Cmd, News, State, Switch, Asking, Stage, Identify, Uptime, Configure, Config, Connected, Setup, is_question_due, ready, all_connected, listen_all, ready_all, asks_now, drifts, waits_in, configuration, HomingTurn, homing_turn, Known, Phase, Connecting, Stopping, noted, Reacted, homing_commands, Came, GoesOn, known_by, last_reacted}
 use Rattle.msg_code.specs.declared.cmd.Cmd.TheVariants as cmd
-use Rattle.msg_code.specs.declared.talk.News.{News}
-use Rattle.msg_code.specs.declared.talk.State.{State}
 use Rattle.msg_code.specs.declared.talk.WordNews.{WordNews}
 use Rattle.msg_code.specs.declared.talk.WordNews.TheVariants as word
-use Rattle.wire_scene.specs.declared.scene.Switch.{Switch}
-use Rattle.board_asking.specs.declared.asking.Asking.{Asking}
-use Rattle.board_asking.specs.declared.asking.Stage.{Stage}
-use Rattle.board_asking.specs.declared.asking.Stage.TheVariants.{Identify, Uptime, Configure, Config, Connected}
-use Rattle.board_asking.specs.declared.setup.Setup.{Setup}
-use Rattle.board_asking.specs.Asking.{after_asks, after_clock, after_drift, after_piece, answered, asked, hears_first, is_connected, is_question_due, is_in_time, is_out, is_over, listens, more, or_asking, ready, ready_stage, sample_of, settled, tells_clock, was_put, were_put}
-use Rattle.board_asking.specs.Connecting.{all_connected, ask_all, board_line, listen_all, ready_all}
-use Rattle.board_asking.specs.Drift.{after_question, asks_now, drifts, is_asked_now, is_unanswered, new_lines, waiting, waits_in}
-use Rattle.board_asking.specs.Machine.{configuration}
-use Rattle.axis_homing.specs.declared.homing.HomingTurn.{HomingTurn}
-use Rattle.axis_homing.specs.Homing.{homing_turn}
-use Rattle.host_reactor.specs.declared.ordered.Known.{Known}
-use Rattle.host_reactor.specs.declared.ordered.Phase.{Phase}
-use Rattle.host_reactor.specs.declared.ordered.Phase.TheVariants.{Connecting, Running, Stopping}
-use Rattle.host_reactor.specs.Notes.{noted}
-use Rattle.host_reactor.specs.Reactor.{Reacted, homed, homing_commands, new_askings, phase_after, run_askings}
+use Rattle.board_asking.specs.Asking.{after_asks, after_clock, after_drift, after_piece, answered, asked, hears_first, is_connected, is_in_time, is_out, is_over, listens, more, or_asking, ready_stage, sample_of, settled, tells_clock, was_put, were_put}
+use Rattle.board_asking.specs.Connecting.{ask_all, board_line}
+use Rattle.board_asking.specs.Drift.{after_question, is_asked_now, is_unanswered, new_lines, waiting}
+use Rattle.host_reactor.specs.declared.ordered.Phase.TheVariants.{Running}
+use Rattle.host_reactor.specs.Reactor.{homed, new_askings, phase_after, run_askings}
 use Rattle.host_reactor.specs.Rows.{HasEachBoard}
-use Rattle.host_reactor.specs.Runs.{Came, GoesOn, known_by, last_reacted}
 use Rattle.host_reactor.proofs.Rowing.{rowed, whole-first}
 use Rattle.laws_board.proofs.clocks.Lines.{noted_askings, noted_phase}
 use Rattle.laws_board.proofs.clocks.Turning.{Goes, goes}
 use Rattle.motion_work.specs.Further.{WasHeard}
 use Rattle.motion_work.specs.Told.{lines_in}
+use Rattle.plan_types.proofs.Facts.{first_of_both, second_of_both}
 
 abbrev Each : (Asking → Type 0) → List Asking → Type 0
 Each P [] = Unit {0}
@@ -168,24 +149,15 @@ new_rest : (boards : List BoardDef) → Each Rests (new_askings boards)
 new_rest [] = tt
 new_rest (b ∷ boards) = ((refl, λ c. refl), new_rest boards)
 
--- connecting ends
-first_true : (a b : Bool) → (a && b) ≡ true → a ≡ true
-first_true true b e = refl
-first_true false b e = e
-
-second_true : (a b : Bool) → (a && b) ≡ true → b ≡ true
-second_true true b e = e
-second_true false b e = cc
-
 all_late : (k : ℕ) (askings : List Asking) → all_connected askings ≡ true → Each Rests askings → Each (IsLate k) askings
 all_late k [] c e = tt
 all_late k (a ∷ askings) c e =
-    (inr (e.0.1 (first_true (is_connected a.stage) (all_connected askings) c), e.0.0), all_late k askings (second_true (is_connected a.stage) (all_connected askings) c) e.1)
+    (inr (e.0.1 (first_of_both (is_connected a.stage) (all_connected askings) c), e.0.0), all_late k askings (second_of_both (is_connected a.stage) (all_connected askings) c) e.1)
 
 -- a running turn
 thousandth : (drifting : Bool) (k : ℕ) (since : Option ℕ) → 1 ≤ k → is_asked_now drifting k since ≡ true → 1_000 ≤ k
 thousandth drifting k since some e =
-    let here = second_true (not (is_out since)) (k % 1_000 == 0) (second_true drifting (not (is_out since) && (k % 1_000 == 0)) e) in
+    let here = second_of_both (not (is_out since)) (k % 1_000 == 0) (second_of_both drifting (not (is_out since) && (k % 1_000 == 0)) e) in
     let whole = eqb-true (k % 1_000) 0 here in
     omega (arith, whole, some)
 
@@ -211,7 +183,7 @@ question_late k commands a (inl l) = inl (omega (arith, l))
 question_late k commands a (inr r) = by (asks_now commands a) refl
   where
     by : (t : Bool) → asks_now commands a ≡ t → IsLate (suc k) (cond t (record a { since = Some k; first = cond (a.missed == 0) k a.first; owed = more a.owed; waits = false }) a)
-    by true e = let w = first_true a.waits _ e in cc
+    by true e = let w = first_of_both a.waits _ e in cc
     by false e = inr r
 
 all_run : (m : Machine) (k b : ℕ) (turn : HomingTurn) (clocks : List Clocks) (askings : List Asking) → Each (IsLate k) askings → Each (IsLate (suc k)) (run_askings m k b turn clocks askings)
@@ -270,7 +242,7 @@ whole_by m switches (c ∷ before) = (rowed m switches (known_by m switches befo
 out_late : (k : ℕ) (a : Asking) (b : Bool) → IsLate k a → (is_out a.since && b) ≡ true → 1_000 ≤ k
 out_late k a b (inl l) e = l
 out_late k a b (inr r) e =
-    let out = first_true (is_out a.since) b e in
+    let out = first_of_both (is_out a.since) b e in
     let none : is_out a.since ≡ false = ap is_out r.0 in
     cc
 

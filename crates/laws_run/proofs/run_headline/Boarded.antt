@@ -1,44 +1,22 @@
 -- Each board of a whole run, as the law of its lines asks for it.
 use Rattle.std.proofs.Common.{◌≡◌, ℕ, zero, suc, ◌+◌, ◌*◌, ◌^◌, ◌<◌, ◌≤◌, ℤ, pos, negsuc, ◌≤ℤ◌, List, [], ◌∷◌, ◌++◌, All, get_or, map, take, length, None, Some, refl, ap, sym, ◌∙◌, subst, arith, inl, inr, append_assoc, length-append}
 use Rattle.std.proofs.lemmas.Int.{ints}
-use Rattle.std.proofs.lemmas.List.{length-map}
-use Rattle.std.proofs.lemmas.List.Elements.{All-head, All-tail}
-use Rattle.plan_types.specs.declared.machine.BoardDef.{BoardDef}
-use Rattle.plan_types.specs.declared.machine.Machine.{Machine}
-use Rattle.plan_types.specs.declared.clock.BoardClock.{BoardClock}
-use Rattle.plan_types.specs.declared.plan.Held.{Held}
-use Rattle.plan_types.specs.declared.plan.Line.{Line}
-use Rattle.plan_types.specs.Lines.{Clocks, one_line}
-use Rattle.clock_line.specs.Kept.{AreKept}
+use Rattle.laws_board.proofs.Names.{length-map, All-head, All-tail, BoardDef, Machine, BoardClock, Held, Line, Clocks, one_line, AreKept, clock_of, turn_ns, IsValidMachine, board_at, stepper_at, State, WordMsg, Scene, AllKeepLimits, orders, pins_of, Orders, Came, known_by, last_reacted, parts_on, Told, MotionTurn, ReactorTurn, gather, units_orders, clocks_at}
 use Rattle.laws_board.specs.clocks.Samples.{IsSampled}
 use Rattle.laws_board.specs.orders.Renewed.{AreSampled, NoneBefore}
-use Rattle.plan_types.specs.Clock.{clock_of, turn_ns}
-use Rattle.plan_types.specs.Machines.{IsValidBoard, IsValidMachine, board_at, no_board, stepper_at}
-use Rattle.msg_code.specs.declared.talk.State.{State}
-use Rattle.msg_code.specs.declared.talk.WordMsg.{WordMsg}
-use Rattle.wire_scene.specs.declared.scene.Scene.{Scene}
-use Rattle.link_work.specs.Limits.{AllKeepLimits}
-use Rattle.link_work.specs.Stands.{orders}
-use Rattle.link_work.specs.Switches.{pins_of}
-use Rattle.link_work.specs.Turn.{Orders}
+use Rattle.plan_types.specs.Machines.{IsValidBoard, no_board}
 use Rattle.clock_line.specs.Samples.{ppm_size}
-use Rattle.host_reactor.specs.Runs.{Came, known_by, last_reacted}
 use Rattle.laws_board.specs.turns.Turns.{BoardTurn, stands_after}
 use Rattle.laws_board.specs.clocks.Runs.{IsInRun, UnitsFit, orders_in}
 use Rattle.laws_board.proofs.clocks.Lines.{as_long, told_lines}
-use Rattle.motion_work.specs.Boards.{parts_on}
 use Rattle.motion_work.specs.Seen.{AreMoves}
 use Rattle.motion_work.specs.Further.{WasHeard, noted_lines}
-use Rattle.motion_work.specs.Told.{Told, lines_in, told_of}
-use Rattle.session_work.specs.declared.table.MotionTurn.{MotionTurn}
-use Rattle.session_work.specs.declared.table.ReactorTurn.{ReactorTurn}
+use Rattle.motion_work.specs.Told.{lines_in, told_of}
 use Rattle.session_work.specs.Leads.{last_words}
-use Rattle.session_work.specs.Rows.{gather}
 use Rattle.session_run.specs.Boards.{AreReactorTurns, came_from, came_in}
-use Rattle.board_world.specs.Orders.{units_orders}
 use Rattle.board_world.specs.World.{on_wire}
 use Rattle.link_work.specs.Limits.{bytes_in}
-use Rattle.plan_types.specs.Sections.{clocks_at, first_start}
+use Rattle.plan_types.specs.Sections.{first_start}
 use Rattle.laws_board.specs.sections.Events.{AreOwn}
 use Rattle.laws_board.specs.sections.Parts.{IsBoardRun, MakesIn}
 use Rattle.laws_board.proofs.orders.Going.{own_on}
@@ -64,6 +42,8 @@ use Rattle.laws_run.proofs.run_headline.Noting.{AllNoted, IsNoted, all_noted, li
 use Rattle.laws_run.proofs.run_headline.Plain.{AllMoves}
 use Rattle.laws_run.proofs.run_headline.Steppers.{all_made}
 use Rattle.laws_run.proofs.run_headline.Words.{Among, AreNumbered, Connected, HeardIn, Said, among_either, among_left, among_right, connected, gather_words, last_tells, line_is, made_numbered, news_in, said, turns_tell}
+use Rattle.laws_run.proofs.run_headline.Earlier.{states_long}
+use Rattle.laws_homing.proofs.clear_groups.Noted.{drift_small}
 
 -- what came before the last turn
 pub came_cut : (before : List Came) (r : ReactorTurn) (more : List ReactorTurn) (end : ReactorTurn) → came_before before (r ∷ more ++ end ∷ []) ≡ came_from before (r ∷ more)
@@ -82,15 +62,6 @@ pub took : (b : ℕ) (rs : List ReactorTurn) (states : List State) → TookState
 took b [] states t = t
 took b (r ∷ rs) [] t = t
 took b (r ∷ rs) (s ∷ states) t = (t.0, took b rs states t.1)
-
-pub took_long : (b : ℕ) (rs : List ReactorTurn) (states : List State) → TookStates b rs states → length states ≡ length rs
-took_long b [] states t = ap length t
-took_long b (r ∷ rs) [] t = absurd t
-took_long b (r ∷ rs) (s ∷ states) t = ap suc (took_long b rs states t.1)
-
-pub drift_few : (d : ℤ) → negsuc 199 ≤ℤ d → d ≤ℤ pos 200 → ppm_size d ≤ 200
-drift_few (pos n) low high = omega (arith, ints, high)
-drift_few (negsuc n) low high = omega (arith, ints, low)
 
 pub valid_at : (bs : List BoardDef) (b : ℕ) → b < length bs → All IsValidBoard bs → IsValidBoard (get_or bs b no_board)
 valid_at [] b h a = absurd (omega (arith, h))
@@ -320,10 +291,10 @@ module _ (m : Machine) (v : IsValidMachine m) (s : Scene) (ts : List MotionTurn)
         small = omega (arith, small, count, place, number, r.first_is);
         near = λ b h.
             let valid = valid_at m.boards b h v.boards in
-            follows_clock (clock_of (board_at m b)) (turns_behind [] (whole b h).made) (clocks_at t.clocks b).first valid.freq.whole (drift_few (board_at m b).drift valid.drift_low valid.drift_high) (lined b r (whole b h) h).line.sampled;
+            follows_clock (clock_of (board_at m b)) (turns_behind [] (whole b h).made) (clocks_at t.clocks b).first valid.freq.whole (drift_small (board_at m b).drift valid.drift_low valid.drift_high) (lined b r (whole b h) h).line.sampled;
         all_near = λ b h.
             let valid = valid_at m.boards b h v.boards in
-            follow_clock (clock_of (board_at m b)) (turns_behind [] (whole b h).made) (clocks_at t.clocks b).held valid.freq.whole (drift_few (board_at m b).drift valid.drift_low valid.drift_high) (lined b r (whole b h) h).sampled;
+            follow_clock (clock_of (board_at m b)) (turns_behind [] (whole b h).made) (clocks_at t.clocks b).held valid.freq.whole (drift_small (board_at m b).drift valid.drift_low valid.drift_high) (lined b r (whole b h) h).sampled;
       }
 
   -- where the clock lines of a board are renewed in time, they follow it
@@ -372,7 +343,7 @@ module _ (m : Machine) (v : IsValidMachine m) (s : Scene) (ts : List MotionTurn)
       let Made : List Orders → ℕ → Type 0 = λ os n. (j : ℕ) → j < length m.steppers → (stepper_at m j).board ≡ b → MakesIn (stepper_at m j).oid (take n os) in
       let made_here = subst (λ (n : ℕ). Made (orders_of w.made) n) (sym long) (subst (λ (os : List Orders). Made os (length l.1)) w.in_order made) in
       let Fronts : List Orders → Type 0 = λ os. (done : List Orders) (o : Orders) (more : List Orders) → os ≡ done ++ o ∷ more → AllKeepLimits done in
-      let count = length-map w.made (λ (x : BoardTurn). orders x.control x.batch) ∙ sym (length-map w.made (λ (x : BoardTurn). x.state)) ∙ took_long b (rest ++ end ∷ []) (states_of w.made) w.states in
+      let count = length-map w.made (λ (x : BoardTurn). orders x.control x.batch) ∙ sym (length-map w.made (λ (x : BoardTurn). x.state)) ∙ states_long b (rest ++ end ∷ []) (states_of w.made) w.states in
       let controls = subst (λ (os : List Orders). TookControls os) w.in_order (controlled m v s.switches pins s.entries b (came_from [] (first ∷ rest)) turns run moves) in
       let all_made_here = λ (_ : length before ≤ length (orders_of w.made)). λ (oid : ℕ). all_made m v t b (take (length before) (orders_of w.made)) made_here p.seen.begun oid (sections_are m ts p t b h told homes) in
       let is = run_is m ts p t b (length before) (Own m b (length rest)) (orders_of w.made) h told homes (omega (arith, count, goes)) w.batches controls lines.tracked r.early lines.over all_made_here in

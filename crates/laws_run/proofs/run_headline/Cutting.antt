@@ -1,22 +1,16 @@
 -- What is known of a run before its last turn, whatever ended it.
 use Rattle.std.proofs.Common.{◌≡◌, ℕ, zero, suc, ◌+◌, ◌≤◌, List, [], ◌∷◌, ◌++◌, length, Some, None, refl, ap, sym, ◌∙◌, subst, arith, inl, inr, append_assoc, append-nil, length-append}
 use Rattle.plan_types.specs.declared.cause.Cause.TheVariants as cause
-use Rattle.plan_types.specs.declared.machine.Machine.{Machine}
-use Rattle.plan_types.specs.Clock.{clock_of}
-use Rattle.plan_types.specs.Machines.{board_at}
+use Rattle.laws_board.proofs.Names.{Machine, clock_of, board_at, Scene, Run, known_by, MotionTurn, ReactorTurn, gather, item}
 use Rattle.io_core.specs.declared.traits.Files.{Ghosts as Files}
 use Rattle.io_core.specs.declared.traits.Sink.{Ghosts as Sink}
-use Rattle.wire_scene.specs.declared.scene.Scene.{Scene}
 use Rattle.link_work.specs.Stands.{SeenLink as LinkSeen}
-use Rattle.host_reactor.specs.Reactor.{Run, first_run}
-use Rattle.host_reactor.specs.Runs.{known_by}
+use Rattle.host_reactor.specs.Reactor.{first_run}
 use Rattle.session_lanes.specs.declared.near.Told.{Told}
 use Rattle.session_work.specs.declared.seat.Seat.{Seat}
-use Rattle.session_work.specs.declared.table.MotionTurn.{MotionTurn}
-use Rattle.session_work.specs.declared.table.ReactorTurn.{ReactorTurn}
 use Rattle.session_work.specs.Leads.{last_words}
 use Rattle.session_work.specs.Motions.{MotionStep, seated}
-use Rattle.session_work.specs.Rows.{gather, item, option_items}
+use Rattle.session_work.specs.Rows.{option_items}
 use Rattle.session_work.specs.Turns.{Goes}
 use Rattle.session_work.proofs.Goes.{gather_each, gather_ones}
 use Rattle.session_lanes.specs.Runs.{AreLogs, head_at, ran_at}
@@ -30,14 +24,15 @@ use Rattle.session_run.proofs.First.{count}
 use Rattle.session_run.proofs.Reacting as reacting
 use Rattle.laws_run.specs.lanes.Turns.{AllGoOn, AllHaveControls}
 use Rattle.laws_run.proofs.lanes.Items.{in_memory, item_some}
-use Rattle.laws_run.proofs.lanes.Whole.{front_of, gather_both, have_controls, in_front}
+use Rattle.laws_run.proofs.lanes.Whole.{front_of, have_controls, in_front}
 use Rattle.laws_board.specs.plans.Planned.{AnyStops}
 use Rattle.laws_run.specs.run_headline.Timely.{link_of}
 use Rattle.laws_run.proofs.run_headline.Faults as faults
-use Rattle.laws_run.proofs.run_headline.Heard.{stops_left, turns_few}
+use Rattle.laws_run.proofs.run_headline.Heard.{stops_left, turns_few, words_of as words_long}
 use Rattle.laws_run.proofs.run_headline.Joining.{row_none}
 use Rattle.laws_run.proofs.run_headline.Making.{goes_cut, put_is}
 use Rattle.laws_run.proofs.run_headline.Showing.{EachNoted, Facts, first_at, go_on, goes_noted, none_out, notes_of, shows_link, turns_cut}
+use Rattle.laws_run.proofs.run_lates.Unbegun.{gather_both}
 
 -- a list up to a place in it
 pub cut_at : {A : Type 0} (k : ℕ) (xs : List A) → k ≤ length xs → (front : List A) × (later : List A) × (xs ≡ front ++ later) × (length front ≡ k)
@@ -63,9 +58,6 @@ notes_long m s (first ∷ rest) last turns =
     let each = subst EachNoted (append-nil more) (goes_noted m s.switches (came_in first ∷ []) more [] (omega arith) turns.1 tt) in
     let all = none_out more each in
     ap (λ o. length (option_items o ++ notes_of more)) (row_none (length m.boards) first turns.0.row) ∙ all.1 ∙ (let e = length-append rest (last ∷ []) in omega (arith, e))
-
-words_long : (rs : List ReactorTurn) → length (gather (λ t. t.word ∷ []) rs) ≡ length rs
-words_long rs = gather_ones (λ (t : ReactorTurn). t.word) rs
 
 module _ {F S : Type 0} (f : Files F) (o : Sink S) (m : Machine) (s : Scene) (name : List ℕ) (files files' : F) (out out' : S) (kept kept' : Kept) (t : Told Run) (r : RunsOver f o m s name files out kept t files' out' kept') where
   -- the turns before the last one, as if a read failed in the latest of them; and the planner's turns by then

@@ -2,16 +2,9 @@
 use Rattle.std.proofs.Common.{◌≡◌, ℕ, suc, ◌+◌, ◌≤◌, List, [], ◌∷◌, ◌++◌, All, drop, length, take, ap, sym, ◌∙◌, arith, append_assoc, append-nil, length-append}
 use Rattle.std.specs.Prelude.{◌-◌}
 use Rattle.std.proofs.lemmas.List.{drop-append-le, length-drop, take-append-le, take_all}
-use Rattle.std.proofs.lemmas.List.Elements.{All-head, All-tail}
+use Rattle.laws_board.proofs.Names.{All-head, All-tail, Machine, Clocks, State, ReportLine, AreStarted, Started, ReactorTurn, gather}
 use Rattle.std.proofs.Math.Seq.{drop-append_seam}
-use Rattle.plan_types.specs.declared.machine.Machine.{Machine}
-use Rattle.plan_types.specs.Lines.{Clocks}
-use Rattle.msg_code.specs.declared.talk.State.{State}
-use Rattle.report_text.specs.declared.line.ReportLine.{ReportLine}
-use Rattle.motion_work.specs.Seen.{AreStarted, Started}
 use Rattle.motion_work.proofs.Turning.{planned_late}
-use Rattle.session_work.specs.declared.table.ReactorTurn.{ReactorTurn}
-use Rattle.session_work.specs.Rows.{gather}
 use Rattle.laws_board.specs.sections.Boards.{AreEnded, NextStart, Times}
 use Rattle.laws_board.specs.plans.Boards.{TookStates, lines_between, times_of}
 

@@ -1,38 +1,18 @@
 -- What is known of a whole run, and of the notes that its turns take.
 use Rattle.std.proofs.Common.{◌≡◌, ℕ, zero, suc, ◌+◌, ◌<◌, ◌≤◌, ◌⊎◌, true, false, List, [], ◌∷◌, ◌++◌, All, get_or, map, take, length, Option, Some, None, refl, ap, sym, ◌∙◌, subst, arith, inl, inr, append_assoc, append-nil}
-use Rattle.std.proofs.lemmas.Bool.Decides.{eqb_tells}
-use Rattle.std.proofs.lemmas.List.Elements.{All-cons, All-head, All-nil, All-tail}
-use Rattle.plan_types.specs.declared.cause.Cause.{Cause}
+use Rattle.laws_board.proofs.Names.{eqb_tells, All-cons, All-head, All-nil, All-tail, Cause, BoardDef, Machine, Section, Home, Moves, clock_of, board_at, Note, State, WordMsg, Scene, Switch, Known, Connecting, is_out, IsOwn, reacts, Came, known_by, Started, MotionTurn, ReactorTurn, gather, item, machine_line}
 use Rattle.plan_types.specs.declared.cause.Cause.TheVariants as cause
-use Rattle.plan_types.specs.declared.machine.BoardDef.{BoardDef}
-use Rattle.plan_types.specs.declared.machine.Machine.{Machine}
-use Rattle.plan_types.specs.declared.plan.Section.{Section}
-use Rattle.plan_types.specs.declared.plan.SectionKind.TheVariants.{Home, Moves}
-use Rattle.plan_types.specs.Clock.{clock_of}
-use Rattle.plan_types.specs.Machines.{board_at, no_board}
-use Rattle.msg_code.specs.declared.talk.Note.{Note}
-use Rattle.msg_code.specs.declared.talk.State.{State}
-use Rattle.msg_code.specs.declared.talk.WordMsg.{WordMsg}
-use Rattle.wire_scene.specs.declared.scene.Scene.{Scene}
-use Rattle.wire_scene.specs.declared.scene.Switch.{Switch}
+use Rattle.plan_types.specs.Machines.{no_board}
 use Rattle.link_work.specs.Stands.{SeenLink as LinkSeen}
-use Rattle.host_reactor.specs.declared.ordered.Known.{Known}
 use Rattle.host_reactor.specs.declared.ordered.Reading.{Reading}
-use Rattle.host_reactor.specs.declared.ordered.Phase.TheVariants.{Connecting}
-use Rattle.host_reactor.specs.Notes.{is_out}
-use Rattle.host_reactor.specs.Rows.{IsOwn}
 use Rattle.host_reactor.specs.Running.{all_ended}
-use Rattle.host_reactor.specs.Reactor.{reacts}
-use Rattle.host_reactor.specs.Runs.{Came, known_by}
-use Rattle.motion_work.specs.Seen.{AreMoves, Started}
-use Rattle.session_work.specs.declared.table.MotionTurn.{MotionTurn}
-use Rattle.session_work.specs.declared.table.ReactorTurn.{ReactorTurn}
+use Rattle.motion_work.specs.Seen.{AreMoves}
 use Rattle.session_work.specs.declared.seat.Seat.{Seat}
 use Rattle.session_work.specs.Heads.{IsRow}
 use Rattle.session_work.specs.Motions.{MotionStep}
 use Rattle.session_work.specs.Turns.{Goes}
 use Rattle.session_work.specs.Leads.{last_words}
-use Rattle.session_work.specs.Rows.{gather, item, option_items}
+use Rattle.session_work.specs.Rows.{option_items}
 use Rattle.session_run.specs.declared.motion.Planning.{Planning}
 use Rattle.session_run.specs.Boards.{AreReactorTurns, came_from, came_in}
 use Rattle.session_run.specs.Links as links
@@ -46,7 +26,7 @@ use Rattle.laws_board.specs.plans.Planned.{AnyStops, LastHomes}
 use Rattle.laws_board.proofs.plans.Beginning.{Spread}
 use Rattle.laws_board.proofs.plans.Telling.{pulses_append}
 use Rattle.laws_run.specs.run_headline.Timely.{AreOfMoves, link_of}
-use Rattle.host_reactor.specs.Report.{machine_line, pulse_lines}
+use Rattle.host_reactor.specs.Report.{pulse_lines}
 use Rattle.laws_run.specs.run_ends.Boards.{boards_of}
 use Rattle.laws_run.proofs.run_ends.Connecting.{after_boards, boards_append, end_none}
 use Rattle.laws_run.proofs.run_ends.Counting.{IsRead}

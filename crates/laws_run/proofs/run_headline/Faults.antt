@@ -2,22 +2,16 @@
 use Rattle.std.proofs.Common.{◌≡◌, ◌⊎◌, inl, inr, ℕ, ◌+◌, ◌≤◌, true, false, List, [], ◌∷◌, ◌++◌, Option, Some, None, length, refl, sym, ap, ◌∙◌, subst, arith}
 use Rattle.io_core.specs.declared.traits.Files.{Ghosts as Files}
 use Rattle.io_core.specs.declared.traits.Sink.{Ghosts as Sink}
-use Rattle.plan_types.specs.declared.cause.Cause.{Cause}
+use Rattle.laws_board.proofs.Names.{Cause, Machine, ReportLine, Switch, Known, Run, reacts, IsOwn, Came, known_by, ReactorTurn, gather}
 use Rattle.plan_types.specs.declared.cause.Cause.TheVariants as cause
-use Rattle.plan_types.specs.declared.machine.Machine.{Machine}
 use Rattle.msg_code.specs.declared.talk.Piece.{Piece}
-use Rattle.report_text.specs.declared.line.ReportLine.{ReportLine}
-use Rattle.wire_scene.specs.declared.scene.Switch.{Switch}
-use Rattle.host_reactor.specs.declared.ordered.Known.{Known}
-use Rattle.host_reactor.specs.Reactor.{Run, first_told, reacts}
-use Rattle.host_reactor.specs.Rows.{MayEndFor, IsOwn}
-use Rattle.host_reactor.specs.Runs.{Came, known_by}
+use Rattle.host_reactor.specs.Reactor.{first_told}
+use Rattle.host_reactor.specs.Rows.{MayEndFor}
 use Rattle.host_reactor.proofs.Blames.{blames}
 use Rattle.session_work.specs.declared.head.Head.{Head}
-use Rattle.session_work.specs.declared.table.ReactorTurn.{ReactorTurn}
 use Rattle.session_work.specs.Heads.{IsRow, ReactorStep, ServeStep, Served, Wrote}
 use Rattle.session_work.specs.Reactors.{answered_ends}
-use Rattle.session_work.specs.Rows.{gather, option_items}
+use Rattle.session_work.specs.Rows.{option_items}
 use Rattle.session_work.specs.Turns.{Goes}
 use Rattle.session_run.specs.declared.desk.Desk.{Desk}
 use Rattle.session_run.specs.declared.read.ReadStop.{ReadStop}

@@ -1,28 +1,12 @@
 -- A board's turns up to one of the reactor's, and what is known of them.
 use Rattle.std.proofs.Common.{◌≡◌, ℕ, ◌+◌, ◌*◌, ◌<◌, ◌≤◌, ◌⊎◌, true, cond, List, [], ◌∷◌, ◌++◌, All, map, take, length, None, refl, ap, sym, ◌∙◌, subst, arith, inl, inr, append_assoc, append-nil}
 use Rattle.std.proofs.lemmas.List.{take-append-le}
-use Rattle.std.proofs.lemmas.List.Elements.{All-head}
-use Rattle.plan_types.specs.declared.levels.Level.{Level}
-use Rattle.plan_types.specs.declared.machine.Machine.{Machine}
-use Rattle.plan_types.specs.declared.plan.Line.{Line}
-use Rattle.plan_types.specs.declared.clock.BoardClock.{BoardClock}
-use Rattle.plan_types.specs.Clock.{clock_of, turn_ns}
-use Rattle.plan_types.specs.Lines.{Clocks}
-use Rattle.plan_types.specs.Machines.{IsValidMachine, board_at, stepper_at}
-use Rattle.plan_types.specs.Sections.{clocks_at}
+use Rattle.laws_board.proofs.Names.{All-head, Level, Machine, Line, BoardClock, clock_of, turn_ns, Clocks, IsValidMachine, board_at, stepper_at, clocks_at, Entry, Switch, plain, AllKeepLimits, orders, Orders, Phase, Connecting, Stopping, noted, Came, known_by, last_reacted, BoardSection, ReactorTurn}
 use Rattle.msg_code.specs.declared.talk.WordNews.{WordNews}
-use Rattle.wire_scene.specs.declared.scene.Entry.{Entry}
-use Rattle.wire_scene.specs.declared.scene.Switch.{Switch}
-use Rattle.board_world.specs.Orders.{plain}
 use Rattle.board_world.specs.World.{on_wire}
-use Rattle.link_work.specs.Limits.{AllKeepLimits, bytes_in, closing_in}
-use Rattle.link_work.specs.Stands.{orders}
-use Rattle.link_work.specs.Turn.{Orders}
+use Rattle.link_work.specs.Limits.{bytes_in, closing_in}
 use Rattle.link_work.proofs.Late.{limits_split}
-use Rattle.host_reactor.specs.declared.ordered.Phase.{Phase}
-use Rattle.host_reactor.specs.declared.ordered.Phase.TheVariants.{Connecting, Running, Stopping}
-use Rattle.host_reactor.specs.Notes.{noted}
-use Rattle.host_reactor.specs.Runs.{Came, known_by, last_reacted}
+use Rattle.host_reactor.specs.declared.ordered.Phase.TheVariants.{Running}
 use Rattle.laws_board.specs.turns.Turns.{BoardTurn}
 use Rattle.laws_board.specs.clocks.Runs.{IsInRun, UnitsFit, orders_in}
 use Rattle.laws_board.specs.clocks.Samples.{IsSampled, lines_told}
@@ -37,8 +21,6 @@ use Rattle.laws_board.specs.sections.Parts.{AreTracked, IsControl, MakesIn}
 use Rattle.laws_board.specs.orders.Ready.{is_connecting, ready_turn}
 use Rattle.laws_board.proofs.orders.Controlled.{controls_plain}
 use Rattle.laws_board.proofs.orders.MadeIn.{made_ready}
-use Rattle.section_units.specs.Sections.{BoardSection}
-use Rattle.session_work.specs.declared.table.ReactorTurn.{ReactorTurn}
 use Rattle.session_run.specs.Boards.{came_from, came_in}
 use Rattle.laws_board.specs.plans.Given.{EndBefore, TookControls}
 use Rattle.laws_run.proofs.clock_ages.Own.{AreRenewed, Own, follow_on}

@@ -1,20 +1,16 @@
 -- The further clock lines that notes tell.
 use Rattle.std.proofs.Common.{◌≡◌, ℕ, zero, suc, ◌+◌, ◌<◌, ◌⊎◌, true, List, [], ◌∷◌, ◌++◌, length, refl, ap, sym, ◌∙◌, subst, arith, inl, inr, append_assoc, append-nil}
-use Rattle.std.proofs.lemmas.Bool.Decides.{eqb_tells}
-use Rattle.std.proofs.lemmas.List.{get_or-set_other, get_or-set_same, length-set}
+use Rattle.laws_board.proofs.Names.{eqb_tells, get_or-set_same, Held, Line, Clocks, clocks_at, NoteNews}
+use Rattle.std.proofs.lemmas.List.{get_or-set_other, length-set}
 use Rattle.std.specs.Prelude.{◌==◌}
-use Rattle.plan_types.specs.declared.plan.Held.{Held}
-use Rattle.plan_types.specs.declared.plan.Line.{Line}
-use Rattle.plan_types.specs.Lines.{Clocks}
-use Rattle.plan_types.specs.Sections.{clocks_at}
 use Rattle.clock_line.specs.Kept.{added}
-use Rattle.msg_code.specs.declared.talk.NoteNews.{NoteNews}
 use Rattle.msg_code.specs.declared.talk.NoteNews.TheVariants as news
 use Rattle.report_text.specs.declared.line.ReportLine.TheVariants as report
 use Rattle.host_reactor.specs.Report.{drift_lines, turn_at}
 use Rattle.motion_work.specs.Further.{noted_line, noted_lines}
 use Rattle.laws_run.specs.run_ends.Boards.{lines_at}
 use Rattle.laws_board.specs.plans.Lines.{drift_in, drifts_of, held_lines}
+use Rattle.motion_stream.proofs.Uptaking.{noted_both}
 
 -- each of some further lines is so, with the time from which on it holds
 abbrev pub EachHeld : (Line → ℕ → Type 0) → List Held → Type 0
@@ -57,13 +53,6 @@ noted_long (news.Start section kind turn last moving ∷ ns) clocks = noted_long
 noted_long (news.Done section turn ∷ ns) clocks = noted_long ns clocks
 noted_long (news.Read end sections ∷ ns) clocks = noted_long ns clocks
 noted_long (news.Line board line from ∷ ns) clocks = noted_long ns (noted_line board line from clocks) ∙ one_long board line from clocks
-
-pub noted_append : (xs ys : List NoteNews) (clocks : List Clocks) → noted_lines (xs ++ ys) clocks ≡ noted_lines ys (noted_lines xs clocks)
-noted_append [] ys clocks = refl
-noted_append (news.Start section kind turn last moving ∷ xs) ys clocks = noted_append xs ys clocks
-noted_append (news.Done section turn ∷ xs) ys clocks = noted_append xs ys clocks
-noted_append (news.Read end sections ∷ xs) ys clocks = noted_append xs ys clocks
-noted_append (news.Line board line from ∷ xs) ys clocks = noted_append xs ys (noted_line board line from clocks)
 
 -- The lines of a board behind some news: further ones hold behind those that it had, each as it is told, and the lines of a report tell
 -- them.

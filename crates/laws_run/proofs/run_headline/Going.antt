@@ -1,28 +1,15 @@
 -- A run that went through: all sections of its text were begun, and ended.
 use Rattle.std.proofs.Common.{◌≡◌, ◌⊎◌, ℕ, zero, suc, ◌+◌, ◌<◌, ◌≤◌, Bool, true, false, List, [], ◌∷◌, ◌++◌, All, length, map, take, Option, Some, None, refl, ap, sym, ◌∙◌, arith, inl, inr}
 use Rattle.std.specs.Prelude.{◌==◌, ◌&&◌, if◌then◌else◌, nat_lt, slice_index_or}
-use Rattle.std.proofs.lemmas.Bool.{eqb-true}
-use Rattle.std.proofs.lemmas.Bool.Decides.{eqb_tells, leb_tells}
-use Rattle.std.proofs.lemmas.List.{length-map, take_all}
-use Rattle.std.proofs.lemmas.List.Elements.{All-cons, All-head, All-nil, All-tail}
+use Rattle.laws_board.proofs.Names.{eqb-true, eqb_tells, leb_tells, length-map, All-cons, All-head, All-nil, All-tail, Cause, Machine, ReadStop, Section, Clocks, State, Release, batch_at, StepUnit, AreBefore, Known, stop_of, parts_on, Started, ReactorTurn, item}
+use Rattle.std.proofs.lemmas.List.{take_all}
 use Rattle.gcode_program.specs.Programs.{program_end, program_sections}
-use Rattle.plan_types.specs.declared.cause.Cause.{Cause}
-use Rattle.plan_types.specs.declared.machine.Machine.{Machine}
-use Rattle.plan_types.specs.declared.plan.ReadStop.{ReadStop}
-use Rattle.plan_types.specs.declared.plan.Section.{Section}
-use Rattle.plan_types.specs.Lines.{Clocks}
-use Rattle.msg_code.specs.declared.talk.State.{State}
-use Rattle.step_feed.specs.Pacing.{Release, batch_at}
-use Rattle.step_feed.specs.Units.{StepUnit}
-use Rattle.section_units.specs.Sections.{AreBefore, AreReleased}
-use Rattle.host_reactor.specs.declared.ordered.Known.{Known}
-use Rattle.host_reactor.specs.Running.{all_ended, all_idle, late, late_of, or_cause, stop_of}
-use Rattle.motion_work.specs.Boards.{parts_on}
-use Rattle.motion_work.specs.Seen.{AreOut, Started, part_on}
-use Rattle.session_work.specs.declared.table.ReactorTurn.{ReactorTurn}
-use Rattle.session_work.specs.Rows.{item}
+use Rattle.section_units.specs.Sections.{AreReleased}
+use Rattle.host_reactor.specs.Running.{all_ended, all_idle, late, late_of, or_cause}
+use Rattle.motion_work.specs.Seen.{AreOut, part_on}
 use Rattle.laws_board.specs.plans.Boards.{TookStates}
 use Rattle.laws_run.specs.run_ends.Ends.{Counts, WentThrough, ended_by, reading_of}
+use Rattle.plan_types.proofs.Facts.{true_false, first_of_both, second_of_both}
 
 -- how many ended
 by_most : (k : ℕ) (ss : List Started) → ended_by k ss ≤ length ss
@@ -91,9 +78,6 @@ gone m text begun k n r states stop c e front w =
     read_none : None ≡ Some (reading_of m text) → ⊥
     read_none p = cc
 
-clash : true ≡ false → ⊥
-clash p = cc
-
 none_of : (c : Bool) (u : StepUnit) (us : List StepUnit) → (if c then u ∷ us else us) ≡ [] → (c ≡ false) × (us ≡ [])
 none_of true u us e = absurd cc
 none_of false u us e = (refl, e)
@@ -105,7 +89,7 @@ none_behind j turn (r ∷ rs) low none = (
   elim (leb_tells r.turn j) [
     | inl p ↦ omega (arith, p.1, low)
     | inr p ↦ elim (eqb_tells r.turn r.turn) [
-      | inl q ↦ absurd (clash (sym q.0 ∙ (none_of (r.turn == r.turn) r.unit (batch_at r.turn rs) (none r.turn (omega (arith, p.1)))).0))
+      | inl q ↦ absurd (true_false (sym q.0 ∙ (none_of (r.turn == r.turn) r.unit (batch_at r.turn rs) (none r.turn (omega (arith, p.1)))).0))
       | inr q ↦ absurd (q.1 refl)
     ]
   ],
@@ -141,21 +125,13 @@ lasts b [] end (s ∷ states) t = record { front = []; last = s; are = ap (λ x.
 lasts b (r ∷ rs) end [] t = absurd t
 lasts b (r ∷ rs) end (s ∷ states) t = let x = lasts b rs end states t.1 in record { front = s ∷ x.front; last = x.last; are = ap (λ y. s ∷ y) x.are; at = x.at; took = (t.0, x.took) }
 
-and_first : (a b : Bool) → (a && b) ≡ true → a ≡ true
-and_first true b e = refl
-and_first false b e = e
-
-and_second : (a b : Bool) → (a && b) ≡ true → b ≡ true
-and_second true b e = e
-and_second false b e = cc
-
 pub one_idle : (b : ℕ) (states : List State) (s : State) → all_idle states ≡ true → item b states ≡ s ∷ [] → s.idle ≡ true
 one_idle b [] s e f = absurd (let g : [] ≡ s ∷ [] = f in cc)
-one_idle zero (x ∷ states) s e f = let same : x ≡ s = cc in ap (λ (y : State). y.idle) (sym same) ∙ and_first x.idle (all_idle states) e
-one_idle (suc b) (x ∷ states) s e f = one_idle b states s (and_second x.idle (all_idle states) e) f
+one_idle zero (x ∷ states) s e f = let same : x ≡ s = cc in ap (λ (y : State). y.idle) (sym same) ∙ first_of_both x.idle (all_idle states) e
+one_idle (suc b) (x ∷ states) s e f = one_idle b states s (second_of_both x.idle (all_idle states) e) f
 
 -- no board is late where none is named
-or_none : (x y : Option Cause) → or_cause x y ≡ None → (x ≡ None) × (y ≡ None)
+pub or_none : (x y : Option Cause) → or_cause x y ≡ None → (x ≡ None) × (y ≡ None)
 or_none None y e = (refl, e)
 or_none (Some c) y e = cc
 

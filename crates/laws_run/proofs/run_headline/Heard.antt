@@ -1,33 +1,17 @@
 -- A planner goes on as long as the reactor does, or was never begun.
 use Rattle.std.proofs.Common.{◌≡◌, ℕ, suc, ◌+◌, ◌<◌, ◌≤◌, ◌⊎◌, Bool, true, false, cond, List, [], ◌∷◌, ◌++◌, map, length, Some, None, refl, ap, sym, ◌∙◌, subst, arith, inl, inr, append_assoc, length-append}
-use Rattle.std.proofs.lemmas.Bool.Decides.{leb_tells}
-use Rattle.std.proofs.lemmas.List.{length-map}
+use Rattle.laws_board.proofs.Names.{leb_tells, length-map, Cause, Machine, Note, State, WordMsg, Switch, Known, noted, Reacted, IsOwn, Came, known_by, last_reacted, MotionTurn, ReactorTurn, gather, cons_same}
 use Rattle.std.specs.Prelude.{◌-◌, nat_lt}
-use Rattle.plan_types.specs.declared.cause.Cause.{Cause}
-use Rattle.plan_types.specs.declared.machine.Machine.{Machine}
-use Rattle.msg_code.specs.declared.talk.Note.{Note}
 use Rattle.msg_code.specs.declared.talk.Piece.{Piece}
-use Rattle.msg_code.specs.declared.talk.State.{State}
-use Rattle.msg_code.specs.declared.talk.WordMsg.{WordMsg}
-use Rattle.wire_scene.specs.declared.scene.Switch.{Switch}
-use Rattle.host_reactor.specs.declared.ordered.Known.{Known}
-use Rattle.host_reactor.specs.Notes.{noted}
-use Rattle.host_reactor.specs.Reactor.{Reacted}
-use Rattle.host_reactor.specs.Rows.{IsOwn}
-use Rattle.host_reactor.specs.Runs.{Came, known_by, last_reacted}
 use Rattle.laws_board.proofs.clocks.Turning.{Goes as GoesOn, goes}
 use Rattle.session_work.specs.declared.seat.Seat.{Seat}
-use Rattle.session_work.specs.declared.table.MotionTurn.{MotionTurn}
-use Rattle.session_work.specs.declared.table.ReactorTurn.{ReactorTurn}
 use Rattle.motion_stream.specs.Motions.{waits_by}
 use Rattle.session_work.specs.Motions.{MotionStep}
-use Rattle.session_work.specs.Rows.{gather}
 use Rattle.session_work.specs.Seats.{PieceStep, WordStep, hungers, is_wanted, needs}
 use Rattle.session_work.specs.Turns.{Goes}
 use Rattle.session_run.specs.declared.motion.Planning.{Planning}
 use Rattle.session_run.specs.Boards.{AreReactorTurns, came_in}
 use Rattle.session_run.specs.Machines.{planner}
-use Rattle.laws_board.proofs.sections.Lists.{cons_same}
 use Rattle.laws_board.specs.plans.Planned.{AnyEnds, AnyStops, LastHomes, Plans, StopsAt, words_in}
 
 -- in turn k a worker takes words up to k
@@ -117,7 +101,7 @@ words_cut (t ∷ made) d rest left =
     append_assoc t.words (words (made ++ d ∷ rest)) left ∙ ap (λ x. t.words ++ x) (words_cut made d rest left)
     ∙ sym (append_assoc t.words (words made ++ d.words) (words rest ++ left)) ∙ ap (λ x. x ++ (words rest ++ left)) (sym (append_assoc t.words (words made) d.words))
 
-words_of : (rs : List ReactorTurn) → length (gather (λ t. t.word ∷ []) rs) ≡ length rs
+pub words_of : (rs : List ReactorTurn) → length (gather (λ t. t.word ∷ []) rs) ≡ length rs
 words_of [] = refl
 words_of (t ∷ rs) = ap suc (words_of rs)
 

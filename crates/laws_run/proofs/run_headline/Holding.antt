@@ -1,26 +1,15 @@
 -- Lines that hold one after the other may hold each behind those before it.
 use Rattle.std.proofs.Common.{◌≡◌, ℕ, ◌<◌, ◌≤◌, ◌^◌, Bool, true, false, List, [], ◌∷◌, ◌++◌, max, refl, ap, sym, ◌∙◌, arith, append_assoc, append-nil}
 use Rattle.std.specs.Prelude.{◌%◌, ◌==◌, ◌&&◌, nat_le, nat_lt}
-use Rattle.std.proofs.lemmas.Bool.Decides.{nat_tests}
-use Rattle.plan_types.specs.declared.plan.Held.{Held}
-use Rattle.plan_types.specs.declared.plan.Line.{Line}
-use Rattle.plan_types.specs.Clock.{tick}
-use Rattle.plan_types.specs.Lines.{AreHeld, Clocks, IsFit, last_from, lines_tick, one_line, tick_over}
+use Rattle.laws_board.proofs.Names.{nat_tests, Held, Line, tick, Clocks, lines_tick, one_line, AreKept, and_from}
+use Rattle.plan_types.specs.Lines.{AreHeld, IsFit, last_from, tick_over}
 use Rattle.clock_line.specs.Fits.{are_small, is_later, is_like, may_hold}
-use Rattle.clock_line.specs.Kept.{AreKept, clocks_of}
+use Rattle.clock_line.specs.Kept.{clocks_of}
 use Rattle.clock_line.proofs.Holding.{chosen, passed}
-use Rattle.clock_line.proofs.Turns.{last_from-above}
+use Rattle.clock_line.proofs.Turns.{last_from-above, later-is}
 use Rattle.section_feed.specs.Boards.{IsLasting, most_ns}
 use Rattle.section_feed.proofs.Lasts.{lines-small, tick-small}
 use Rattle.laws_run.specs.run_headline.Timely.{EachMayHold}
-
-both : (a b : Bool) → a ≡ true → b ≡ true → (a && b) ≡ true
-both true b e f = f
-both false b e f = cc
-
--- from the time of a line on more of them hold behind it
-later_is : (line : Line) (most : ℕ) (h : Held) (held : List Held) (t : ℕ) → h.from ≤ t → tick_over line most (h ∷ held) t ≡ tick_over h.line (max most (tick line h.from)) held t
-later_is line most h held t late = chosen (nat_le h.from t) _ _ (grind (arith, nat_tests))
 
 -- at its own time a line holds
 starts : (first line : Line) (from most : ℕ) (held : List Held) → AreHeld first line from most held → tick_over line most held from ≡ max most (tick line from)
@@ -42,13 +31,13 @@ may_one first line before from fit after small own plan =
     let whole = fit.whole_turn in
     let begun = fit.before in
     let first_begun = fit.first_before in
-    let like : is_like first line ≡ true = both (line.freq == first.freq) (line.at % 1_000_000 == 0) (grind (arith, nat_tests)) (grind (arith, nat_tests)) in
+    let like : is_like first line ≡ true = and_from (line.freq == first.freq) (line.at % 1_000_000 == 0) (grind (arith, nat_tests)) (grind (arith, nat_tests)) in
     let later : is_later (clocks_of first before) from line ≡ true =
-    both (nat_lt (last_from 0 before) from) (nat_le line.at from && nat_le first.at from) (grind (arith, nat_tests)) (both (nat_le line.at from) (nat_le first.at from) (grind (arith, nat_tests)) (grind (arith, nat_tests))) in
+    and_from (nat_lt (last_from 0 before) from) (nat_le line.at from && nat_le first.at from) (grind (arith, nat_tests)) (and_from (nat_le line.at from) (nat_le first.at from) (grind (arith, nat_tests)) (grind (arith, nat_tests))) in
     let few : are_small (clocks_of first before) from line ≡ true =
-    both (nat_lt (lines_tick (clocks_of first before) from) (2 ^ 64)) (nat_lt (tick line from) (2 ^ 64) && nat_lt (tick first from) (2 ^ 64)) (grind (arith, nat_tests))
-    (both (nat_lt (tick line from) (2 ^ 64)) (nat_lt (tick first from) (2 ^ 64)) (grind (arith, nat_tests)) (grind (arith, nat_tests))) in
-    both (is_like first line) (is_later (clocks_of first before) from line && are_small (clocks_of first before) from line) like (both (is_later (clocks_of first before) from line) (are_small (clocks_of first before) from line) later few)
+    and_from (nat_lt (lines_tick (clocks_of first before) from) (2 ^ 64)) (nat_lt (tick line from) (2 ^ 64) && nat_lt (tick first from) (2 ^ 64)) (grind (arith, nat_tests))
+    (and_from (nat_lt (tick line from) (2 ^ 64)) (nat_lt (tick first from) (2 ^ 64)) (grind (arith, nat_tests)) (grind (arith, nat_tests))) in
+    and_from (is_like first line) (is_later (clocks_of first before) from line && are_small (clocks_of first before) from line) like (and_from (is_later (clocks_of first before) from line) (are_small (clocks_of first before) from line) later few)
 
 may_behind : (first : Line) (all before : List Held) (line : Line) (from most : ℕ) (held : List Held) → IsLasting (clocks_of first all) → before ++ held ≡ all → last_from 0 before ≡ from → GoesOver first before line from most
     → AreHeld first line from most held → last_from from held < most_ns → EachMayHold (clocks_of first before) held
@@ -59,7 +48,7 @@ may_behind first all before line from most (h ∷ held) lasting is last over are
     let up = last_from-above first h.line h.from h.most held are.4 in
     let here : lines_tick (clocks_of first before) h.from ≡ h.most = ap (λ hs. tick_over first 0 hs h.from) (sym (append-nil before)) ∙ over [] h.from (omega arith) ∙ sym most_is in
     let there : lines_tick (clocks_of first all) h.from ≡ max h.most (tick h.line h.from) =
-    ap (λ hs. tick_over first 0 hs h.from) (sym is) ∙ over (h ∷ held) h.from (omega arith) ∙ later_is line most h held h.from (omega arith) ∙ ap (λ n. tick_over h.line n held h.from) (sym most_is)
+    ap (λ hs. tick_over first 0 hs h.from) (sym is) ∙ over (h ∷ held) h.from (omega arith) ∙ later-is line most h held h.from (omega arith) ∙ ap (λ n. tick_over h.line n held h.from) (sym most_is)
     ∙ starts first h.line h.from h.most held are.4 in
     let small = lines-small (clocks_of first all) h.from lasting (omega arith) in
     let plan = tick-small (clocks_of first all) h.from lasting (omega arith) in
@@ -67,7 +56,7 @@ may_behind first all before line from most (h ∷ held) lasting is last over are
     let same : now ≡ h = λ k. record { from = h.from; line = h.line; most = here k; start = sym are.2 k; plan = sym are.3 k } in
     let one = may_one first h.line before h.from are.5 (omega arith) (omega arith) (omega arith) (omega arith) in
     let goes : GoesOver first (before ++ now ∷ []) h.line h.from h.most = λ more t late.
-    ap (λ hs. tick_over first 0 hs t) (append_assoc before (now ∷ []) more) ∙ over (now ∷ more) t (omega arith) ∙ later_is line most now more t late ∙ ap (λ n. tick_over h.line n more t) (sym most_is) in
+    ap (λ hs. tick_over first 0 hs t) (append_assoc before (now ∷ []) more) ∙ over (now ∷ more) t (omega arith) ∙ later-is line most now more t late ∙ ap (λ n. tick_over h.line n more t) (sym most_is) in
     let whole : (before ++ now ∷ []) ++ held ≡ all = append_assoc before (now ∷ []) held ∙ ap (λ (x : Held). before ++ x ∷ held) same ∙ is in
     (one, may_behind first all (before ++ now ∷ []) h.line h.from h.most held lasting whole (last_one 0 before now) goes are.4 soon)
 

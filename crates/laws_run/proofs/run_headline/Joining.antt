@@ -1,17 +1,12 @@
 -- The lines of a run follow the plans.
 use Rattle.std.proofs.Common.{◌≡◌, ℕ, List, [], ◌∷◌, ◌++◌, length, map, take, None, refl, ap, sym, ◌∙◌, arith, inl, inr}
-use Rattle.std.proofs.lemmas.List.{length-map}
+use Rattle.laws_board.proofs.Names.{length-map, Machine, Switch, Came, known_by, Started, MotionTurn, ReactorTurn}
 use Rattle.gcode_program.specs.Programs.{program_sections}
-use Rattle.plan_types.specs.declared.machine.Machine.{Machine}
-use Rattle.wire_scene.specs.declared.scene.Switch.{Switch}
-use Rattle.host_reactor.specs.Runs.{Came, known_by}
-use Rattle.motion_work.specs.Seen.{Started}
-use Rattle.session_work.specs.declared.table.MotionTurn.{MotionTurn}
-use Rattle.session_work.specs.declared.table.ReactorTurn.{ReactorTurn}
 use Rattle.session_work.specs.Heads.{IsRow}
 use Rattle.session_run.specs.Boards.{AreReactorTurns, came_in}
 use Rattle.laws_board.specs.plans.Lines.{AreLinesOf}
 use Rattle.laws_board.specs.plans.Planned.{Plans}
+use Rattle.laws_board.proofs.sections.Spoiled.{take_all}
 
 -- their lines
 pub lines_are : (m : Machine) (switches : List Switch) (before : List Came) (ts : List ReactorTurn) → AreReactorTurns m switches before ts → AreLinesOf m switches before ts
@@ -22,13 +17,8 @@ lines_are m switches before (t ∷ ts) h = ((known_by m switches before, refl, h
 pub row_none : (n : ℕ) (t : ReactorTurn) → IsRow n 0 t.states t.note → t.note ≡ None
 row_none n t r = elim r [ inl a ↦ a.2 | inr a ↦ absurd (omega (arith, a.0)) ]
 
--- the sections are the first ones of the text
-take_front : {T : Type 0} (xs ys : List T) → take (length xs) (xs ++ ys) ≡ xs
-take_front [] ys = refl
-take_front (x ∷ xs) ys = ap (λ z. x ∷ z) (take_front xs ys)
-
 pub of_sections : (m : Machine) (ts : List MotionTurn) (p : Plans m (length m.boards) ts) → map (λ x. x.section) p.seen.begun ≡ take (length p.seen.begun) (program_sections m p.seen.text)
 of_sections m ts p =
     let own = map (λ (x : Started). x.section) p.seen.begun in
     let size : length own ≡ length p.seen.begun = length-map p.seen.begun (λ (x : Started). x.section) in
-    sym (take_front own p.of_text.0) ∙ ap (λ n. take n (own ++ p.of_text.0)) size ∙ ap (take (length p.seen.begun)) (sym p.of_text.1)
+    sym (take_all own p.of_text.0) ∙ ap (λ n. take n (own ++ p.of_text.0)) size ∙ ap (take (length p.seen.begun)) (sym p.of_text.1)

@@ -1,16 +1,12 @@
 -- The turns of a run.
 use Rattle.std.proofs.Common.{◌≡◌, ℕ, ◌+◌, List, [], ◌∷◌, ◌++◌, length, Some, refl, ap, sym, ◌∙◌, subst, append_assoc}
-use Rattle.std.proofs.Math.Logic.{∥∥₁_map}
-use Rattle.plan_types.specs.declared.machine.Machine.{Machine}
+use Rattle.laws_board.proofs.Names.{∥∥₁_map, Machine, Scene, Run, MotionTurn, ReactorTurn, gather}
 use Rattle.io_core.specs.declared.traits.Files.{Ghosts as Files}
 use Rattle.io_core.specs.declared.traits.Sink.{Ghosts as Sink}
-use Rattle.wire_scene.specs.declared.scene.Scene.{Scene}
-use Rattle.host_reactor.specs.Reactor.{Run, first_run}
+use Rattle.host_reactor.specs.Reactor.{first_run}
 use Rattle.session_lanes.specs.declared.near.Told.{Told}
-use Rattle.session_work.specs.declared.table.MotionTurn.{MotionTurn}
-use Rattle.session_work.specs.declared.table.ReactorTurn.{ReactorTurn}
 use Rattle.session_work.specs.Motions.{MotionStep, seated}
-use Rattle.session_work.specs.Rows.{gather, option_items}
+use Rattle.session_work.specs.Rows.{option_items}
 use Rattle.session_work.specs.Turns.{Goes}
 use Rattle.session_lanes.specs.Runs.{Carried, head_at, ran_at}
 use Rattle.session_work.proofs.Goes.{gather_on}

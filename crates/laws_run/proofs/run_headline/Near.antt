@@ -1,13 +1,10 @@
 -- The clock lines of a run follow the boards' clocks.
 use Rattle.std.proofs.Common.{◌≡◌, ◌%◌, ◌≤◌, All, List, [], ◌∷◌, arith, refl, subst, sym}
-use Rattle.std.proofs.lemmas.List.Elements.{All-cons, All-nil}
+use Rattle.laws_board.proofs.Names.{All-cons, All-nil, BoardClock, Held, Line}
 use Rattle.clock_line.specs.declared.sample.Sample.{Sample}
 use Rattle.clock_line.specs.Samples.{ppm_size, sampled}
 use Rattle.laws_board.specs.clocks.Samples.{IsSample, IsSampled}
 use Rattle.laws_board.proofs.clocks.Near.{drifting_near, exact_near}
-use Rattle.plan_types.specs.declared.clock.BoardClock.{BoardClock}
-use Rattle.plan_types.specs.declared.plan.Held.{Held}
-use Rattle.plan_types.specs.declared.plan.Line.{Line}
 use Rattle.laws_board.specs.turns.Turns.{BoardTurn}
 use Rattle.laws_board.specs.orders.Renewed.{AreSampled}
 use Rattle.laws_run.specs.run_headline.Near.{FollowsClock}

@@ -1,27 +1,13 @@
 -- While a run has sections of moves alone, no board homes.
 use Rattle.std.proofs.Common.{◌≡◌, ℕ, ◌+◌, Bool, true, false, cond, List, [], ◌∷◌, ◌++◌, All, map, length, Option, Some, None, refl, ap, sym, ◌∙◌, subst, inl, inr}
 use Rattle.std.specs.Prelude.{◌==◌}
-use Rattle.std.proofs.lemmas.List.Elements.{All-head, All-tail}
-use Rattle.plan_types.specs.declared.machine.Machine.{Machine}
-use Rattle.plan_types.specs.declared.plan.SectionKind.{SectionKind}
-use Rattle.plan_types.specs.declared.plan.SectionKind.TheVariants.{Moves}
-use Rattle.msg_code.specs.declared.talk.Note.{Note}
-use Rattle.msg_code.specs.declared.talk.NoteNews.{NoteNews}
+use Rattle.laws_board.proofs.Names.{All-head, All-tail, Machine, SectionKind, Moves, Note, NoteNews, State, Switch, homing_after, Known, noted, known_behind, told_all, Reacted, reacts, Came, GoesOn, known_by, Started, MotionTurn, ReactorTurn}
 use Rattle.msg_code.specs.declared.talk.NoteNews.TheVariants as news
-use Rattle.msg_code.specs.declared.talk.State.{State}
-use Rattle.wire_scene.specs.declared.scene.Switch.{Switch}
-use Rattle.axis_homing.specs.Homing.{homing_after, homing_of}
-use Rattle.host_reactor.specs.declared.ordered.Known.{Known}
-use Rattle.host_reactor.specs.Notes.{noted, known_behind, told_all}
-use Rattle.host_reactor.specs.Reactor.{Reacted, reacts}
-use Rattle.host_reactor.specs.Runs.{Came, GoesOn, known_by}
+use Rattle.axis_homing.specs.Homing.{homing_of}
 use Rattle.laws_board.proofs.clocks.Turning.{Goes, goes}
 use Rattle.motion_work.specs.Further.{AreFurther}
 use Rattle.motion_work.specs.Puts.{ArePut, IsReadNews, begun_notes}
-use Rattle.motion_work.specs.Seen.{Started}
 use Rattle.motion_work.specs.Turns.{done_notes}
-use Rattle.session_work.specs.declared.table.MotionTurn.{MotionTurn}
-use Rattle.session_work.specs.declared.table.ReactorTurn.{ReactorTurn}
 use Rattle.session_run.specs.Boards.{came_from, came_in}
 use Rattle.laws_board.specs.plans.Lines.{TookEach, TookNotes}
 use Rattle.laws_board.specs.plans.Planned.{puts_of}

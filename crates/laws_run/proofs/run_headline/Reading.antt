@@ -1,20 +1,13 @@
 -- The text that a planner read in a whole run is that of the file.
 use Rattle.std.proofs.Common.{◌≡◌, ℕ, zero, suc, ◌+◌, ◌<◌, ◌⊎◌, Bool, true, false, List, [], ◌∷◌, ◌++◌, drop, take, length, Option, Some, None, refl, ap, sym, ◌∙◌, subst, arith, inl, inr, append-nil}
-use Rattle.std.proofs.lemmas.Bool.Decides.{leb_tells}
-use Rattle.std.proofs.lemmas.List.{take-append-drop}
+use Rattle.laws_board.proofs.Names.{leb_tells, take-append-drop, Cause, ReportLine, Run, MotionTurn, ReactorTurn, gather}
 use Rattle.std.specs.Prelude.{nat_lt}
 use Rattle.io_core.specs.declared.traits.Files.{Ghosts as Files}
 use Rattle.io_core.specs.declared.traits.Sink.{Ghosts as Sink}
-use Rattle.plan_types.specs.declared.cause.Cause.{Cause}
 use Rattle.msg_code.specs.declared.talk.Piece.{Piece}
-use Rattle.report_text.specs.declared.line.ReportLine.{ReportLine}
-use Rattle.host_reactor.specs.Reactor.{Run}
 use Rattle.session_work.specs.declared.head.Head.{Head}
-use Rattle.session_work.specs.declared.table.MotionTurn.{MotionTurn}
-use Rattle.session_work.specs.declared.table.ReactorTurn.{ReactorTurn}
 use Rattle.session_work.specs.Bares.{stop_piece}
 use Rattle.session_work.specs.Heads.{Ordering, ReactorStep, ServeStep, Served, Wrote}
-use Rattle.session_work.specs.Rows.{gather}
 use Rattle.session_work.specs.Turns.{Goes}
 use Rattle.session_run.specs.declared.desk.Desk.{Desk}
 use Rattle.session_run.specs.Desks.{Desked, desk_out}

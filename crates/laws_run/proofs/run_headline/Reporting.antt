@@ -1,35 +1,16 @@
 -- The further clock lines that the lines of a whole run tell.
 use Rattle.std.proofs.Common.{◌≡◌, ℕ, suc, ◌+◌, ◌*◌, ◌<◌, ◌≤◌, ◌⊎◌, List, [], ◌∷◌, ◌++◌, map, length, None, Some, refl, ap, sym, ◌∙◌, subst, arith, inl, inr, append_assoc, append-nil, length-append}
-use Rattle.std.proofs.lemmas.Bool.Decides.{eqb_tells, leb_tells}
-use Rattle.plan_types.specs.declared.cause.Cause.{Cause}
-use Rattle.plan_types.specs.declared.machine.Machine.{Machine}
-use Rattle.plan_types.specs.declared.plan.Held.{Held}
-use Rattle.plan_types.specs.declared.plan.Line.{Line}
-use Rattle.plan_types.specs.Clock.{turn_ns}
-use Rattle.plan_types.specs.Lines.{Clocks}
-use Rattle.plan_types.specs.Machines.{IsValidMachine}
-use Rattle.plan_types.specs.Sections.{clocks_at}
-use Rattle.msg_code.specs.declared.talk.Note.{Note}
-use Rattle.msg_code.specs.declared.talk.NoteNews.{NoteNews}
+use Rattle.laws_board.proofs.Names.{eqb_tells, leb_tells, Cause, Machine, Held, Line, turn_ns, Clocks, IsValidMachine, clocks_at, Note, NoteNews, WordMsg, ReportLine, Scene, Switch, Connecting, news_of, Came, known_by, Told, MotionTurn, ReactorTurn, gather, cons_same}
 use Rattle.msg_code.specs.declared.talk.NoteNews.TheVariants as news
-use Rattle.msg_code.specs.declared.talk.WordMsg.{WordMsg}
-use Rattle.report_text.specs.declared.line.ReportLine.{ReportLine}
 use Rattle.report_text.specs.declared.line.ReportLine.TheVariants as report
-use Rattle.wire_scene.specs.declared.scene.Scene.{Scene}
-use Rattle.wire_scene.specs.declared.scene.Switch.{Switch}
-use Rattle.host_reactor.specs.declared.ordered.Phase.TheVariants.{Connecting, Running}
-use Rattle.host_reactor.specs.Notes.{news_of}
+use Rattle.host_reactor.specs.declared.ordered.Phase.TheVariants.{Running}
 use Rattle.host_reactor.specs.Report.{drift_line, drift_lines}
-use Rattle.host_reactor.specs.Runs.{Came, known_by}
 use Rattle.motion_work.specs.Further.{WasHeard, noted_lines}
-use Rattle.motion_work.specs.Told.{Told, lines_in}
-use Rattle.session_work.specs.declared.table.MotionTurn.{MotionTurn}
-use Rattle.session_work.specs.declared.table.ReactorTurn.{ReactorTurn}
-use Rattle.session_work.specs.Rows.{gather, option_items}
+use Rattle.motion_work.specs.Told.{lines_in}
+use Rattle.session_work.specs.Rows.{option_items}
 use Rattle.session_run.specs.Boards.{AreReactorTurns, came_from, came_in}
 use Rattle.laws_board.specs.plans.Lines.{drift_in, drifts_of}
 use Rattle.laws_board.specs.plans.Planned.{AreBare, AreKnown, Plans, words_in}
-use Rattle.laws_board.proofs.sections.Lists.{cons_same}
 use Rattle.laws_run.specs.run_ends.Boards.{boards_of}
 use Rattle.laws_run.proofs.run_ends.Connecting.{after_boards, before_boards, boards_append}
 use Rattle.laws_run.specs.run_headline.Further.{AreNamed, BoardsFirst, TellFurther, TellsFurther}
@@ -37,13 +18,14 @@ use Rattle.section_feed.specs.Fewer.{HoldBehind}
 use Rattle.laws_run.proofs.run_headline.Asked.{asked_late}
 use Rattle.laws_run.proofs.run_headline.Boarded.{Ready, ready}
 use Rattle.laws_run.proofs.run_headline.Drifts.{drifts_append, reacts_drifts}
-use Rattle.laws_run.proofs.run_headline.Further.{EachHeld, EachTold, noted_append, noted_grown, noted_long, told_more}
+use Rattle.laws_run.proofs.run_headline.Further.{EachHeld, EachTold, noted_grown, noted_long, told_more}
 use Rattle.laws_run.proofs.run_headline.Heard.{notes_cut}
 use Rattle.laws_run.proofs.run_headline.Noting.{AllNoted, IsNoted, all_noted, heard_running, noted_between, noted_front, noted_later, word_said}
 use Rattle.laws_run.proofs.run_headline.Facts.{EachNoted, Facts, came_long, goes_noted, last_boards, noted_so, notes_of, turns_cut}
 use Rattle.laws_run.proofs.run_headline.Joining.{row_none}
 use Rattle.laws_run.proofs.run_headline.Words.{Said, line_is, made_numbered, news_in}
 use Rattle.laws_run.proofs.run_lines.Further.{first_front, named_front}
+use Rattle.motion_stream.proofs.Uptaking.{noted_both}
 
 -- lines that tell none of any board
 abbrev TellNone : List ReportLine → Type 0
@@ -415,8 +397,8 @@ module _ (m : Machine) (v : IsValidMachine m) (s : Scene) (ts : List MotionTurn)
       let Late : ℕ → Line → ℕ → Type 0 = λ board line from. turn * turn_ns < from in
       let known = subst (AreKnown m) told p.known in
       let whole : t.clocks ≡ noted_lines (news_in had.back) (noted_lines (news_in had.front) h.clocks) =
-      h.on ∙ ap (noted_lines (news_in (h.turn ∷ h.later))) (sym (none_noted (news_in h.past) h.clocks none_early)) ∙ sym (noted_append (news_in h.past) (news_in (h.turn ∷ h.later)) h.clocks)
-      ∙ ap (λ ns. noted_lines ns h.clocks) (sym (news_append h.past (h.turn ∷ h.later)) ∙ ap news_in (sym h.are ∙ had.are) ∙ news_append had.front had.back) ∙ noted_append (news_in had.front) (news_in had.back) h.clocks in
+      h.on ∙ ap (noted_lines (news_in (h.turn ∷ h.later))) (sym (none_noted (news_in h.past) h.clocks none_early)) ∙ sym (noted_both (news_in h.past) (news_in (h.turn ∷ h.later)) h.clocks)
+      ∙ ap (λ ns. noted_lines ns h.clocks) (sym (news_append h.past (h.turn ∷ h.later)) ∙ ap news_in (sym h.are ∙ had.are) ∙ news_append had.front had.back) ∙ noted_both (news_in had.front) (news_in had.back) h.clocks in
       let mid = noted_lines (news_in had.front) h.clocks in
       let long_mid = noted_long (news_in had.front) h.clocks in
       let long_all = ap length whole ∙ noted_long (news_in had.back) mid in

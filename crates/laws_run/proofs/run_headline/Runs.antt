@@ -1,21 +1,14 @@
 -- What a whole run shows, whatever threads it went in.
 use Rattle.std.proofs.Common.{◌≡◌, ◌⊎◌, ℕ, ◌<◌, List, [], ◌∷◌, length, Some, refl, sym, ◌∙◌, subst, arith, inl, inr}
-use Rattle.plan_types.specs.declared.cause.Cause.{Cause}
+use Rattle.laws_board.proofs.Names.{Cause, Machine, clock_of, board_at, Scene, Run, MotionTurn, ReactorTurn, gather, Known, noted, IsOwn, known_by}
 use Rattle.plan_types.specs.declared.cause.Cause.TheVariants as cause
-use Rattle.plan_types.specs.declared.machine.Machine.{Machine}
-use Rattle.plan_types.specs.Clock.{clock_of}
-use Rattle.plan_types.specs.Machines.{board_at}
 use Rattle.io_core.specs.declared.traits.Files.{Ghosts as Files}
 use Rattle.io_core.specs.declared.traits.Sink.{Ghosts as Sink}
-use Rattle.wire_scene.specs.declared.scene.Scene.{Scene}
 use Rattle.link_work.specs.Stands.{SeenLink as LinkSeen}
-use Rattle.host_reactor.specs.Reactor.{Run, first_run}
+use Rattle.host_reactor.specs.Reactor.{first_run}
 use Rattle.session_lanes.specs.declared.near.Told.{Told}
-use Rattle.session_work.specs.declared.table.MotionTurn.{MotionTurn}
-use Rattle.session_work.specs.declared.table.ReactorTurn.{ReactorTurn}
 use Rattle.session_work.specs.Heads.{IsRow}
 use Rattle.session_work.specs.Motions.{MotionStep, seated}
-use Rattle.session_work.specs.Rows.{gather}
 use Rattle.session_lanes.specs.Runs.{AreLogs, head_at, ran_at}
 use Rattle.session_work.specs.Turns.{Goes}
 use Rattle.session_run.specs.declared.tell.Kept.{Kept}
@@ -29,10 +22,6 @@ use Rattle.laws_run.specs.lanes.Turns.{AllGoOn, AllHaveControls}
 use Rattle.laws_run.proofs.lanes.Items.{in_memory}
 use Rattle.laws_run.proofs.lanes.Whole.{have_controls, in_whole}
 use Rattle.laws_board.specs.plans.Planned.{AnyStops}
-use Rattle.host_reactor.specs.declared.ordered.Known.{Known}
-use Rattle.host_reactor.specs.Notes.{noted}
-use Rattle.host_reactor.specs.Rows.{IsOwn}
-use Rattle.host_reactor.specs.Runs.{known_by}
 use Rattle.laws_run.specs.run_ends.Ends.{EndsSo, order}
 use Rattle.laws_run.proofs.run_ends.Coming.{first_comes, none_comes}
 use Rattle.laws_run.proofs.run_ends.Ending.{ends_so}

@@ -1,38 +1,20 @@
 -- What a whole run shows of the sections that its planner begun.
 use Rattle.std.proofs.Common.{◌≡◌, ◌≢◌, ℕ, suc, ◌+◌, ◌<◌, ◌≤◌, ◌⊎◌, List, [], ◌∷◌, ◌++◌, All, map, length, Option, Some, None, refl, ap, sym, ◌∙◌, subst, arith, inl, inr, append_assoc, append-nil, length-append}
-use Rattle.std.proofs.lemmas.Bool.Decides.{leb_tells}
-use Rattle.std.proofs.lemmas.List.{length-map}
+use Rattle.laws_board.proofs.Names.{leb_tells, length-map, Cause, Machine, Moves, one_line, IsValidMachine, board_at, clocks_at, Note, WordMsg, Line, Scene, Known, Connecting, Stopping, noted, IsOwn, Came, known_by, last_reacted, AreStarted, Started, Told, MotionTurn, ReactorTurn, gather, clock_of}
 use Rattle.gcode_program.specs.Programs.{program_end, program_sections}
-use Rattle.plan_types.specs.declared.cause.Cause.{Cause}
 use Rattle.plan_types.specs.declared.cause.Cause.TheVariants as cause
-use Rattle.plan_types.specs.declared.machine.Machine.{Machine}
 use Rattle.plan_types.specs.declared.plan.ReadStop.TheVariants as read
-use Rattle.plan_types.specs.declared.plan.SectionKind.TheVariants.{Moves}
-use Rattle.plan_types.specs.Lines.{one_line}
-use Rattle.plan_types.specs.Machines.{IsValidMachine, board_at}
-use Rattle.plan_types.specs.Sections.{clocks_at, first_start}
-use Rattle.msg_code.specs.declared.talk.Note.{Note}
-use Rattle.msg_code.specs.declared.talk.WordMsg.{WordMsg}
+use Rattle.plan_types.specs.Sections.{first_start}
 use Rattle.msg_code.specs.declared.talk.WordNews.TheVariants as word
-use Rattle.plan_types.specs.declared.plan.Line.{Line}
 use Rattle.board_asking.specs.Connecting.{connected_lines}
-use Rattle.wire_scene.specs.declared.scene.Scene.{Scene}
-use Rattle.host_reactor.specs.declared.ordered.Known.{Known}
-use Rattle.host_reactor.specs.declared.ordered.Phase.TheVariants.{Connecting, Running, Stopping}
-use Rattle.host_reactor.specs.Notes.{noted}
-use Rattle.host_reactor.specs.Rows.{IsOwn}
+use Rattle.host_reactor.specs.declared.ordered.Phase.TheVariants.{Running}
 use Rattle.host_reactor.specs.Running.{text_end}
 use Rattle.laws_board.proofs.clocks.Lines.{noted_phase}
 use Rattle.laws_board.specs.causes.Short.{HaveShortDictionaries}
 use Rattle.laws_run.specs.clock_ages.Renewed.{StayYoung}
 use Rattle.laws_run.proofs.clock_ages.Renews.{renews}
-use Rattle.host_reactor.specs.Runs.{Came, known_by, last_reacted}
-use Rattle.motion_work.specs.Seen.{AreStarted, Started}
-use Rattle.motion_work.specs.Told.{Told}
-use Rattle.session_work.specs.declared.table.MotionTurn.{MotionTurn}
-use Rattle.session_work.specs.declared.table.ReactorTurn.{ReactorTurn}
 use Rattle.session_work.specs.Leads.{last_words}
-use Rattle.session_work.specs.Rows.{gather, option_items}
+use Rattle.session_work.specs.Rows.{option_items}
 use Rattle.session_run.specs.Boards.{AreReactorTurns, came_from, came_in}
 use Rattle.laws_board.specs.plans.Lines.{AreLinesOf, TellTurns, TookNotes}
 use Rattle.laws_board.specs.plans.Planned.{AreBare, AreToldBy, LastHomes, Plans, put_of, puts_of}
@@ -40,7 +22,6 @@ use Rattle.laws_board.proofs.plans.Heard.{heard_few}
 use Rattle.laws_board.proofs.plans.Beginning.{Spread}
 use Rattle.laws_board.proofs.plans.Spreading.{IsLate, plans_spread, turns_late}
 use Rattle.laws_board.proofs.plans.Telling.{all_tell, begin_snoc, notes_tell, put_begin}
-use Rattle.plan_types.specs.Clock.{clock_of}
 use Rattle.laws_run.specs.lanes.Boards.{IsInWhole}
 use Rattle.laws_run.specs.run_headline.Timely.{AreHeard, AreOfMoves, AreSound, AreThrough, HoldsLittle, IsTimelyIn, TellBoards, clocks_heard, link_of, ready_heard}
 use Rattle.laws_run.specs.run_headline.Further.{TellFurther}

@@ -1,17 +1,10 @@
 -- An object id that has units in a section is that of a stepper of the board.
 use Rattle.std.proofs.Common.{◌≡◌, ◌≢◌, ℕ, suc, ◌<◌, false, List, [], ◌∷◌, All, take, length, ap, ◌∙◌, subst, arith, inl, inr}
-use Rattle.std.proofs.lemmas.Bool.Decides.{leb_tells}
-use Rattle.std.proofs.lemmas.List.Elements.{All-cons, All-head, All-nil, All-tail}
-use Rattle.plan_types.specs.declared.machine.Machine.{Machine}
-use Rattle.plan_types.specs.Machines.{IsValidMachine, board_at, stepper_at}
-use Rattle.plan_types.specs.Sections.{clocks_at, section_plans}
-use Rattle.link_work.specs.Turn.{Orders}
-use Rattle.motion_work.specs.Boards.{parts_on}
+use Rattle.laws_board.proofs.Names.{leb_tells, All-cons, All-head, All-nil, All-tail, Machine, IsValidMachine, board_at, stepper_at, clocks_at, Orders, parts_on, Started, Told, BoardSection, of_stepper, units_of}
+use Rattle.plan_types.specs.Sections.{section_plans}
 use Rattle.section_units.specs.Plans.{plans_on}
-use Rattle.motion_work.specs.Seen.{Started, part_on}
-use Rattle.motion_work.specs.Told.{Told}
-use Rattle.section_units.specs.Sections.{BoardSection, IsSection, of_stepper}
-use Rattle.step_feed.specs.Pacing.{units_of}
+use Rattle.motion_work.specs.Seen.{part_on}
+use Rattle.section_units.specs.Sections.{IsSection}
 use Rattle.laws_board.specs.sections.Parts.{MakesIn}
 use Rattle.laws_board.proofs.plans.Placing.{count_is, count_on}
 use Rattle.laws_board.proofs.plans.Sitting.{have_steps, past, place_on, plans_few}

@@ -1,45 +1,30 @@
 -- Which word told the planner the boards' clock lines.
 use Rattle.std.proofs.Common.{◌≡◌, ℕ, zero, suc, ◌+◌, ◌<◌, ◌≤◌, ◌^◌, ◌⊎◌, Bool, true, false, cond, List, [], ◌∷◌, ◌++◌, map, length, Option, Some, None, get_or, refl, ap, sym, ◌∙◌, subst, arith, inl, inr, append_assoc}
 use Rattle.std.specs.Prelude.{◌&&◌, ◌==◌, max, nat_lt, not}
-use Rattle.plan_types.specs.declared.machine.BoardDef.{BoardDef}
-use Rattle.plan_types.specs.declared.machine.Machine.{Machine}
-use Rattle.plan_types.specs.declared.plan.Line.{Line}
-use Rattle.plan_types.specs.Lines.{Clocks, one_line}
+use Rattle.laws_board.proofs.Names.{BoardDef, Machine, Line, Clocks, one_line, eqb_tells, clocks_at, NoteNews, State, WordMsg, Switch, Asking, listen_all, ready_all, homing_turn, Known, Connecting, noted, Reacted, Came, GoesOn, known_by, last_reacted, Told, MotionTurn, ReactorTurn, gather}
 use Rattle.plan_types.specs.Machines.{no_board}
-use Rattle.std.proofs.lemmas.Bool.Decides.{eqb_tells}
-use Rattle.plan_types.specs.Sections.{clocks_at, first_start}
-use Rattle.msg_code.specs.declared.talk.NoteNews.{NoteNews}
-use Rattle.msg_code.specs.declared.talk.State.{State}
-use Rattle.msg_code.specs.declared.talk.WordMsg.{WordMsg}
+use Rattle.plan_types.specs.Sections.{first_start}
 use Rattle.msg_code.specs.declared.talk.WordNews.{WordNews}
 use Rattle.msg_code.specs.declared.talk.WordNews.TheVariants as word
-use Rattle.wire_scene.specs.declared.scene.Switch.{Switch}
-use Rattle.board_asking.specs.declared.asking.Asking.{Asking}
 use Rattle.board_asking.specs.Asking.{is_out}
-use Rattle.board_asking.specs.Connecting.{board_line, board_lines, listen_all, ready_all}
+use Rattle.board_asking.specs.Connecting.{board_line, board_lines}
 use Rattle.board_asking.specs.Drift.{new_line, new_lines}
-use Rattle.axis_homing.specs.Homing.{homing_turn}
-use Rattle.host_reactor.specs.declared.ordered.Known.{Known}
-use Rattle.host_reactor.specs.declared.ordered.Phase.TheVariants.{Connecting, Running}
-use Rattle.host_reactor.specs.Notes.{noted}
-use Rattle.host_reactor.specs.Reactor.{Reacted, homed}
-use Rattle.host_reactor.specs.Runs.{Came, GoesOn, known_by, last_reacted}
+use Rattle.host_reactor.specs.declared.ordered.Phase.TheVariants.{Running}
+use Rattle.host_reactor.specs.Reactor.{homed}
 use Rattle.laws_board.specs.clocks.Samples.{line_at}
 use Rattle.laws_board.proofs.clocks.Lines.{noted_phase}
 use Rattle.laws_board.proofs.clocks.Turning.{Goes, goes}
 use Rattle.motion_work.specs.Further.{noted_lines, told_on}
-use Rattle.motion_work.specs.Told.{Told, are_fit, first_told, is_fit, told_at, told_in, told_of}
+use Rattle.motion_work.specs.Told.{are_fit, first_told, is_fit, told_at, told_in, told_of}
 use Rattle.motion_work.specs.Told.{word_limit as last_word}
-use Rattle.session_work.specs.declared.table.MotionTurn.{MotionTurn}
-use Rattle.session_work.specs.declared.table.ReactorTurn.{ReactorTurn}
 use Rattle.session_work.specs.Leads.{each_turn, last_words, still_word}
 use Rattle.session_work.specs.Bares.{bare_word}
-use Rattle.session_work.specs.Rows.{gather}
 use Rattle.session_run.specs.Boards.{AreReactorTurns, came_from, came_in}
 use Rattle.laws_board.specs.plans.Planned as planned
 use Rattle.laws_board.specs.plans.Answers.{TookNoneAhead}
 use Rattle.laws_board.specs.plans.Planned.{AnyEnds, connecting_heard}
-use Rattle.laws_run.proofs.run_headline.Further.{noted_append}
+use Rattle.laws_board.proofs.plans.Planning.{heard_some}
+use Rattle.motion_stream.proofs.Uptaking.{noted_both}
 
 -- a word is among some
 abbrev pub Among : WordMsg → List WordMsg → Type 0
@@ -93,7 +78,7 @@ turns_numbered m switches k before (t ∷ rs) e h =
       turns_numbered m switches (k + 1) (came_in t ∷ before) rs (omega (arith, e)) h.1,
     )
 
-words_long : (rs : List ReactorTurn) → length (gather (λ t. t.word ∷ []) rs) ≡ length rs
+pub words_long : (rs : List ReactorTurn) → length (gather (λ t. t.word ∷ []) rs) ≡ length rs
 words_long [] = refl
 words_long (t ∷ rs) = ap suc (words_long rs)
 
@@ -123,17 +108,12 @@ made_numbered m switches n rs ts made bare left are turns words =
 abbrev pub news_in : List MotionTurn → List NoteNews
 news_in ts = gather (λ t. t.note.news) ts
 
--- the lines that were told first hold, and notes tell further ones
-pub heard_on : (m : Machine) (k : ℕ) (ws : List WordMsg) (t : Told) → connecting_heard m k ws (Some t) ≡ Some t
-heard_on m k [] t = refl
-heard_on m k (w ∷ ws) t = heard_on m k ws t
-
 pub told_grows : (m : Machine) (k : ℕ) (ts : List MotionTurn) (t : Told) → planned.told_of m k ts (Some t) ≡ Some (record { first = t.first; clocks = noted_lines (news_in ts) t.clocks })
 told_grows m k [] t = refl
 told_grows m k (x ∷ ts) t =
     let mid : Told = record { first = t.first; clocks = noted_lines x.note.news t.clocks } in
-    ap (λ o. planned.told_of m (k + 1) ts (told_on x.note.news o)) (heard_on m k x.words t) ∙ told_grows m (k + 1) ts mid
-    ∙ ap (λ (cs : List Clocks). Some (record { first = t.first; clocks = cs })) (sym (noted_append x.note.news (news_in ts) t.clocks))
+    ap (λ o. planned.told_of m (k + 1) ts (told_on x.note.news o)) (heard_some m k x.words t) ∙ told_grows m (k + 1) ts mid
+    ∙ ap (λ (cs : List Clocks). Some (record { first = t.first; clocks = cs })) (sym (noted_both x.note.news (news_in ts) t.clocks))
 
 words_tell : (m : Machine) (k i : ℕ) (ws : List WordMsg) (t : Told) → k ≤ i → AreNumbered i ws → connecting_heard m k ws None ≡ Some t → (w : WordMsg) × Among w ws × Tells m t.clocks t.first w
 words_tell m k i [] t late n e = absurd (let f : None ≡ Some t = e in cc)
@@ -144,7 +124,7 @@ words_tell m k i (w ∷ ws) t late n e = by (told_of m w) refl (λ f. words_tell
     by None is rec f = let r = rec f in (r.0, inr r.1, r.2)
     by (Some clocks) is rec f =
         let told : Told = record { first = first_start (max k w.turn); clocks = clocks } in
-        let same : told ≡ t = (let g : Some told ≡ Some t = sym (heard_on m k ws told) ∙ f in cc) in
+        let same : told ≡ t = (let g : Some told ≡ Some t = sym (heard_some m k ws told) ∙ f in cc) in
         let number = n.0 in
         let own : max k w.turn ≡ w.turn = omega (arith, number, late) in
         (w, inl refl, record { lines = is ∙ ap (λ (x : Told). Some x.clocks) same; first_is = sym (ap (λ (x : Told). x.first) same) ∙ ap first_start own })
@@ -205,7 +185,7 @@ turns_tell m k taken (x ∷ ts) t late in_time range ahead n e =
           tells = subst (λ (y : Told). Tells m told.clocks y.first r.0) same r.2;
           number = omega (arith, low, high, soon, late);
           in_range = here;
-          on = sym (ap (λ (y : Told). y.clocks) same) ∙ sym (noted_append x.note.news (news_in ts) told.clocks);
+          on = sym (ap (λ (y : Told). y.clocks) same) ∙ sym (noted_both x.note.news (news_in ts) told.clocks);
         }
 
 -- words without news tell none

@@ -1,14 +1,6 @@
 -- Each board of a whole run in which axes home, whatever ended it, as the laws of boards ask for it.
 use Rattle.std.proofs.Common.{◌≡◌, inr, ℕ, ◌<◌, List, [], ◌∷◌, ◌++◌, length, map, Some, length-append, refl, arith}
-use Rattle.plan_types.specs.declared.cause.Cause.{Cause}
-use Rattle.plan_types.specs.declared.machine.Machine.{Machine}
-use Rattle.plan_types.specs.Clock.{clock_of}
-use Rattle.plan_types.specs.Machines.{IsValidMachine, board_at}
-use Rattle.plan_types.specs.Sections.{clocks_at}
-use Rattle.wire_scene.specs.declared.scene.Scene.{Scene}
-use Rattle.motion_work.specs.Told.{Told}
-use Rattle.session_work.specs.declared.table.MotionTurn.{MotionTurn}
-use Rattle.session_work.specs.declared.table.ReactorTurn.{ReactorTurn}
+use Rattle.laws_board.proofs.Names.{Cause, Machine, clock_of, IsValidMachine, board_at, clocks_at, Scene, Told, MotionTurn, ReactorTurn}
 use Rattle.session_run.specs.Boards.{came_from}
 use Rattle.laws_board.specs.sections.Homes.{IsHomeBoard}
 use Rattle.laws_run.specs.lanes.Boards.{IsInWhole, turns_behind}

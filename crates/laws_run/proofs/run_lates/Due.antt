@@ -1,17 +1,11 @@
 -- By a board's own clock the units of its sections are due in the turns of their first ticks, or one turn later where its clock is off.
 use Rattle.std.proofs.Common.{◌≡◌, ℕ, suc, ◌+◌, ◌-◌, ◌*◌, ◌<◌, ◌≤◌, List, [], ◌∷◌, ◌++◌, Bool, true, false, All, length, Option, ap, sym, subst, arith, inl, inr}
-use Rattle.std.specs.List.{flat_map}
-use Rattle.std.proofs.lemmas.Bool.Decides.{eqb_tells, leb_tells}
-use Rattle.std.proofs.lemmas.List.Elements.{All-head, All-tail}
-use Rattle.plan_types.specs.declared.clock.BoardClock.{BoardClock}
-use Rattle.plan_types.specs.Clock.{board_tick, turn_ns}
-use Rattle.plan_types.specs.Lines.{Clocks, lines_tick, lines_turn}
+use Rattle.laws_board.proofs.Names.{flat_map, eqb_tells, leb_tells, All-head, All-tail, BoardClock, board_tick, turn_ns, Clocks, lines_tick, StepUnit, Release, batch_at, units_of, BoardSection, base_of, of_stepper, section_steps, Orders}
+use Rattle.plan_types.specs.Lines.{lines_turn}
 use Rattle.clock_line.proofs.Turns.{turn-after, turn-below}
-use Rattle.step_feed.specs.Units.{StepUnit}
-use Rattle.step_feed.specs.Pacing.{ArePaced, Release, batch_at, units_of}
-use Rattle.section_units.specs.Sections.{BoardSection, IsSection, base_of, of_stepper, section_steps}
+use Rattle.step_feed.specs.Pacing.{ArePaced}
+use Rattle.section_units.specs.Sections.{IsSection}
 use Rattle.link_work.specs.Held.{AllDue, AreDue, lead_of}
-use Rattle.link_work.specs.Turn.{Orders}
 use Rattle.laws_board.specs.sections.Events.{AreTicks}
 use Rattle.laws_board.specs.sections.Homes.{AreInTurn, AreOrdersIn, IsSectionBy, RunSection}
 use Rattle.laws_board.specs.sections.Parts.{AreTracked}

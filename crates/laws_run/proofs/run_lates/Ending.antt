@@ -1,31 +1,13 @@
 -- The boards of a whole run end for two reasons alone.
 use Rattle.std.proofs.Common.{All, ◌≡◌, ◌≢◌, ℕ, ◌<◌, List, [], ◌∷◌, ◌++◌, length, Option, Some, None, refl, sym, subst, arith, inl, inr}
-use Rattle.std.proofs.Math.Logic.{∥∥₁_map}
-use Rattle.std.proofs.lemmas.List.Elements.{All-cons, All-nil}
+use Rattle.laws_board.proofs.Names.{∥∥₁_map, All-cons, All-nil, Cause, Machine, BoardState, Running, Shut, Moves, clock_of, IsValidMachine, board_at, State, Scene, pins_of, Orders, Run, Came, Started, Told, MotionTurn, ReactorTurn}
 use Rattle.io_core.specs.declared.traits.Files.{Ghosts as Files}
 use Rattle.io_core.specs.declared.traits.Sink.{Ghosts as Sink}
-use Rattle.plan_types.specs.declared.cause.Cause.{Cause}
 use Rattle.plan_types.specs.declared.cause.Cause.TheVariants as cause
-use Rattle.plan_types.specs.declared.machine.Machine.{Machine}
-use Rattle.plan_types.specs.declared.plan.BoardState.{BoardState}
-use Rattle.plan_types.specs.declared.plan.BoardState.TheVariants.{Running, Shut}
-use Rattle.plan_types.specs.declared.plan.SectionKind.TheVariants.{Moves}
-use Rattle.plan_types.specs.Clock.{clock_of}
-use Rattle.plan_types.specs.Machines.{IsValidMachine, board_at}
-use Rattle.msg_code.specs.declared.talk.State.{State}
-use Rattle.wire_scene.specs.declared.scene.Scene.{Scene}
-use Rattle.link_work.specs.Switches.{pins_of}
-use Rattle.link_work.specs.Turn.{Orders}
-use Rattle.host_reactor.specs.Reactor.{Run}
-use Rattle.host_reactor.specs.Runs.{Came}
 use Rattle.laws_board.specs.turns.Turns.{stands_after}
 use Rattle.laws_board.specs.clocks.Runs.{IsInRun, orders_in}
 use Rattle.laws_board.proofs.clocks.Orders.{turns_in_order}
-use Rattle.motion_work.specs.Seen.{Started}
-use Rattle.motion_work.specs.Told.{Told}
 use Rattle.session_lanes.specs.declared.near.Told as near
-use Rattle.session_work.specs.declared.table.MotionTurn.{MotionTurn}
-use Rattle.session_work.specs.declared.table.ReactorTurn.{ReactorTurn}
 use Rattle.session_run.specs.declared.tell.Kept.{Kept}
 use Rattle.session_run.specs.Boards.{came_from}
 use Rattle.session_run.specs.Runs.{RunsOver}

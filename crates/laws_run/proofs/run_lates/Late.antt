@@ -1,40 +1,20 @@
 -- A whole run that ends since steps came too late to a board tells of this board's last turn.
 use Rattle.std.proofs.Common.{◌≡◌, ℕ, zero, suc, ◌+◌, ◌<◌, Bool, false, List, [], ◌∷◌, ◌++◌, length, map, Option, Some, None, refl, ap, sym, ◌∙◌, subst, arith, inl, inr, append_assoc, length-append}
 use Rattle.std.specs.Prelude.{◌==◌, if◌then◌else◌}
-use Rattle.std.proofs.lemmas.Bool.Decides.{eqb_tells}
-use Rattle.std.proofs.lemmas.List.{length-map}
+use Rattle.laws_board.proofs.Names.{eqb_tells, length-map, Cause, BoardClock, Level, Machine, BoardState, Running, Shut, board_tick, clock_of, IsValidMachine, board_at, ShutNews, State, Control, Scene, Core, orders, pins_of, LinkState, Orders, Known, noted, Run, IsOwn, Came, known_by, MotionTurn, ReactorTurn, gather, item}
 use Rattle.io_core.specs.declared.traits.Files.{Ghosts as Files}
 use Rattle.io_core.specs.declared.traits.Sink.{Ghosts as Sink}
-use Rattle.plan_types.specs.declared.cause.Cause.{Cause}
 use Rattle.plan_types.specs.declared.cause.Cause.TheVariants as cause
-use Rattle.plan_types.specs.declared.clock.BoardClock.{BoardClock}
-use Rattle.plan_types.specs.declared.levels.Level.{Level}
-use Rattle.plan_types.specs.declared.machine.Machine.{Machine}
-use Rattle.plan_types.specs.declared.plan.BoardState.{BoardState}
-use Rattle.plan_types.specs.declared.plan.BoardState.TheVariants.{Running, Shut}
-use Rattle.plan_types.specs.Clock.{board_tick, clock_of}
-use Rattle.plan_types.specs.Machines.{IsValidMachine, board_at}
-use Rattle.msg_code.specs.declared.talk.ShutNews.{ShutNews}
-use Rattle.msg_code.specs.declared.talk.State.{State}
 use Rattle.msg_code.specs.declared.unit.Batch.{Batch}
-use Rattle.msg_code.specs.declared.unit.Control.{Control}
-use Rattle.wire_scene.specs.declared.scene.Scene.{Scene}
 use Rattle.board_sim.specs.Board.{timer_too_close}
-use Rattle.board_world.specs.World.{AllFair, Core}
+use Rattle.board_world.specs.World.{AllFair}
 use Rattle.board_world.proofs.Causes.{was_shut}
 use Rattle.link_work.specs.Held.{IsCounted, late_by, lead_of, spill_told}
 use Rattle.link_work.specs.Late.{turn_steps}
-use Rattle.link_work.specs.Stands.{SeenLink, orders}
-use Rattle.link_work.specs.Switches.{pins_of}
-use Rattle.link_work.specs.Turn.{LinkState, Orders}
+use Rattle.link_work.specs.Stands.{SeenLink}
 use Rattle.link_work.proofs.Answered.{begins}
 use Rattle.link_work.proofs.Shut.{Found, turn_shut, why_steps}
-use Rattle.host_reactor.specs.declared.ordered.Known.{Known}
-use Rattle.host_reactor.specs.Notes.{noted}
-use Rattle.host_reactor.specs.Reactor.{Run}
-use Rattle.host_reactor.specs.Rows.{IsOwn}
 use Rattle.host_reactor.specs.Running.{late, late_of, or_cause}
-use Rattle.host_reactor.specs.Runs.{Came, known_by}
 use Rattle.laws_board.specs.turns.Turns.{AreBoardTurns, BoardTurn, IsBoardOf, latest_state, stands_after}
 use Rattle.laws_board.specs.clocks.Runs.{IsInRun, orders_in}
 use Rattle.laws_board.proofs.clocks.Lines.{run_before}
@@ -42,17 +22,13 @@ use Rattle.laws_board.proofs.clocks.Orders.{order_length, turns_in_order}
 use Rattle.laws_homing.proofs.home_runs.Windows.{ordered_after}
 use Rattle.laws_board.specs.sections.Ends.{MayBe}
 use Rattle.laws_board.specs.sections.Links.{steps_of_turn}
-use Rattle.laws_board.proofs.sections.Each.{shut_as}
 use Rattle.laws_board.proofs.sections.Linking.{turn_runs}
 use Rattle.session_lanes.specs.declared.near.LinkLog.{LinkLog}
 use Rattle.session_lanes.specs.declared.near.Told.{Told}
 use Rattle.session_lanes.specs.Runs.{AreLogs, IsLog}
 use Rattle.session_work.specs.declared.table.LinkTurn.{LinkTurn}
-use Rattle.session_work.specs.declared.table.MotionTurn.{MotionTurn}
-use Rattle.session_work.specs.declared.table.ReactorTurn.{ReactorTurn}
 use Rattle.session_work.specs.Leads.{last_controls}
 use Rattle.session_work.specs.Links.{LinkStep}
-use Rattle.session_work.specs.Rows.{gather, item}
 use Rattle.session_work.specs.Turns.{Goes}
 use Rattle.session_run.specs.declared.tell.Kept.{Kept}
 use Rattle.session_run.specs.Desks.{desk_out}
@@ -64,7 +40,7 @@ use Rattle.laws_run.specs.lanes.Boards.{IsInWhole, turns_behind, orders_of, stat
 use Rattle.laws_run.specs.run_ends.Ends.{EndsSo}
 use Rattle.laws_run.proofs.run_ends.Ending.{ends_so}
 use Rattle.laws_run.specs.run_headline.Timely.{link_of}
-use Rattle.laws_run.proofs.run_headline.Boarded.{came_cut, came_long, took, took_long}
+use Rattle.laws_run.proofs.run_headline.Boarded.{came_cut, came_long, took}
 use Rattle.laws_run.proofs.run_headline.Going.{Lasts, lasts}
 use Rattle.laws_run.proofs.run_headline.Making.{put_is}
 use Rattle.laws_run.proofs.run_headline.Runs.{facts, row_full}
@@ -73,6 +49,8 @@ use Rattle.laws_run.proofs.clear_runs.Bare.{latest_behind}
 use Rattle.laws_run.proofs.home_wholes.Going.{goes_running, stays_shut}
 use Rattle.laws_run.specs.run_lates.Late.{ComesLate, ComesLateIn, held_by, spoiled_by}
 use Rattle.laws_run.proofs.run_lates.Linked.{IsLast, controls_put, item_same, states_taken, walk}
+use Rattle.link_work.proofs.Spilled.{state_by}
+use Rattle.laws_run.proofs.run_headline.Earlier.{states_long}
 
 -- the state that is told of a late board
 pub record LateAt (j b first arrival spoiled spill : ℕ) (states : List State) : Type 0 where
@@ -181,7 +159,7 @@ module _ (m : Machine) (v : IsValidMachine m) (s : Scene) (ts : List MotionTurn)
     empty = ap (item b) (elim f.turns.0.row [ inl a ↦ a.1 | inr a ↦ absurd (omega (arith, a.0)) ])
 
     many : length (states_of w.made) ≡ length (rest ++ end ∷ [])
-    many = took_long b (rest ++ end ∷ []) (states_of w.made) w.states
+    many = states_long b (rest ++ end ∷ []) (states_of w.made) w.states
 
     -- the last turn of the board
     pub at_end : IsLast (clock_of (board_at m b)) (turns_behind [] w.made)
@@ -244,7 +222,7 @@ module _ (m : Machine) (v : IsValidMachine m) (s : Scene) (ts : List MotionTurn)
 
       shut_state : Last_turn.after.core.board.controller.state ≡ Shut timer_too_close arrival due
       shut_state =
-          shut_as Last_turn.after.core.board.controller.state Last_turn.state.shut x.news turns_are.0.1.shut told ∙ ap (λ n. Shut n x.news.tick x.news.first) x.reason
+          state_by Last_turn.after.core.board.controller.state Last_turn.state.shut x.news turns_are.0.1.shut told ∙ ap (λ n. Shut n x.news.tick x.news.first) x.reason
           ∙ ap (λ n. Shut timer_too_close n x.news.first) x.tick_is ∙ ap (λ n. Shut timer_too_close arrival n) x.first_is
 
       may : (z : BoardState) → Link_before.core.board.controller.state ≡ z → MayBe z

@@ -1,35 +1,29 @@
 -- The turns of a board's link in a whole run, with what its link holds of the busy stretch.
 use Rattle.std.proofs.Common.{◌≡◌, ℕ, ◌+◌, ◌<◌, Bool, true, false, List, [], ◌∷◌, ◌++◌, length, map, refl, ap, sym, ◌∙◌, subst, arith, inl, inr, length-append}
 use Rattle.std.specs.Prelude.{if◌then◌else◌}
-use Rattle.plan_types.specs.declared.clock.BoardClock.{BoardClock}
-use Rattle.plan_types.specs.declared.machine.Machine.{Machine}
-use Rattle.msg_code.specs.declared.talk.State.{State}
+use Rattle.laws_board.proofs.Names.{BoardClock, Machine, State, Control, Switch, orders, IsTurn, LinkState, ReactorTurn, gather, item, Came, cons_same}
 use Rattle.msg_code.specs.declared.unit.Batch.{Batch}
-use Rattle.msg_code.specs.declared.unit.Control.{Control}
-use Rattle.wire_scene.specs.declared.scene.Switch.{Switch}
 use Rattle.link_work.specs.Ends.{Ended, is_idle, is_quiet, spoiled_turns}
 use Rattle.link_work.specs.Held.{IsCounted, held_in, hold, lead_of, spoiled_with}
-use Rattle.link_work.specs.Stands.{SeenLink, StandsFor, orders}
-use Rattle.link_work.specs.Turn.{IsTurn, LinkState}
+use Rattle.link_work.specs.Stands.{SeenLink, StandsFor}
 use Rattle.link_work.proofs.Bounds.{idle_is, is_idle_where}
 use Rattle.link_work.proofs.Spilled.{counted_as, held_grows}
 use Rattle.laws_board.specs.turns.Turns.{AreBoardTurns, BoardTurn, IsBoardOf, control_at, stands_after}
 use Rattle.laws_board.specs.clocks.Runs.{ends_in, orders_in}
 use Rattle.laws_board.proofs.clocks.Orders.{order_length}
 use Rattle.laws_board.proofs.sections.Linking.{same_bool}
-use Rattle.laws_homing.proofs.home_runs.Along.{one_end}
 use Rattle.session_work.specs.declared.table.LinkTurn.{LinkTurn}
-use Rattle.session_work.specs.declared.table.ReactorTurn.{ReactorTurn}
 use Rattle.session_work.specs.Links.{LinkStep}
-use Rattle.session_work.specs.Rows.{gather, item}
 use Rattle.session_work.specs.Turns.{Goes}
 use Rattle.session_run.specs.Boards.{AreReactorTurns, came_from, came_in}
 use Rattle.session_run.specs.Links as links
-use Rattle.host_reactor.specs.Runs.{Came}
 use Rattle.laws_run.specs.lanes.Boards.{turns_behind, states_of}
 use Rattle.laws_board.specs.plans.Boards.{TookStates}
 use Rattle.laws_run.proofs.lanes.Items.{item_control}
 use Rattle.laws_run.specs.run_lates.Late.{held_by, spoiled_by}
+use Rattle.plan_types.proofs.Facts.{true_false}
+use Rattle.laws_board.proofs.sections.Lists.{nil_cons}
+use Rattle.link_work.proofs.Shut.{one_turn}
 
 -- turns in front of others
 pub are_front : (clock : BoardClock) (begin : LinkState) (turns made : List BoardTurn) → AreBoardTurns clock begin (turns_behind turns made) → AreBoardTurns clock begin turns
@@ -60,17 +54,8 @@ states_taken b [] states e = sym e
 states_taken b (r ∷ rs) [] e = absurd e
 states_taken b (r ∷ rs) (s ∷ states) e = ap (λ (z : List State). z ++ gather (λ (x : ReactorTurn). item b x.states) rs) e.0 ∙ ap (λ (z : List State). s ∷ z) (states_taken b rs states e.1)
 
-cons_both : {A : Type 0} (x y : A) (xs ys : List A) → x ∷ xs ≡ y ∷ ys → (x ≡ y) × (xs ≡ ys)
-cons_both x y xs ys e = (cc, cc)
-
 pub item_same : {A : Type 0} (x y : A) → x ∷ [] ≡ y ∷ [] → x ≡ y
 item_same x y e = cc
-
-none_cons : {A : Type 0} (x : A) (xs : List A) → [] ≡ x ∷ xs → ⊥
-none_cons x xs e = cc
-
-true_false : true ≡ false → ⊥
-true_false e = cc
 
 -- the last of some turns, of which it is told by what was spoiled and held
 pub record IsLast (clock : BoardClock) (turns : List BoardTurn) : Type 0 where
@@ -103,7 +88,7 @@ module _ (clock : BoardClock) (begin : LinkState) where
       let z = h.turned l st.stands in
       let By : BoardClock × ℕ → Type 0 = λ c. IsTurn c.0 c.1 o l z.0 in
       let turned : IsTurn clock (length turns) o l z.0 = subst By (λ i. (st.clock_is i, at i)) z.1 in
-      let one : z.0 ≡ t.after = one_end clock (length turns) o l z.0 t.after turned are.0.0 in
+      let one : z.0 ≡ t.after = one_turn clock (length turns) o l z.0 t.after turned are.0.0 in
       let stands : StandsFor y t.after = subst (λ (n : LinkState). StandsFor y n) one z.2 in
       let e : Ended = record { turn = length turns; link = t.after } in
       let idle_told : t.state.idle ≡ is_idle t.after =
@@ -138,11 +123,11 @@ module _ (clock : BoardClock) (begin : LinkState) where
   step : (turns made : List BoardTurn) (t : BoardTurn) (x : SeenLink) (k : ℕ) (us : List LinkTurn) (e : SeenLink × Bool) (put_on taken_on : List Control) (left rest : List Batch) (told_on : List State) → k ≡ length turns → Stays turns x → AreBoardTurns clock begin (t ∷ turns)
       → Goes (LinkStep links.TurnsLink) k (x, false) us e → map (λ t. t.control) (t ∷ made) ++ put_on ≡ gather (λ u. u.control ∷ []) us ++ taken_on → map (λ t. t.batch) (t ∷ made) ++ rest ≡ gather (λ u. u.batch ∷ []) us ++ left
       → gather (λ u. u.state ∷ []) us ≡ states_of (t ∷ made) ++ told_on → Stepped turns made t k us e put_on taken_on left rest told_on
-  step turns made t x k [] e put_on taken_on left rest told_on at st here goes controls batches states = absurd (none_cons t.state (states_of made ++ told_on) states)
+  step turns made t x k [] e put_on taken_on left rest told_on at st here goes controls batches states = absurd (nil_cons t.state (states_of made ++ told_on) states)
   step turns made t x k (u ∷ us) e put_on taken_on left rest told_on at st here goes controls batches states =
-      let c = cons_both t.control u.control (map (λ (y : BoardTurn). y.control) made ++ put_on) (gather (λ (y : LinkTurn). y.control ∷ []) us ++ taken_on) controls in
-      let d = cons_both t.batch u.batch (map (λ (y : BoardTurn). y.batch) made ++ rest) (gather (λ (y : LinkTurn). y.batch ∷ []) us ++ left) batches in
-      let s = cons_both u.state t.state (gather (λ (y : LinkTurn). y.state ∷ []) us) (states_of made ++ told_on) states in
+      let c = cons_same t.control u.control (map (λ (y : BoardTurn). y.control) made ++ put_on) (gather (λ (y : LinkTurn). y.control ∷ []) us ++ taken_on) controls in
+      let d = cons_same t.batch u.batch (map (λ (y : BoardTurn). y.batch) made ++ rest) (gather (λ (y : LinkTurn). y.batch ∷ []) us ++ left) batches in
+      let s = cons_same u.state t.state (gather (λ (y : LinkTurn). y.state ∷ []) us) (states_of made ++ told_on) states in
       let out : t.state.out ≡ false = here.0.1.in_memory in
       let one = goes.1 in
       elim one.1 [

@@ -1,53 +1,29 @@
 -- The unit that came too late to a board, in a whole run in which axes home.
 use Rattle.std.proofs.Common.{◌≡◌, ◌⊎◌, ℕ, zero, suc, pos, negsuc, ◌+◌, ◌-◌, ◌*◌, ◌<◌, ◌≤◌, List, [], ◌∷◌, ◌++◌, length, map, Option, Some, None, refl, ap, sym, ◌∙◌, subst, arith, inl, inr, length-append}
 use Rattle.std.specs.Prelude.{ℤ}
-use Rattle.std.proofs.Math.Logic.{∥∥₁_map}
+use Rattle.laws_board.proofs.Names.{∥∥₁_map, Cause, Machine, BoardState, Running, Shut, BoardClock, board_tick, clock_of, turn_ns, Clocks, lines_tick, AreKept, IsValidMachine, board_at, clocks_at, ShutNews, Unit as StepUnit, Entry, Scene, AreTurns, first_state, orders, pins_of, IsTurn, LinkState, Orders, AllKeepLimits, parts_on, Started, Told, Run, MotionTurn, ReactorTurn}
 use Rattle.io_core.specs.declared.traits.Files.{Ghosts as Files}
 use Rattle.io_core.specs.declared.traits.Sink.{Ghosts as Sink}
-use Rattle.plan_types.specs.declared.cause.Cause.{Cause}
 use Rattle.plan_types.specs.declared.cause.Cause.TheVariants as cause
-use Rattle.plan_types.specs.declared.machine.Machine.{Machine}
-use Rattle.plan_types.specs.declared.plan.BoardState.{BoardState}
-use Rattle.plan_types.specs.declared.plan.BoardState.TheVariants.{Running, Shut}
-use Rattle.plan_types.specs.declared.clock.BoardClock.{BoardClock}
-use Rattle.plan_types.specs.Clock.{board_tick, clock_of, turn_ns}
-use Rattle.plan_types.specs.Lines.{Clocks, lines_tick}
-use Rattle.clock_line.specs.Kept.{AreKept}
-use Rattle.plan_types.specs.Machines.{IsValidBoard, IsValidMachine, board_at}
-use Rattle.plan_types.specs.Sections.{clocks_at}
-use Rattle.msg_code.specs.declared.talk.ShutNews.{ShutNews}
-use Rattle.msg_code.specs.declared.unit.Unit.{Unit as StepUnit}
-use Rattle.wire_scene.specs.declared.scene.Entry.{Entry}
-use Rattle.wire_scene.specs.declared.scene.Scene.{Scene}
+use Rattle.plan_types.specs.Machines.{IsValidBoard}
 use Rattle.board_sim.specs.Board.{timer_too_close}
 use Rattle.board_world.specs.World.{AllFair}
 use Rattle.link_work.specs.Ends.{EndSo, Ended, is_quiet, spoiled_turns}
 use Rattle.link_work.specs.declared.held.HeldUnit.{HeldUnit}
 use Rattle.link_work.specs.Held.{AllDue, counted_to, held_in, held_unit, hold, lead_of}
 use Rattle.link_work.specs.Late.{AreFairTurns, IsFairTurn, turn_steps}
-use Rattle.link_work.specs.Runs.{AreTurns}
-use Rattle.link_work.specs.Stands.{first_state, orders}
-use Rattle.link_work.specs.Switches.{pins_of}
 use Rattle.link_work.specs.Told.{IsShutNews}
-use Rattle.link_work.specs.Turn.{IsTurn, LinkState, Orders}
 use Rattle.link_work.proofs.Spilled.{told_cause}
 use Rattle.laws_board.specs.turns.Turns.{AreBoardTurns, BoardTurn, stands_after}
 use Rattle.laws_board.specs.clocks.Runs.{UnitsFit, ends_in, orders_in}
 use Rattle.laws_board.proofs.clocks.Orders.{ends_in_order, last_stands, order_length, turns_in_order}
 use Rattle.laws_board.specs.clocks.Samples.{IsSampled}
-use Rattle.link_work.specs.Limits.{AllKeepLimits}
 use Rattle.laws_board.specs.orders.Renewed.{AreSampled}
 use Rattle.laws_run.proofs.clock_ages.Own.{Own}
-use Rattle.motion_work.specs.Boards.{parts_on}
-use Rattle.motion_work.specs.Seen.{Started}
 use Rattle.laws_board.specs.sections.Parts.{AreTracked}
-use Rattle.motion_work.specs.Told.{Told}
-use Rattle.host_reactor.specs.Reactor.{Run}
 use Rattle.session_lanes.specs.declared.near.Told as near
 use Rattle.session_run.specs.declared.tell.Kept.{Kept}
 use Rattle.session_run.specs.Runs.{RunsOver}
-use Rattle.session_work.specs.declared.table.MotionTurn.{MotionTurn}
-use Rattle.session_work.specs.declared.table.ReactorTurn.{ReactorTurn}
 use Rattle.session_run.specs.Boards.{came_from}
 use Rattle.laws_board.specs.sections.Boards.{OnBoard}
 use Rattle.laws_board.specs.sections.Homes.{AreOut, AreOrdersIn, IsHomeBoard, RunSection}
@@ -56,7 +32,6 @@ use Rattle.laws_board.proofs.sections.Halted.{all_fair}
 use Rattle.laws_board.specs.sections.Late.{IsLateUnit}
 use Rattle.laws_board.proofs.sections.Seeking.{Among}
 use Rattle.laws_board.proofs.orders.Going.{own_on}
-use Rattle.laws_homing.proofs.home_runs.Along.{one_end}
 use Rattle.laws_homing.specs.home_parts.Cuts.{cuts_on}
 use Rattle.laws_run.specs.lanes.Boards.{turns_behind}
 use Rattle.laws_board.specs.plans.Homed.{runs_on}
@@ -82,6 +57,7 @@ use Rattle.laws_run.proofs.run_lates.Ending.{none_controls, none_sent}
 use Rattle.laws_run.proofs.run_lates.Late.{run_late}
 use Rattle.laws_run.proofs.run_lates.Shuts.{controls_may}
 use Rattle.laws_run.proofs.run_lates.Units.{IsReleasedBy, found, in_sections, is_in, late_parts, of_parts, queued_in_turn, units_put}
+use Rattle.link_work.proofs.Shut.{one_turn}
 
 -- in a turn that goes so the units that are taken are fair
 abbrev FairIn : (clock : BoardClock) (turn : ℕ) (o : Orders) (l m : LinkState) → IsTurn clock turn o l m → Type 0
@@ -94,12 +70,12 @@ fair_end clock [] turn o l k (e ∷ ends) so fair t =
     let here : turn ≡ turn + 0 = omega arith in
     let Fair : ℕ × LinkState → Type 0 = λ z. IsFairTurn clock z.0 o z.1 in
     let own : IsFairTurn clock turn o l = λ m i. (
-    let one : e.link ≡ m = one_end clock turn o l e.link m so.1 i in
+    let one : e.link ≡ m = one_turn clock turn o l e.link m so.1 i in
     (subst (λ (z : LinkState). (j : IsTurn clock turn o l z) → FairIn clock turn o l z j) one fair.0) i) in
     subst Fair (λ i. (here i, sym t i)) own
 fair_end clock (x ∷ os) turn o l k [] so fair t = absurd so
 fair_end clock (x ∷ os) turn o l k (e ∷ ends) so fair t =
-    let one : t.0 ≡ e.link = one_end clock turn x l t.0 e.link t.1 so.1 in
+    let one : t.0 ≡ e.link = one_turn clock turn x l t.0 e.link t.1 so.1 in
     let More : LinkState → Type 0 = λ z. AreTurns clock (turn + 1) os z k in
     let there : turn + 1 + length os ≡ turn + suc (length os) = omega arith in
     subst (λ (n : ℕ). IsFairTurn clock n o k) there (fair_end clock os (turn + 1) o e.link k ends so.2 fair.1 (subst More one t.2))

@@ -1,46 +1,21 @@
 -- No state of a whole run tells of a shutdown but for steps that came too late and for the order to stop.
 use Rattle.std.proofs.Common.{All, ◌≡◌, ℕ, suc, ◌<◌, ◌≤◌, List, [], ◌∷◌, ◌++◌, drop, length, map, refl, ap, sym, ◌∙◌, subst, arith, inl, inr, append_assoc}
-use Rattle.std.specs.List.{flat_map}
-use Rattle.std.proofs.lemmas.List.{take-append-drop}
-use Rattle.std.proofs.lemmas.List.Elements.{All-cons, All-head, All-nil, All-tail}
-use Rattle.plan_types.specs.declared.clock.BoardClock.{BoardClock}
-use Rattle.plan_types.specs.declared.levels.Level.{Level}
-use Rattle.plan_types.specs.declared.machine.BoardDef.{BoardDef}
-use Rattle.plan_types.specs.declared.machine.Machine.{Machine}
-use Rattle.plan_types.specs.declared.plan.BoardState.TheVariants.{Shut}
-use Rattle.plan_types.specs.Clock.{clock_of}
-use Rattle.msg_code.specs.declared.cmd.Cmd.{Cmd}
+use Rattle.laws_board.proofs.Names.{flat_map, take-append-drop, All-cons, All-head, All-nil, All-tail, BoardClock, Level, BoardDef, Machine, Shut, clock_of, Cmd, State, Unit as StepUnit, Entry, Controller, Meant, commands_of, takes_all, plain, units_orders, Core, Do, Step, Turn, after_event, in_turn, run_world, new_world, takes_in, queued_in, first_state, LinkState, Orders, turns_are_steps, ReactorTurn, item, Came, Switch}
 use Rattle.msg_code.specs.declared.cmd.Cmd.TheVariants as cmd
-use Rattle.msg_code.specs.declared.talk.State.{State}
-use Rattle.msg_code.specs.declared.unit.Unit.{Unit as StepUnit}
-use Rattle.wire_scene.specs.declared.scene.Entry.{Entry}
-use Rattle.board_sim.specs.Board.{Controller, command_request}
-use Rattle.board_sim.specs.Fair.{Meant, commands_of}
-use Rattle.board_sim.specs.Rig.{takes_all}
-use Rattle.board_world.specs.Orders.{plain, units_orders}
+use Rattle.board_sim.specs.Board.{command_request}
 use Rattle.board_world.specs.Shut.{Shuts, WasShut}
-use Rattle.board_world.specs.World.{Core, Do, Step, Turn, after_event, in_turn, run_world, new_world, takes_in}
 use Rattle.board_world.proofs.Causes.{was_shut}
 use Rattle.link_work.specs.Ends.{last_link}
-use Rattle.link_work.specs.Runs.{queued_in}
-use Rattle.link_work.specs.Stands.{first_state}
-use Rattle.link_work.specs.Turn.{LinkState, Orders}
 use Rattle.link_work.proofs.Late.{ordered_after}
 use Rattle.link_work.proofs.Shut.{begins_running}
-use Rattle.link_work.proofs.Turns.{turns_are_steps}
 use Rattle.laws_board.specs.turns.Turns.{AreBoardTurns, BoardTurn, stands_after}
 use Rattle.laws_board.specs.clocks.Runs.{ends_in, orders_in}
 use Rattle.laws_board.proofs.clocks.Orders.{ends_in_order, last_stands, turns_in_order}
-use Rattle.session_work.specs.declared.table.ReactorTurn.{ReactorTurn}
 use Rattle.session_work.specs.Heads.{IsRow}
-use Rattle.session_work.specs.Rows.{item}
 use Rattle.session_run.specs.Boards.{AreReactorTurns, came_in}
-use Rattle.host_reactor.specs.Runs.{Came}
-use Rattle.wire_scene.specs.declared.scene.Switch.{Switch}
 use Rattle.laws_board.specs.sections.Ends.{MayBe}
 use Rattle.laws_board.specs.sections.Late.{IsIn}
 use Rattle.laws_board.specs.sections.Parts.{IsControl}
-use Rattle.laws_board.proofs.sections.Each.{shut_as}
 use Rattle.laws_board.proofs.sections.Naming.{in_more, taken_more}
 use Rattle.laws_board.proofs.sections.Seeking.{Among, among_first, among_of, among_split}
 use Rattle.laws_run.specs.lanes.Boards.{turns_behind, states_of}
@@ -50,6 +25,7 @@ use Rattle.laws_run.proofs.clear_runs.Punctual.{NoUnits}
 use Rattle.laws_run.proofs.home_wholes.Going.{stays_shut}
 use Rattle.laws_run.specs.run_lates.Late.{AllMayTell, MayTell}
 use Rattle.laws_run.proofs.run_lates.Linked.{are_front, item_same}
+use Rattle.link_work.proofs.Spilled.{state_by}
 
 -- the command that shut a board down is one of those that it took
 was_named : (steps : List Step) (h : Core) (reason tick first : ℕ) → WasShut h steps reason tick first → (m : Meant) × IsIn m (run_world steps h).taken × ((b : Controller) × Shuts b m.command reason first)
@@ -126,7 +102,7 @@ each_may clock begin turns (t ∷ made) b (r ∷ rs) are may took =
     All-cons (λ (q : ReactorTurn). (x : State) → item b q.states ≡ x ∷ [] → MayTell x) r rs
     (λ x at n shut.
     let same : x ≡ t.state = item_same x t.state (sym at ∙ took.0) in
-    let is = shut_as t.after.core.board.controller.state t.state.shut n here.0.1.shut (ap (λ (z : State). z.shut) (sym same) ∙ shut) in
+    let is = state_by t.after.core.board.controller.state t.state.shut n here.0.1.shut (ap (λ (z : State). z.shut) (sym same) ∙ shut) in
     subst MayBe (stays_shut clock begin parts.0 (t ∷ turns) n.reason n.tick n.first all is) end)
     (each_may clock begin (t ∷ turns) made b rs are may took.1)
 

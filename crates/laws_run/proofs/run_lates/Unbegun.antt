@@ -1,14 +1,10 @@
 -- Where no section was begun a planner sends no units.
 use Rattle.std.proofs.Common.{◌≡◌, ◌⊎◌, ℕ, zero, suc, ◌+◌, ◌<◌, List, [], ◌∷◌, ◌++◌, length, map, refl, ap, sym, ◌∙◌, subst, arith, inl, inr, append_assoc}
-use Rattle.plan_types.specs.declared.machine.Machine.{Machine}
+use Rattle.laws_board.proofs.Names.{Machine, Control, Orders, Started, MotionTurn, gather, item}
 use Rattle.msg_code.specs.declared.unit.Batch.{Batch}
-use Rattle.msg_code.specs.declared.unit.Control.{Control}
-use Rattle.link_work.specs.Turn.{Orders}
 use Rattle.motion_work.specs.Puts.{ArePut}
-use Rattle.motion_work.specs.Seen.{Started}
-use Rattle.session_work.specs.declared.table.MotionTurn.{MotionTurn}
 use Rattle.session_work.specs.Bares.{bare_batch}
-use Rattle.session_work.specs.Rows.{copies, gather, item}
+use Rattle.session_work.specs.Rows.{copies}
 use Rattle.laws_board.specs.plans.Given.{TookBatches}
 use Rattle.laws_board.specs.plans.Planned.{AreBare, Plans, puts_of}
 use Rattle.laws_board.proofs.plans.Giving.{units_given}
@@ -53,7 +49,7 @@ orders_empty : (os : List Orders) (rest : List Batch) → AllEmpty (map (λ o. o
 orders_empty [] rest a = tt
 orders_empty (o ∷ os) rest a = (a.0, orders_empty os rest a.1)
 
-gather_both : {T A : Type 0} (f : T → List A) (xs ys : List T) → gather f (xs ++ ys) ≡ gather f xs ++ gather f ys
+pub gather_both : {T A : Type 0} (f : T → List A) (xs ys : List T) → gather f (xs ++ ys) ≡ gather f xs ++ gather f ys
 gather_both f [] ys = refl
 gather_both f (x ∷ xs) ys = ap (λ z. f x ++ z) (gather_both f xs ys) ∙ sym (append_assoc (f x) (gather f xs) (gather f ys))
 

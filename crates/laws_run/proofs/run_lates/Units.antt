@@ -1,28 +1,17 @@
 -- The unit whose spoiled turns and spill are told of a late board.
 use Rattle.std.proofs.Common.{◌≡◌, ℕ, zero, suc, ◌+◌, ◌-◌, ◌<◌, ◌≤◌, Bool, true, false, List, [], ◌∷◌, ◌++◌, length, map, drop, take, refl, ap, sym, ◌∙◌, subst, arith, inl, inr, append_assoc, length-append}
 use Rattle.std.specs.Prelude.{◌&&◌, ◌==◌, if◌then◌else◌}
-use Rattle.std.specs.List.{flat_map}
-use Rattle.std.proofs.lemmas.Bool.Decides.{eqb_tells, leb_tells}
-use Rattle.plan_types.specs.Lines.{Clocks}
-use Rattle.plan_types.specs.declared.machine.Machine.{Machine}
-use Rattle.msg_code.specs.declared.unit.Unit.{Unit as StepUnit}
-use Rattle.step_feed.specs.Pacing.{Release, batch_at}
-use Rattle.section_units.specs.Sections.{BoardSection}
+use Rattle.laws_board.proofs.Names.{flat_map, eqb_tells, leb_tells, Clocks, Machine, Unit as StepUnit, Release, batch_at, BoardSection, Orders, parts_on, Started}
 use Rattle.link_work.specs.declared.held.HeldUnit.{HeldUnit}
 use Rattle.link_work.specs.Ends.{Ended, stretch}
 use Rattle.link_work.specs.Held.{counted_to, held_from, held_in, held_unit, hold, late_by, may_be_late}
-use Rattle.link_work.specs.Turn.{Orders}
-use Rattle.motion_work.specs.Boards.{parts_on}
 use Rattle.motion_work.specs.Homes.{before_turn}
-use Rattle.motion_work.specs.Seen.{Started, part_on}
+use Rattle.motion_work.specs.Seen.{part_on}
 use Rattle.laws_board.specs.sections.Homes.{AreOrdersIn, RunSection}
 use Rattle.laws_board.specs.sections.Late.{IsIn, IsLateUnit}
 use Rattle.laws_board.proofs.sections.Seeking.{Among, among_of, among_split}
 use Rattle.laws_homing.specs.home_parts.Cuts.{cuts_on}
-
-both_true : (a b : Bool) → (a && b) ≡ true → a ≡ true
-both_true true b e = refl
-both_true false b e = absurd (let g : false ≡ true = e in cc)
+use Rattle.plan_types.proofs.Facts.{first_of_both}
 
 -- what is told where it is more than the lead is of a unit
 pub record IsFound (lead : ℕ) (spoiled : List ℕ) (first : ℕ) (hs : List HeldUnit) : Type 0 where
@@ -35,7 +24,7 @@ found_by : (lead : ℕ) (spoiled : List ℕ) (first : ℕ) (h : HeldUnit) (hs : 
     → lead < (late_by lead spoiled first (h ∷ hs)).0 + (late_by lead spoiled first (h ∷ hs)).1 → IsFound lead spoiled first (h ∷ hs)
 found_by lead spoiled first h hs true rest e low =
     let same = ap (λ (x : Bool). if x then (counted_to h.due spoiled, h.spill) else late_by lead spoiled first hs) e in
-    let is : h.first ≡ first = elim (eqb_tells h.first first) [ inl p ↦ p.1 | inr p ↦ absurd (let g : false ≡ true = sym p.0 ∙ both_true (h.first == first) _ e in cc) ] in
+    let is : h.first ≡ first = elim (eqb_tells h.first first) [ inl p ↦ p.1 | inr p ↦ absurd (let g : false ≡ true = sym p.0 ∙ first_of_both (h.first == first) _ e in cc) ] in
     record { held = h; among = inl refl; first_is = is; told = same }
 found_by lead spoiled first h hs false rest e low =
     let same = ap (λ (x : Bool). if x then (counted_to h.due spoiled, h.spill) else late_by lead spoiled first hs) e in

@@ -1,26 +1,15 @@
 -- The further clock lines of a run tell ticks that the boards may have.
 use Rattle.std.proofs.Common.{◌≡◌, ℕ, ◌+◌, ◌*◌, ◌^◌, ◌<◌, ◌≤◌, Bool, true, false, List, [], ◌∷◌, ◌++◌, length, Some, sym, refl, subst, arith, inl, inr}
 use Rattle.std.specs.Prelude.{◌==◌, if◌then◌else◌}
-use Rattle.std.proofs.lemmas.Bool.Decides.{eqb_tells}
-use Rattle.plan_types.specs.declared.clock.BoardClock.{BoardClock}
-use Rattle.plan_types.specs.declared.machine.Machine.{Machine}
-use Rattle.plan_types.specs.declared.plan.Held.{Held}
-use Rattle.plan_types.specs.declared.plan.Line.{Line}
-use Rattle.plan_types.specs.Clock.{clock_of, own_tick, turn_ns}
-use Rattle.plan_types.specs.Machines.{IsValidMachine, board_at}
-use Rattle.plan_types.specs.Sections.{clocks_at}
-use Rattle.report_text.specs.declared.line.ReportLine.{ReportLine}
+use Rattle.laws_board.proofs.Names.{eqb_tells, BoardClock, Machine, Held, Line, clock_of, turn_ns, IsValidMachine, board_at, clocks_at, ReportLine, Scene, Told, MotionTurn, ReactorTurn}
+use Rattle.plan_types.specs.Clock.{own_tick}
 use Rattle.report_text.specs.declared.line.ReportLine.TheVariants as report
-use Rattle.wire_scene.specs.declared.scene.Scene.{Scene}
 use Rattle.clock_line.specs.Samples.{ppm_size}
 use Rattle.host_reactor.specs.Report.{turn_at}
 use Rattle.laws_board.specs.turns.Turns.{BoardTurn}
 use Rattle.laws_board.specs.clocks.Samples.{IsSampled}
 use Rattle.laws_board.proofs.clocks.Clear.{told_before}
 use Rattle.laws_board.proofs.clocks.Lines.{as_long}
-use Rattle.motion_work.specs.Told.{Told}
-use Rattle.session_work.specs.declared.table.MotionTurn.{MotionTurn}
-use Rattle.session_work.specs.declared.table.ReactorTurn.{ReactorTurn}
 use Rattle.session_run.specs.Boards.{came_from}
 use Rattle.laws_board.specs.orders.Renewed.{AreSampled}
 use Rattle.laws_run.specs.lanes.Boards.{IsInWhole, turns_behind}
@@ -28,10 +17,11 @@ use Rattle.laws_board.specs.plans.Lines.{drifts_of, held_lines}
 use Rattle.laws_board.specs.plans.Planned.{Plans}
 use Rattle.laws_run.specs.run_headline.Further.{AreNamed, TellFurther}
 use Rattle.laws_run.specs.run_headline.Timely.{link_of}
-use Rattle.laws_run.proofs.run_headline.Boarded.{Ready, drift_few, lined, run_of, valid_at}
+use Rattle.laws_run.proofs.run_headline.Boarded.{Ready, lined, run_of, valid_at}
 use Rattle.laws_run.proofs.run_headline.Facts.{came_long}
 use Rattle.laws_run.specs.run_limits.Limits.{DriftsLow, greatest_tick}
 use Rattle.laws_run.proofs.run_limits.Own.{own_few}
+use Rattle.laws_homing.proofs.clear_groups.Noted.{drift_small}
 
 -- the tick that a line tells which is that of a sample
 clock_low : (clock : BoardClock) (turns : List BoardTurn) (line : Line) → clock.start ≤ 2 ^ 40 → clock.freq ≤ 200_000_000 → ppm_size clock.drift ≤ 200 → length turns ≤ 2 ^ 63 → IsSampled clock turns line → line.clock ≤ greatest_tick (turn_at line.at)
@@ -90,7 +80,7 @@ module _ (m : Machine) (v : IsValidMachine m) (s : Scene) (ts : List MotionTurn)
       let sampled : AreSampled clock turns (told_held ++ rest_held) = subst (λ (x : List Held). AreSampled clock turns x) are (lined m v s ts p t first rest end told b r w h).sampled in
       let long = as_long m s.switches b (came_from [] (first ∷ rest)) turns (run_of m v s ts p t first rest end told b w h).both in
       let size = came_long [] (first ∷ rest) in
-      held_low clock turns b told_held valid.start valid.freq.high (drift_few (board_at m b).drift valid.drift_low valid.drift_high) (omega (arith, long, size, few)) (first_sampled clock turns told_held rest_held sampled)
+      held_low clock turns b told_held valid.start valid.freq.high (drift_small (board_at m b).drift valid.drift_low valid.drift_high) (omega (arith, long, size, few)) (first_sampled clock turns told_held rest_held sampled)
 
   pub drifts_low : (last : ℕ) (lines : List ReportLine) → TellFurther m t.clocks last lines → DriftsLow lines
   drifts_low last lines tells = all_low m lines (λ b h. (let x = tells.further b h in subst DriftsLow (sym x.lines_are) (board_drifts b x.told x.rest h x.are))) tells.named

@@ -1,24 +1,13 @@
 -- No section of a run starts late.
 use Rattle.std.proofs.Common.{◌≡◌, ◌⊎◌, ℕ, zero, suc, ◌+◌, ◌^◌, ◌<◌, ◌≤◌, Bool, true, false, List, [], ◌∷◌, ◌++◌, All, get_or, length, refl, ap, sym, ◌∙◌, subst, arith, inl, inr}
 use Rattle.std.specs.Prelude.{◌==◌, if◌then◌else◌}
-use Rattle.std.proofs.lemmas.Bool.Decides.{eqb_tells, leb_tells}
-use Rattle.std.proofs.lemmas.Grind.{flat_map-append}
-use Rattle.std.proofs.lemmas.List.{length-map}
-use Rattle.plan_types.specs.declared.machine.Machine.{Machine}
-use Rattle.msg_code.specs.declared.talk.Note.{Note}
-use Rattle.msg_code.specs.declared.talk.NoteNews.{NoteNews}
+use Rattle.laws_board.proofs.Names.{eqb_tells, leb_tells, flat_map-append, length-map, Machine, Note, NoteNews, ReportLine, Started, machine_line, MotionTurn, ReactorTurn, gather}
 use Rattle.msg_code.specs.declared.talk.NoteNews.TheVariants as news
-use Rattle.report_text.specs.declared.line.ReportLine.{ReportLine}
 use Rattle.report_text.specs.declared.line.ReportLine.TheVariants as report
 use Rattle.motion_work.specs.Puts.{ArePut, begun_notes}
-use Rattle.motion_work.specs.Seen.{Started}
 use Rattle.motion_work.specs.Turns.{done_notes}
 use Rattle.session_work.specs.declared.seat.Seat.{Seat}
-use Rattle.host_reactor.specs.Report.{machine_line}
-use Rattle.session_work.specs.declared.table.MotionTurn.{MotionTurn}
-use Rattle.session_work.specs.declared.table.ReactorTurn.{ReactorTurn}
 use Rattle.session_work.specs.Motions.{MotionStep}
-use Rattle.session_work.specs.Rows.{gather}
 use Rattle.session_work.specs.Turns.{Goes}
 use Rattle.session_run.specs.declared.motion.Planning.{Planning}
 use Rattle.session_run.specs.Machines.{planner}
@@ -109,7 +98,7 @@ starts_low k i x (s ∷ ss) low spread early =
       | inr p ↦ subst At (sym p.0) rest
     ]
 
-machine_none : (m : Machine) (k : ℕ) → heads_of (machine_line m k) ≡ []
+pub machine_none : (m : Machine) (k : ℕ) → heads_of (machine_line m k) ≡ []
 machine_none m k = by (k == 0) where
   by : (b : Bool) → heads_of (if b then report.Machine m.corexy (length m.boards) (length m.steppers) ∷ [] else []) ≡ []
   by true = refl

@@ -1,22 +1,8 @@
 -- The lines of a whole run keep their limits.
 use Rattle.std.proofs.Common.{◌≡◌, ◌≢◌, ℕ, ◌+◌, ◌*◌, ◌<◌, ◌≤◌, List, [], ◌∷◌, ◌++◌, All, length, map, Option, None, Some, refl, ap, sym, ◌∙◌, subst, arith, append_assoc, append-nil, length-append}
-use Rattle.std.proofs.lemmas.Grind.{flat_map-append}
-use Rattle.std.proofs.lemmas.List.{length-map}
+use Rattle.laws_board.proofs.Names.{flat_map-append, length-map, Cause, Machine, tick, turn_ns, Clocks, IsValidMachine, clocks_at, ReportLine, Scene, AreStarted, Started, Told, MotionTurn, ReactorTurn, gather}
 use Rattle.gcode_program.specs.Programs.{program_sections}
-use Rattle.plan_types.specs.declared.cause.Cause.{Cause}
-use Rattle.plan_types.specs.declared.machine.Machine.{Machine}
-use Rattle.plan_types.specs.Clock.{tick, turn_ns}
-use Rattle.plan_types.specs.Lines.{Clocks}
-use Rattle.plan_types.specs.Machines.{IsValidMachine}
-use Rattle.plan_types.specs.Sections.{clocks_at}
-use Rattle.report_text.specs.declared.line.ReportLine.{ReportLine}
 use Rattle.report_text.specs.declared.line.ReportLine.TheVariants as report
-use Rattle.wire_scene.specs.declared.scene.Scene.{Scene}
-use Rattle.motion_work.specs.Seen.{AreStarted, Started}
-use Rattle.motion_work.specs.Told.{Told}
-use Rattle.session_work.specs.declared.table.MotionTurn.{MotionTurn}
-use Rattle.session_work.specs.declared.table.ReactorTurn.{ReactorTurn}
-use Rattle.session_work.specs.Rows.{gather}
 use Rattle.laws_board.specs.plans.Lines.{heads_of}
 use Rattle.laws_board.specs.plans.Planned.{AreToldBy, Plans, put_of}
 use Rattle.laws_board.proofs.plans.Spreading.{plans_spread}
@@ -33,6 +19,7 @@ use Rattle.laws_run.proofs.run_limits.Drifts.{drifts_low}
 use Rattle.laws_run.proofs.run_limits.Early.{heads_low, starts_early}
 use Rattle.laws_run.proofs.run_limits.Few.{read_few}
 use Rattle.laws_run.proofs.run_limits.Ticks.{board_low, lines_low}
+use Rattle.laws_run.proofs.run_lines.Heads.{gather_lines}
 
 -- lines keep their limits where those of sections, of boards, of what was read and of further clock lines do
 pub low_of : (lines : List ReportLine) → AreLow (heads_of lines) → AreLow (boards_of lines) → AreLow (counts_of lines) → DriftsLow lines → AreLow lines
@@ -49,10 +36,6 @@ low_of (report.Made seed moves ∷ lines) heads told counts low = (tt, low_of li
 low_of (report.Count stepper pulses ∷ lines) heads told counts low = (tt, low_of lines heads told counts low)
 low_of (report.Fit section stepper pulses planned early late ∷ lines) heads told counts low = (tt, low_of lines heads told counts low)
 low_of (report.End c ∷ lines) heads told counts low = (tt, low_of lines heads told counts low)
-
-pub gather_both : (xs ys : List ReactorTurn) → gather (λ t. t.lines) (xs ++ ys) ≡ gather (λ t. t.lines) xs ++ gather (λ t. t.lines) ys
-gather_both [] ys = refl
-gather_both (x ∷ xs) ys = ap (λ z. x.lines ++ z) (gather_both xs ys) ∙ sym (append_assoc x.lines (gather (λ (t : ReactorTurn). t.lines) xs) (gather (λ (t : ReactorTurn). t.lines) ys))
 
 -- no section starts before the first one may
 pub ready_by : (m : Machine) (clocks : List Clocks) (ready : ℕ) (begun : List Started) → AreStarted m clocks ready begun → begun ≢ [] → All (λ s. s.start < start_limit) begun → ready < start_limit
@@ -90,7 +73,7 @@ module _ (m : Machine) (v : IsValidMachine m) (s : Scene) (ts : List MotionTurn)
         let told = shows.boards some in
         let lines = λ (z : List ReactorTurn). gather (λ (t : ReactorTurn). t.lines) z in
         let count = (shows.sound some).clocks_are.count in
-        let cut = ap boards_of (ap lines told.are ∙ gather_both told.past told.later) ∙ flat_map-append board_in (lines told.past) (lines told.later) ∙ ap (λ z. boards_of (lines told.past) ++ z) told.rest ∙ append-nil (boards_of (lines told.past)) ∙ told.lines in
+        let cut = ap boards_of (ap lines told.are ∙ gather_lines told.past told.later) ∙ flat_map-append board_in (lines told.past) (lines told.later) ∙ ap (λ z. boards_of (lines told.past) ++ z) told.rest ∙ append-nil (boards_of (lines told.past)) ∙ told.lines in
         subst AreLow (sym cut)
         (lines_low (ready_heard p.seen.told) 0 (clocks_heard p.seen.told) (ready_by m (clocks_heard p.seen.told) (ready_heard p.seen.told) p.seen.begun shows.started some early) (λ i lt. low_ticks p.seen.told refl i (omega (arith, lt, count))))
 

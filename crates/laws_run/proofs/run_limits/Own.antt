@@ -1,8 +1,7 @@
 -- The own ticks of boards are small.
 use Rattle.std.proofs.Common.{◌≡◌, ℕ, ℤ, pos, negsuc, ◌+◌, ◌*◌, ◌/◌, ◌^◌, ◌<◌, ◌≤◌, List, length, ap, arith}
 use Rattle.std.proofs.Math.Nat.{div-le_of_le-mul, mul-le-mul}
-use Rattle.plan_types.specs.declared.clock.BoardClock.{BoardClock}
-use Rattle.plan_types.specs.declared.plan.Line.{Line}
+use Rattle.laws_board.proofs.Names.{BoardClock, Line}
 use Rattle.plan_types.specs.Clock.{own_tick, rate}
 use Rattle.clock_line.specs.Samples.{ppm_size}
 use Rattle.laws_board.specs.turns.Turns.{BoardTurn}

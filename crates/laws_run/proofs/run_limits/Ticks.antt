@@ -1,37 +1,26 @@
 -- The boards' lines tell ticks that the boards may have.
 use Rattle.std.proofs.Common.{◌≡◌, ℕ, suc, ◌+◌, ◌-◌, ◌*◌, ◌/◌, ◌^◌, ◌<◌, ◌≤◌, List, [], ◌∷◌, ◌++◌, All, length, Some, ap, sym, ◌∙◌, subst, arith}
 use Rattle.std.proofs.Math.Nat.{div-le_of_le-mul, mul-le-mul}
-use Rattle.std.proofs.lemmas.List.Elements.{All-head}
-use Rattle.plan_types.specs.declared.clock.BoardClock.{BoardClock}
-use Rattle.plan_types.specs.declared.machine.Machine.{Machine}
-use Rattle.plan_types.specs.declared.plan.Line.{Line}
-use Rattle.plan_types.specs.Clock.{clock_of, own_tick, tick, turn_ns}
-use Rattle.plan_types.specs.Lines.{Clocks}
-use Rattle.plan_types.specs.Machines.{IsValidMachine, board_at}
-use Rattle.plan_types.specs.Sections.{clocks_at}
+use Rattle.laws_board.proofs.Names.{All-head, BoardClock, Machine, Line, clock_of, tick, turn_ns, Clocks, IsValidMachine, board_at, clocks_at, Scene, pins_of, Came, Told, MotionTurn, ReactorTurn}
+use Rattle.plan_types.specs.Clock.{own_tick}
 use Rattle.msg_code.specs.declared.talk.WordNews.{WordNews}
-use Rattle.wire_scene.specs.declared.scene.Scene.{Scene}
 use Rattle.clock_line.specs.Samples.{ppm_size}
-use Rattle.link_work.specs.Switches.{pins_of}
-use Rattle.host_reactor.specs.Runs.{Came}
 use Rattle.laws_board.specs.turns.Turns.{BoardTurn}
 use Rattle.laws_board.specs.clocks.Runs.{IsInRun}
 use Rattle.laws_board.specs.clocks.Samples.{IsSampled, lines_told}
 use Rattle.laws_board.proofs.clocks.Clear.{told_before}
 use Rattle.laws_board.proofs.clocks.Lines.{as_long, told_lines}
-use Rattle.motion_work.specs.Told.{Told}
-use Rattle.session_work.specs.declared.table.MotionTurn.{MotionTurn}
-use Rattle.session_work.specs.declared.table.ReactorTurn.{ReactorTurn}
 use Rattle.session_run.specs.Boards.{came_from, came_in}
 use Rattle.laws_run.specs.lanes.Boards.{IsInWhole, turns_behind}
 use Rattle.laws_run.specs.run_ends.Boards.{lines_at}
 use Rattle.laws_board.specs.plans.Planned.{Plans}
 use Rattle.laws_run.specs.run_headline.Timely.{link_of}
-use Rattle.laws_run.proofs.run_headline.Boarded.{Ready, drift_few, first_same, run_of, valid_at}
+use Rattle.laws_run.proofs.run_headline.Boarded.{Ready, first_same, run_of, valid_at}
 use Rattle.laws_run.proofs.run_headline.Fronts.{front_of, one_less}
 use Rattle.laws_run.proofs.run_headline.Words.{line_is}
 use Rattle.laws_run.specs.run_limits.Limits.{AreLow, greatest_tick, start_limit}
 use Rattle.laws_run.proofs.run_limits.Own.{own_few}
+use Rattle.laws_homing.proofs.clear_groups.Noted.{drift_small}
 
 -- the line of a sample that was got before a turn
 line_low : (clock : BoardClock) (turns : List BoardTurn) (line : Line) (ready : ℕ) → clock.start ≤ 2 ^ 40 → clock.freq ≤ 200_000_000 → ppm_size clock.drift ≤ 200 → length turns ≤ ready → IsSampled clock turns line → tick line (ready * turn_ns) ≤ greatest_tick ready
@@ -72,7 +61,7 @@ board_low m v s ts p t first rest end told r b w h =
     let own : IsSampled clock l.1 line.0 = All-head (IsSampled clock l.1) line.0 [] some in
     let is : line.0 ≡ (clocks_at t.clocks b).first = ap (λ (c : Clocks). c.first) (sym line.2 ∙ ap (λ cs. clocks_at cs b) (sym r.is.clocks_are)) ∙ sym (first_same m v s ts p t first rest end told b r h) in
     let Low : Line → Type 0 = λ x. tick x (t.first * turn_ns) ≤ greatest_tick t.first in
-    subst Low is (line_low clock l.1 line.0 t.first valid.start valid.freq.high (drift_few (board_at m b).drift valid.drift_low valid.drift_high) (omega (arith, long, early)) own)
+    subst Low is (line_low clock l.1 line.0 t.first valid.start valid.freq.high (drift_small (board_at m b).drift valid.drift_low valid.drift_high) (omega (arith, long, early)) own)
 
 -- so the lines of all boards
 pub lines_low : (ready b : ℕ) (cs : List Clocks) → ready < start_limit → ((i : ℕ) → i < length cs → tick (clocks_at cs i).first (ready * turn_ns) ≤ greatest_tick ready) → AreLow (lines_at ready b cs)

@@ -1,15 +1,9 @@
 -- What the first lines of a run's report tell of further clock lines.
 use Rattle.std.proofs.Common.{◌≡◌, ℕ, suc, ◌+◌, ◌<◌, ◌≤◌, List, [], ◌∷◌, ◌++◌, length, take, drop, refl, ap, sym, ◌∙◌, subst, arith, inl, inr, append_assoc, append-nil, length-append}
-use Rattle.std.proofs.lemmas.Grind.{flat_map-append}
-use Rattle.std.proofs.lemmas.List.{length-take-le, take-append-drop}
-use Rattle.plan_types.specs.declared.machine.Machine.{Machine}
-use Rattle.plan_types.specs.declared.plan.Held.{Held}
-use Rattle.plan_types.specs.Lines.{Clocks}
-use Rattle.report_text.specs.declared.line.ReportLine.{ReportLine}
+use Rattle.laws_board.proofs.Names.{flat_map-append, take-append-drop, Machine, Held, Clocks, ReportLine, ReactorTurn, gather}
+use Rattle.std.proofs.lemmas.List.{length-take-le}
 use Rattle.report_text.specs.declared.line.ReportLine.TheVariants as report
 use Rattle.host_reactor.specs.Report.{turn_at}
-use Rattle.session_work.specs.declared.table.ReactorTurn.{ReactorTurn}
-use Rattle.session_work.specs.Rows.{gather}
 use Rattle.laws_board.proofs.sections.Lists.{cuts, nil_cons}
 use Rattle.laws_board.specs.plans.Lines.{drift_in, drifts_of, held_lines}
 use Rattle.laws_run.specs.run_ends.Boards.{boards_of}
@@ -17,7 +11,7 @@ use Rattle.laws_run.proofs.run_ends.Connecting.{boards_append}
 use Rattle.laws_run.specs.run_headline.Further.{AreNamed, BoardsFirst, TellFurther}
 use Rattle.section_feed.specs.Fewer.{HoldBehind}
 
-left_none : (xs ys : List ReportLine) → xs ++ ys ≡ [] → xs ≡ []
+pub left_none : (xs ys : List ReportLine) → xs ++ ys ≡ [] → xs ≡ []
 left_none [] ys e = refl
 left_none (x ∷ xs) ys e = cc
 

@@ -1,24 +1,12 @@
 -- Which sections have their line in a report.
 use Rattle.std.proofs.Common.{◌≡◌, ◌≢◌, ℕ, zero, suc, ◌+◌, ◌<◌, ◌≤◌, ◌⊎◌, Bool, true, false, List, [], ◌∷◌, ◌++◌, All, length, map, take, refl, ap, sym, ◌∙◌, subst, arith, inl, inr, append_assoc, append-nil}
 use Rattle.std.specs.Prelude.{◌==◌, if◌then◌else◌, nat_lt}
-use Rattle.std.proofs.lemmas.Bool.Decides.{eqb_tells, leb_tells}
-use Rattle.std.proofs.lemmas.Grind.{flat_map-append}
-use Rattle.std.proofs.lemmas.List.Elements.{All-cons, All-head, All-nil, All-tail}
+use Rattle.laws_board.proofs.Names.{eqb_tells, leb_tells, flat_map-append, All-cons, All-head, All-nil, All-tail, Cause, Machine, Section, SectionKind, Moves, Home, Clocks, ReportLine, machine_line, AreStarted, Started, ReactorTurn, gather}
 use Rattle.gcode_program.specs.Programs.{program_sections}
-use Rattle.plan_types.specs.declared.cause.Cause.{Cause}
-use Rattle.plan_types.specs.declared.machine.Machine.{Machine}
-use Rattle.plan_types.specs.declared.plan.Section.{Section}
-use Rattle.plan_types.specs.declared.plan.SectionKind.{SectionKind}
-use Rattle.plan_types.specs.declared.plan.SectionKind.TheVariants.{Moves, Home}
-use Rattle.plan_types.specs.Lines.{Clocks}
 use Rattle.plan_types.specs.Sections.{section_end}
-use Rattle.report_text.specs.declared.line.ReportLine.{ReportLine}
 use Rattle.report_text.specs.declared.line.ReportLine.TheVariants as report
-use Rattle.host_reactor.specs.Report.{machine_line}
-use Rattle.motion_work.specs.Seen.{AreStarted, IsPlanned, Started}
+use Rattle.motion_work.specs.Seen.{IsPlanned}
 use Rattle.motion_work.proofs.Turning.{planned_late}
-use Rattle.session_work.specs.declared.table.ReactorTurn.{ReactorTurn}
-use Rattle.session_work.specs.Rows.{gather}
 use Rattle.laws_board.specs.plans.Lines.{TellTurns, TellsTurn, head_in, heads_of, pulses_of, starts_at}
 use Rattle.laws_board.specs.plans.Planned.{PlannerInput}
 use Rattle.laws_board.proofs.plans.Beginning.{Spread, spread_of}
@@ -28,6 +16,9 @@ use Rattle.laws_run.specs.run_headline.Timely.{AreOfMoves, TellBoards}
 use Rattle.laws_run.proofs.run_headline.Showing.{none_at}
 use Rattle.laws_run.specs.home_headline.Follow.{HaveBegunLines}
 use Rattle.laws_run.specs.run_lines.Due.{AreFirst, BoardsHave, HaveTheirLines, StandApart, begun_lines, due_lines}
+use Rattle.laws_run.proofs.run_lines.Further.{left_none}
+use Rattle.laws_run.proofs.run_limits.Early.{machine_none}
+use Rattle.laws_board.proofs.plans.Telling.{heads_append}
 
 -- the lines of the sections that start before a turn
 abbrev lines_by : ℕ → ℕ → List Started → List ReportLine
@@ -72,17 +63,6 @@ one_more k i x (t ∷ ss) s =
         ]
       ]
     ]
-
--- the lines of a turn that begin a section
-heads_append : (xs ys : List ReportLine) → heads_of (xs ++ ys) ≡ heads_of xs ++ heads_of ys
-heads_append xs ys = flat_map-append head_in xs ys
-
-machine_none : (m : Machine) (k : ℕ) → heads_of (machine_line m k) ≡ []
-machine_none m k = by (k == 0)
-  where
-    by : (b : Bool) → heads_of (if b then report.Machine m.corexy (length m.boards) (length m.steppers) ∷ [] else []) ≡ []
-    by true = refl
-    by false = refl
 
 starts_heads : (k i : ℕ) (ss : List Started) → heads_of (starts_at k i ss) ≡ starts_at k i ss
 starts_heads k i [] = refl
@@ -231,13 +211,9 @@ split (x ∷ xs) ys (a ∷ fs) bs e =
       | inr p ↦ inr (p.0, ap (λ z. z ∷ xs) first ∙ ap (λ z. a ∷ z) p.1, p.2)
     ]
 
-gather_lines : (xs ys : List ReactorTurn) → gather (λ t. t.lines) (xs ++ ys) ≡ gather (λ t. t.lines) xs ++ gather (λ t. t.lines) ys
+pub gather_lines : (xs ys : List ReactorTurn) → gather (λ t. t.lines) (xs ++ ys) ≡ gather (λ t. t.lines) xs ++ gather (λ t. t.lines) ys
 gather_lines [] ys = refl
 gather_lines (x ∷ xs) ys = ap (λ z. x.lines ++ z) (gather_lines xs ys) ∙ sym (append_assoc x.lines (gather (λ (t : ReactorTurn). t.lines) xs) (gather (λ (t : ReactorTurn). t.lines) ys))
-
-none_first : (xs ys : List ReportLine) → xs ++ ys ≡ [] → xs ≡ []
-none_first [] ys e = refl
-none_first (x ∷ xs) ys e = absurd (let f : x ∷ (xs ++ ys) ≡ [] = e in cc)
 
 by_ready : (m : Machine) (begun : List Started) (n ready : ℕ) (clocks : List Clocks) → AreStarted m clocks ready begun → n ≤ ready → lines_by n 0 begun ≡ []
 by_ready m begun n ready clocks a h = none_by n 0 ready begun (spread_of m clocks ready ready begun a (omega arith)) h
@@ -246,7 +222,7 @@ pub some_first : (m : Machine) (clocks : List Clocks) (ready : ℕ) (begun : Lis
     → gather (λ t. t.lines) turns ≡ said ++ more → heads_of said ≢ [] → begun ≢ []
 some_first m clocks ready begun turns said more late started lines are some e =
     let heads = all_heads m begun turns (spread_of m clocks ready 260 begun started late) lines in
-    some (none_first (heads_of said) (heads_of more) (sym (heads_append said more) ∙ ap heads_of (sym are) ∙ heads ∙ ap (lines_by (length turns) 0) e))
+    some (left_none (heads_of said) (heads_of more) (sym (heads_append said more) ∙ ap heads_of (sym are) ∙ heads ∙ ap (lines_by (length turns) 0) e))
 
 pub boards_first : (m : Machine) (clocks : List Clocks) (ready : ℕ) (begun : List Started) (turns : List ReactorTurn) (said more : List ReportLine) → 260 ≤ ready → AreStarted m clocks ready begun → TellTurns m begun 0 turns
     → (begun ≢ [] → TellBoards clocks ready turns) → gather (λ t. t.lines) turns ≡ said ++ more → heads_of said ≢ [] → BoardsHave clocks ready said
@@ -258,9 +234,9 @@ boards_first m clocks ready begun turns said more late started lines boards are 
     all_heads m begun t.past spread (tells_front m begun 0 t.past t.later (subst Turns t.are lines)) ∙ by_ready m begun (length t.past) ready clocks started t.early in
     let cut : said ++ more ≡ gather (λ (x : ReactorTurn). x.lines) t.past ++ gather (λ (x : ReactorTurn). x.lines) t.later = sym are ∙ ap (gather (λ (x : ReactorTurn). x.lines)) t.are ∙ gather_lines t.past t.later in
     elim (split said more (gather (λ (x : ReactorTurn). x.lines) t.past) (gather (λ (x : ReactorTurn). x.lines) t.later) cut) [
-      | inl p ↦ absurd (some (none_first (heads_of said) (heads_of p.0) (sym (heads_append said p.0) ∙ ap heads_of (sym p.1) ∙ past_heads)))
+      | inl p ↦ absurd (some (left_none (heads_of said) (heads_of p.0) (sym (heads_append said p.0) ∙ ap heads_of (sym p.1) ∙ past_heads)))
       | inr p ↦
-          let none = none_first (boards_of p.0) (boards_of more) (sym (boards_append p.0 more) ∙ ap boards_of (sym p.2) ∙ t.rest) in
+          let none = left_none (boards_of p.0) (boards_of more) (sym (boards_append p.0 more) ∙ ap boards_of (sym p.2) ∙ t.rest) in
           ap boards_of p.1 ∙ boards_append (gather (λ (x : ReactorTurn). x.lines) t.past) p.0 ∙ ap (λ z. boards_of (gather (λ (x : ReactorTurn). x.lines) t.past) ++ z) none
           ∙ append-nil (boards_of (gather (λ (x : ReactorTurn). x.lines) t.past)) ∙ t.lines
     ]
@@ -319,13 +295,13 @@ module _ (m : Machine) (seen : PlannerInput) (clocks : List Clocks) (ready : ℕ
   apart : (begun : List Started) → seen.begun ≡ begun → StandApart m clocks ready said
   apart [] e =
       let heads = all_heads m seen.begun (first ∷ rest) spread h.lines in
-      absurd (some (none_first (heads_of said) (heads_of more) (sym (heads_append said more) ∙ ap heads_of (sym are) ∙ heads ∙ ap (lines_by (length (first ∷ rest)) 0) e)))
+      absurd (some (left_none (heads_of said) (heads_of more) (sym (heads_append said more) ∙ ap heads_of (sym are) ∙ heads ∙ ap (lines_by (length (first ∷ rest)) 0) e)))
   apart (s ∷ later) e = elim (leb_tells (suc s.start) (length (first ∷ rest))) [
     | inr p ↦
         let heads = all_heads m seen.begun (first ∷ rest) spread h.lines in
         let soon : length (first ∷ rest) ≤ s.start = omega (arith, p.1) in
         let none = none_by (length (first ∷ rest)) 0 s.start (s ∷ later) (omega arith, (subst (Spread 260) e spread).1) soon in
-        absurd (some (none_first (heads_of said) (heads_of more) (sym (heads_append said more) ∙ ap heads_of (sym are) ∙ heads ∙ ap (lines_by (length (first ∷ rest)) 0) e ∙ none)))
+        absurd (some (left_none (heads_of said) (heads_of more) (sym (heads_append said more) ∙ ap heads_of (sym are) ∙ heads ∙ ap (lines_by (length (first ∷ rest)) 0) e ∙ none)))
     | inl p ↦
         let t = turn_at s.start (first ∷ rest) (omega (arith, p.1)) in
         let long = t.long in
@@ -354,7 +330,7 @@ module _ (m : Machine) (seen : PlannerInput) (clocks : List Clocks) (ready : ℕ
       behind : (s : Started) (line : ReportLine) (head after : List ReportLine) → heads_of head ≡ [] → boards_of head ≡ lines_at ready 0 clocks → boards_of said ≡ lines_at ready 0 clocks → ready ≤ s.start
           → ((place : ℕ) → place < length m.steppers → pulses_of place head ≡ []) → line ≡ report.Section 0 s.start s.section.kind
           → ((z : List ReportLine) × (head ≡ said ++ z)) ⊎ ((z : List ReportLine) × (said ≡ head ++ z) × (line ∷ after ≡ z ++ more)) → StandApart m clocks ready said
-      behind s line head after none told all late still is (inl p) = absurd (some (none_first (heads_of said) (heads_of p.0) (sym (heads_append said p.0) ∙ ap heads_of (sym p.1) ∙ none)))
+      behind s line head after none told all late still is (inl p) = absurd (some (left_none (heads_of said) (heads_of p.0) (sym (heads_append said p.0) ∙ ap heads_of (sym p.1) ∙ none)))
       behind s line head after none told all late still is (inr ([], e, f)) = absurd (some (ap heads_of e ∙ heads_append head [] ∙ append-nil (heads_of head) ∙ none))
       behind s line head after none told all late still is (inr (x ∷ body, e, f)) =
           let same : x ≡ line = cc in

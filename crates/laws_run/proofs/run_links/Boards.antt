@@ -1,26 +1,18 @@
 -- The turns of a board with its link, from what the link took and put.
 use Rattle.std.proofs.Common.{◌≡◌, ℕ, ◌+◌, Bool, true, false, List, [], ◌∷◌, ◌++◌, length, map, refl, ap, ◌∙◌, subst, arith, inl, inr, append_assoc}
-use Rattle.plan_types.specs.declared.clock.BoardClock.{BoardClock}
-use Rattle.plan_types.specs.declared.machine.Machine.{Machine}
-use Rattle.plan_types.specs.Clock.{clock_of}
-use Rattle.plan_types.specs.Machines.{board_at}
-use Rattle.msg_code.specs.declared.talk.State.{State}
+use Rattle.laws_board.proofs.Names.{BoardClock, Machine, clock_of, board_at, State, Control, orders, IsTurn, LinkState, gather, Scene}
 use Rattle.msg_code.specs.declared.unit.Batch.{Batch}
-use Rattle.msg_code.specs.declared.unit.Control.{Control}
-use Rattle.link_work.specs.Stands.{SeenLink, StandsFor, orders}
+use Rattle.link_work.specs.Stands.{SeenLink, StandsFor}
 use Rattle.link_work.specs.Told.{IsTold}
-use Rattle.link_work.specs.Turn.{IsTurn, LinkState}
 use Rattle.laws_board.specs.turns.Turns.{AreBoardTurns, BoardTurn, stands_after}
 use Rattle.session_work.specs.declared.table.LinkTurn.{LinkTurn}
 use Rattle.session_work.specs.Leads.{each_turn}
 use Rattle.session_work.specs.Links.{LinkStep}
-use Rattle.session_work.specs.Rows.{gather}
 use Rattle.session_work.specs.Turns.{Goes}
 use Rattle.session_work.proofs.Goes.{gather_ones}
 use Rattle.session_run.specs.Links as links
 use Rattle.laws_run.specs.lanes.Boards.{turns_behind}
 use Rattle.session_lanes.specs.declared.near.LinkLog.{LinkLog}
-use Rattle.wire_scene.specs.declared.scene.Scene.{Scene}
 use Rattle.laws_run.specs.run_headline.Timely.{link_of}
 use Rattle.laws_run.specs.run_links.Links.{MakesTurns, out_state}
 

@@ -1,24 +1,17 @@
 -- What the lanes of a run's boards carried.
 use Rattle.std.proofs.Common.{◌≡◌, ℕ, zero, suc, ◌+◌, ◌<◌, List, [], ◌∷◌, ◌++◌, get_or, length, Some, refl, ap, sym, ◌∙◌, subst, arith, inl, inr, append-nil}
-use Rattle.std.proofs.Math.Logic.{∥∥₁_map}
+use Rattle.laws_board.proofs.Names.{∥∥₁_map, BoardDef, Machine, Scene, Run, state_at, MotionTurn, ReactorTurn, gather, item}
 use Rattle.io_core.specs.declared.traits.Files.{Ghosts as Files}
 use Rattle.io_core.specs.declared.traits.Sink.{Ghosts as Sink}
 use Rattle.plan_types.specs.declared.cause.Cause.TheVariants as cause
-use Rattle.plan_types.specs.declared.machine.BoardDef.{BoardDef}
-use Rattle.plan_types.specs.declared.machine.Machine.{Machine}
 use Rattle.plan_types.specs.Machines.{no_board}
-use Rattle.wire_scene.specs.declared.scene.Scene.{Scene}
 use Rattle.link_work.specs.Stands.{SeenLink as LinkSeen}
-use Rattle.host_reactor.specs.Reactor.{Run, first_run}
-use Rattle.host_reactor.specs.Runs.{state_at}
+use Rattle.host_reactor.specs.Reactor.{first_run}
 use Rattle.session_lanes.specs.declared.near.LinkLog.{LinkLog}
 use Rattle.session_lanes.specs.declared.near.Told.{Told}
 use Rattle.session_lanes.specs.Runs.{AreLogs, IsLog, head_at, ran_at}
 use Rattle.session_work.specs.declared.machines.Outside.{Ghosts as Out}
-use Rattle.session_work.specs.declared.table.MotionTurn.{MotionTurn}
-use Rattle.session_work.specs.declared.table.ReactorTurn.{ReactorTurn}
 use Rattle.session_work.specs.Leads.{last_controls}
-use Rattle.session_work.specs.Rows.{gather, item}
 use Rattle.session_work.proofs.Goes.{gather_on}
 use Rattle.session_run.specs.declared.tell.Kept.{Kept}
 use Rattle.session_run.specs.Desks.{desk_out, reported_lines}
@@ -27,7 +20,6 @@ use Rattle.session_run.specs.Machines.{link, planner, reactor}
 use Rattle.session_run.specs.Runs.{AreFirstLinks, IsFirstLink, RunsOver}
 use Rattle.session_run.proofs.First.{count}
 use Rattle.session_run.proofs.Reacting as reacting
-use Rattle.laws_run.proofs.lanes.Items.{item_state}
 use Rattle.laws_board.specs.plans.Planned.{AreBare}
 use Rattle.laws_board.proofs.plans.Running.{all_sent, started_in}
 use Rattle.laws_run.specs.run_headline.Made.{IsMade}
@@ -39,6 +31,7 @@ use Rattle.laws_run.proofs.run_links.Boards.{makes_turns}
 use Rattle.laws_run.proofs.run_links.Orders.{controls_are, have_next, have_states, states_are}
 use Rattle.laws_run.proofs.run_links.Pulses.{lines_append, pulses_append, turn_pulses, turns_pulses}
 use Rattle.laws_run.proofs.run_links.Units.{batches_put, parts_are}
+use Rattle.laws_homing.proofs.missed_groups.Told.{same_state}
 
 -- the lines of some turns and of one behind them
 lines_on : (rs : List ReactorTurn) (end : ReactorTurn) → reported_lines (rs ++ end ∷ []) ≡ reported_lines rs ++ end.lines
@@ -133,7 +126,7 @@ module _ {F S : Type 0} (f : Files F) (o : Sink S) (m : Machine) (s : Scene) (na
         ahead = n;
         controls = controls.0 ∙ ap (λ z. z ++ last_controls (length rs) n) (controls_are m s.switches b [] rs turns) ∙ ap (λ k. ordered_for m s.switches b (came_from [] rs) ++ last_controls k n) (omega (arith, came_long [] rs));
         board = makes_turns m s b x found.1.0 us went.0 last went.1 first.stands first.clock controls.1 batches.1 states.0;
-        states = states.1 ∙ gather_on (λ (z : ReactorTurn). item b z.states) rs end ∙ ap (λ z. z ++ item b end.states) (states_are b [] rs) ∙ ap (λ z. states_from b (came_from [] rs) ++ z) (sym (item_state b end.states));
+        states = states.1 ∙ gather_on (λ (z : ReactorTurn). item b z.states) rs end ∙ ap (λ z. z ++ item b end.states) (states_are b [] rs) ∙ ap (λ z. states_from b (came_from [] rs) ++ z) (sym (same_state b end.states));
         pulses = λ other. all_pulses m s b rs end turns (last_pulses b other) ∙ ap (lines_for m b) taken;
         pulses_before = λ out. front_pulses m s b rs end turns (no_lines out);
       }

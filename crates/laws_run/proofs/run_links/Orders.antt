@@ -1,17 +1,13 @@
 -- What a reactor orders for a board in a run, and which of its states it takes.
 use Rattle.std.proofs.Common.{◌≡◌, ℕ, List, [], ◌∷◌, ◌++◌, length, ap, sym, ◌∙◌, inl, inr, arith, append_assoc, append-nil}
-use Rattle.msg_code.specs.declared.talk.State.{State}
-use Rattle.msg_code.specs.declared.unit.Control.{Control}
-use Rattle.plan_types.specs.declared.machine.Machine.{Machine}
-use Rattle.wire_scene.specs.declared.scene.Switch.{Switch}
-use Rattle.host_reactor.specs.Runs.{Came, HaveStates, last_reacted}
+use Rattle.laws_board.proofs.Names.{State, Control, Machine, Switch, Came, last_reacted, ReactorTurn, gather, item}
+use Rattle.host_reactor.specs.Runs.{HaveStates}
 use Rattle.laws_board.specs.turns.Turns.{control_at}
-use Rattle.session_work.specs.declared.table.ReactorTurn.{ReactorTurn}
 use Rattle.session_work.specs.Heads.{IsRow}
-use Rattle.session_work.specs.Rows.{gather, item}
 use Rattle.session_run.specs.Boards.{AreReactorTurns, came_from, came_in}
-use Rattle.laws_run.proofs.lanes.Items.{item_control, item_state}
+use Rattle.laws_run.proofs.lanes.Items.{item_control}
 use Rattle.laws_run.specs.run_links.Links.{ordered_for, states_from}
+use Rattle.laws_homing.proofs.missed_groups.Told.{same_state}
 
 -- the controls of a board in some turns
 pub controls_are : (m : Machine) (switches : List Switch) (b : ℕ) (before : List Came) (rs : List ReactorTurn) → AreReactorTurns m switches before rs
@@ -29,7 +25,7 @@ states_are b before [] = append-nil (states_from b before)
 states_are b before (t ∷ rs) =
     let past = states_from b before in
     let rest = gather (λ (z : ReactorTurn). item b z.states) rs in
-    sym (append_assoc past (item b t.states) rest) ∙ ap (λ (z : List State). (past ++ z) ++ rest) (sym (item_state b t.states)) ∙ states_are b (came_in t ∷ before) rs
+    sym (append_assoc past (item b t.states) rest) ∙ ap (λ (z : List State). (past ++ z) ++ rest) (sym (same_state b t.states)) ∙ states_are b (came_in t ∷ before) rs
 
 -- a state of each board came, but in the first turn
 pub have_next : (m : Machine) (before : List Came) (t : ReactorTurn) → IsRow (length m.boards) (length before) t.states t.note → HaveStates m before → HaveStates m (came_in t ∷ before)

@@ -1,31 +1,17 @@
 -- The lines of the reactor's turns that tell a board's pulses.
 use Rattle.std.proofs.Common.{◌≡◌, ℕ, zero, suc, ◌+◌, ◌<◌, Bool, true, false, List, [], ◌∷◌, ◌++◌, length, Option, Some, None, refl, ap, sym, ◌∙◌, subst, arith, append-nil}
 use Rattle.std.specs.Prelude.{if◌then◌else◌, ◌==◌}
-use Rattle.std.specs.List.{flat_map}
-use Rattle.std.proofs.lemmas.Bool.{eq-eqb, ne_eqb}
-use Rattle.std.proofs.lemmas.Grind.{flat_map-append}
-use Rattle.plan_types.specs.declared.machine.Machine.{Machine}
-use Rattle.plan_types.specs.declared.plan.Pulse.{Pulse}
-use Rattle.msg_code.specs.declared.talk.Note.{Note}
-use Rattle.msg_code.specs.declared.talk.NoteNews.{NoteNews}
+use Rattle.laws_board.proofs.Names.{flat_map, eq-eqb, flat_map-append, Machine, Pulse, Note, NoteNews, State, ReportLine, Switch, Known, noted, news_of, reacts, first_lines, machine_line, Came, known_by, state_at, ReactorTurn, gather, item}
+use Rattle.std.proofs.lemmas.Bool.{ne_eqb}
 use Rattle.msg_code.specs.declared.talk.NoteNews.TheVariants as news
-use Rattle.msg_code.specs.declared.talk.State.{State}
-use Rattle.report_text.specs.declared.line.ReportLine.{ReportLine}
 use Rattle.report_text.specs.declared.line.ReportLine.TheVariants as report
-use Rattle.wire_scene.specs.declared.scene.Switch.{Switch}
 use Rattle.host_reactor.specs.declared.ordered.Begun.{Begun}
-use Rattle.host_reactor.specs.declared.ordered.Known.{Known}
-use Rattle.host_reactor.specs.Notes.{noted, news_of}
-use Rattle.host_reactor.specs.Reactor.{reacts}
-use Rattle.host_reactor.specs.Report.{drift_lines, first_lines, machine_line, pulse_at, pulse_line, pulse_lines, stepper_place, section_line}
-use Rattle.host_reactor.specs.Runs.{Came, known_by, state_at}
-use Rattle.session_work.specs.declared.table.ReactorTurn.{ReactorTurn}
-use Rattle.session_work.specs.Rows.{gather, item}
+use Rattle.host_reactor.specs.Report.{drift_lines, pulse_at, pulse_line, pulse_lines, stepper_place, section_line}
 use Rattle.session_run.specs.Desks.{reported_lines}
 use Rattle.session_run.specs.Boards.{AreReactorTurns, came_in}
-use Rattle.laws_run.proofs.lanes.Items.{item_state}
 use Rattle.laws_board.proofs.plans.Shaping.{ArePlain, IsPlain, shaped}
 use Rattle.laws_run.specs.run_links.Links.{lines_for, pulse_on, pulses_on}
+use Rattle.laws_homing.proofs.missed_groups.Told.{same_state}
 
 pub pulses_append : (b : ℕ) (xs ys : List ReportLine) → pulses_on b (xs ++ ys) ≡ pulses_on b xs ++ pulses_on b ys
 pulses_append b xs ys = flat_map-append (pulse_on b) xs ys
@@ -107,7 +93,7 @@ turn_pulses m switches b r k states note =
     let section = section_line k s.begun in
     let drift = drift_lines (news_of note) in
     let pulses = pulse_lines m 0 states in
-    let told = states_pulses m b b 0 states (omega arith) ∙ ap (lines_for m b) (item_state b states) in
+    let told = states_pulses m b b 0 states (omega arith) ∙ ap (lines_for m b) (same_state b states) in
     let first : pulses_on b (first_lines m s k (news_of note) states) ≡ pulses_on b pulses =
     pulses_append b head (section ++ (drift ++ pulses)) ∙ ap (λ x. x ++ pulses_on b (section ++ (drift ++ pulses))) (machine_none b m k)
     ∙ pulses_append b section (drift ++ pulses) ∙ ap (λ x. x ++ pulses_on b (drift ++ pulses)) (section_none b k s.begun)

@@ -1,40 +1,29 @@
 -- What a planner puts for a board, batch by batch.
 use Rattle.std.proofs.Common.{◌≡◌, ℕ, zero, suc, ◌+◌, ◌<◌, ◌≤◌, All, List, [], ◌∷◌, ◌++◌, length, map, refl, ap, sym, ◌∙◌, subst, arith, inl, inr}
-use Rattle.std.proofs.lemmas.Bool.Decides.{eqb_tells, leb_tells}
-use Rattle.std.proofs.lemmas.List.Elements.{All-cons, All-nil}
+use Rattle.laws_board.proofs.Names.{eqb_tells, leb_tells, All-cons, All-nil, Machine, SectionKind, Moves, Home, Clocks, Release, batch_at, AreStarted, Started, MotionTurn, gather, item}
 use Rattle.std.specs.List.{range_with_len}
 use Rattle.std.specs.Prelude.{false, slice_index_or}
 use Rattle.msg_code.specs.declared.unit.Batch.{Batch}
-use Rattle.plan_types.specs.declared.machine.Machine.{Machine}
-use Rattle.plan_types.specs.declared.plan.SectionKind.{SectionKind}
-use Rattle.plan_types.specs.declared.plan.SectionKind.TheVariants.{Moves, Home}
-use Rattle.plan_types.specs.Lines.{Clocks}
 use Rattle.section_feed.proofs.Telling.{batch-behind}
-use Rattle.step_feed.specs.Pacing.{Release, batch_at}
 use Rattle.motion_work.specs.Feeds.{batches_at, units_at}
 use Rattle.motion_work.specs.Homes.{before_turn}
 use Rattle.motion_work.specs.Puts.{ArePut}
-use Rattle.motion_work.specs.Seen.{AreSentBy, AreStarted, IsPlanned, Started}
+use Rattle.motion_work.specs.Seen.{AreSentBy, IsPlanned}
 use Rattle.motion_work.proofs.Feeding.{at_before}
 use Rattle.motion_work.proofs.Sending.{cut_before}
-use Rattle.session_work.specs.declared.table.MotionTurn.{MotionTurn}
 use Rattle.session_work.specs.Bares.{bare_batch}
-use Rattle.session_work.specs.Rows.{copies, gather, item}
+use Rattle.session_work.specs.Rows.{copies}
 use Rattle.laws_board.specs.plans.Planned.{AreBare, puts_of}
 use Rattle.laws_run.specs.run_links.Units.{AreBatchesOf, IsBatchOf, IsPartOn, IsPlannedOn}
-
--- the batch of a board among those of a turn
-batch_for : (f : ℕ → Batch) (i n b : ℕ) → b < n → item b (map f (range_with_len i n)) ≡ f (i + b) ∷ []
-batch_for f i zero b h = absurd (omega (arith, h))
-batch_for f i (suc n) zero h = let e : i ≡ i + 0 = omega arith in ap (λ k. f k ∷ []) e
-batch_for f i (suc n) (suc b) h = let e : i + 1 + b ≡ i + suc b = omega arith in rw e at (batch_for f (i + 1) n b (omega (arith, h)))
+use Rattle.laws_board.proofs.plans.Giving.{item_at}
+use Rattle.laws_homing.proofs.home_parts.Cut.{batch_before}
 
 own_batch : (m : Machine) (k b : ℕ) (sections : List (List (List Release))) → b < length m.boards → item b (batches_at (length m.boards) k sections) ≡ record { turn = k; units = units_at b k sections; end = false } ∷ []
 own_batch m k b sections h =
     let f : ℕ → Batch = λ i. record { turn = k; units = units_at i k sections; end = false } in
     let At : ℕ → Type 0 = λ i. item b (map f (range_with_len 0 (length m.boards))) ≡ f i ∷ [] in
     let e : 0 + b ≡ b = omega arith in
-    subst At e (batch_for f 0 (length m.boards) b h)
+    subst At e (item_at f 0 (length m.boards) b h)
 
 bare_item : (n b : ℕ) (x : Batch) → b < n → item b (copies n x) ≡ x ∷ []
 bare_item zero b x h = absurd (omega (arith, h))
@@ -74,14 +63,6 @@ batches_put m text begun b sent k (t ∷ made) bare low e put h =
     (record { turn = refl; units = λ l. refl; goes_on = λ l. refl; none = λ l. absurd (omega (arith, e, l)) })
     (batches_put m text begun b sent (k + 1) made bare low (omega (arith, e)) put.1 h)
 
--- units that are released before a turn
-batch_kept : (k n : ℕ) (rs : List Release) → k < n → batch_at k (before_turn n rs) ≡ batch_at k rs
-batch_kept k n [] h = refl
-batch_kept k n (r ∷ rs) h = elim (leb_tells (suc r.turn) n) [
-  | inl p ↦ elim (eqb_tells r.turn k) [ inl q ↦ rw (p.0, q.0) (ap (λ us. r.unit ∷ us) (batch_kept k n rs h)) | inr q ↦ rw (p.0, q.0) (batch_kept k n rs h) ]
-  | inr p ↦ elim (eqb_tells r.turn k) [ inl q ↦ absurd (let late = p.1 in let at = q.1 in omega (arith, late, at, h)) | inr q ↦ rw (p.0, q.0) (batch_kept k n rs h) ]
-]
-
 -- the units of a section on a board are those of its plan
 planned_on : (kind : SectionKind) (m : Machine) (clocks : List Clocks) (b : ℕ) (s : Started) → b < length m.boards → IsPlanned kind m clocks s → IsPlannedOn kind m clocks b s
 planned_on Moves m clocks b s low h = h.boards.each b low
@@ -92,7 +73,7 @@ planned_on (Home axis) m clocks b s low h =
       are = h.are.each b low;
       before = λ k l. elim h.boards [
         | inl w ↦ ap (λ z. batch_at k (slice_index_or z b [])) w.1
-        | inr w ↦ ap (λ z. batch_at k (slice_index_or z b [])) w.1 ∙ ap (batch_at k) (at_before s.end h.planned b) ∙ batch_kept k s.end own l
+        | inr w ↦ ap (λ z. batch_at k (slice_index_or z b [])) w.1 ∙ ap (batch_at k) (at_before s.end h.planned b) ∙ batch_before k s.end own l
       ];
       none = λ k ended l. elim h.boards [
         | inl w ↦ absurd (let e = w.0 in omega (arith, e, ended))

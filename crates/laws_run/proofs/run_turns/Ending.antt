@@ -1,26 +1,17 @@
 -- A homing section of a run ends with its answer.
 use Rattle.std.proofs.Common.{◌≡◌, ℕ, zero, suc, ◌+◌, ◌<◌, ◌≤◌, true, List, [], ◌∷◌, ◌++◌, length, map, take, refl, ap, sym, ◌∙◌, subst, arith, inl, inr, append_assoc, append-nil, length-append}
-use Rattle.std.proofs.lemmas.Bool.Decides.{leb_tells}
-use Rattle.std.proofs.lemmas.List.{length-map, length-take, take_all}
+use Rattle.laws_board.proofs.Names.{leb_tells, length-map, Machine, Home, WordMsg, Scene, Came, GoesOn, Started, MotionTurn, ReactorTurn, gather, item}
+use Rattle.std.proofs.lemmas.List.{length-take, take_all}
 use Rattle.std.proofs.Math.Seq.{take-append_seam}
-use Rattle.plan_types.specs.declared.machine.Machine.{Machine}
-use Rattle.plan_types.specs.declared.plan.SectionKind.TheVariants.{Home}
-use Rattle.msg_code.specs.declared.talk.WordMsg.{WordMsg}
-use Rattle.wire_scene.specs.declared.scene.Scene.{Scene}
-use Rattle.host_reactor.specs.Runs.{Came, GoesOn}
 use Rattle.motion_work.specs.Homes.{no_end}
-use Rattle.motion_work.specs.Seen.{Started}
 use Rattle.motion_work.specs.Told.{tells_homed}
-use Rattle.session_work.specs.declared.table.MotionTurn.{MotionTurn}
-use Rattle.session_work.specs.declared.table.ReactorTurn.{ReactorTurn}
 use Rattle.session_work.specs.Leads.{last_words}
-use Rattle.session_work.specs.Rows.{gather, item, option_items}
+use Rattle.session_work.specs.Rows.{option_items}
 use Rattle.session_run.specs.Boards.{AreReactorTurns, came_from, came_in}
 use Rattle.laws_board.specs.plans.Answers.{TookNoneAhead}
 use Rattle.laws_board.specs.plans.Lines.{TookEach}
 use Rattle.laws_board.specs.plans.Planned.{Plans, words_in}
 use Rattle.laws_board.proofs.plans.Heard.{heard_all, heard_few}
-use Rattle.laws_run.proofs.lanes.Whole.{gather_both}
 use Rattle.laws_homing.specs.home_plans.Notes.{CameNotes}
 use Rattle.laws_homing.specs.home_parts.Answers.{IsPlannedBy}
 use Rattle.laws_homing.proofs.home_parts.Ends.{ends_low}
@@ -36,6 +27,7 @@ use Rattle.laws_run.proofs.home_headline.Switches.{came_ahead, turns_tell}
 use Rattle.laws_run.specs.home_headline.Cuts.{TellEnds}
 use Rattle.laws_run.specs.run_turns.Ends.{EndsWithAnswer}
 use Rattle.laws_run.proofs.run_turns.Words.{Taken}
+use Rattle.laws_run.proofs.run_lates.Unbegun.{gather_both}
 
 -- some turns of a planner take no more words than they are
 words_few : (k taken : ℕ) (ts : List MotionTurn) → taken ≤ k → TookNoneAhead k taken ts → taken + length (words_in ts) ≤ k + length ts

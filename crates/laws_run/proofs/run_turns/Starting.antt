@@ -1,15 +1,7 @@
 -- The first section of a run starts behind connecting.
 use Rattle.std.proofs.Common.{◌≡◌, ◌+◌, ◌∷◌, List, [], length, Some, refl, ap, sym, ◌∙◌, subst, arith}
 use Rattle.plan_types.specs.Sections.{first_start}
-use Rattle.plan_types.specs.declared.machine.Machine.{Machine}
-use Rattle.plan_types.specs.Machines.{IsValidMachine}
-use Rattle.msg_code.specs.declared.talk.WordMsg.{WordMsg}
-use Rattle.wire_scene.specs.declared.scene.Scene.{Scene}
-use Rattle.motion_work.specs.Seen.{AreStarted, Started}
-use Rattle.motion_work.specs.Told.{Told}
-use Rattle.session_work.specs.declared.table.MotionTurn.{MotionTurn}
-use Rattle.session_work.specs.declared.table.ReactorTurn.{ReactorTurn}
-use Rattle.session_work.specs.Rows.{gather}
+use Rattle.laws_board.proofs.Names.{Machine, IsValidMachine, WordMsg, Scene, AreStarted, Started, Told, MotionTurn, ReactorTurn, gather}
 use Rattle.session_run.specs.Boards.{came_from}
 use Rattle.laws_board.specs.plans.Planned.{Plans}
 use Rattle.laws_board.proofs.plans.Running.{started_in}

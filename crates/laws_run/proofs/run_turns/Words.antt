@@ -1,23 +1,17 @@
 -- The turns, words and notes of a run, whatever ended it, and what the first turns of its planner took of them.
 use Rattle.std.proofs.Common.{◌≡◌, ℕ, List, [], ◌∷◌, ◌++◌, length, ap, sym, ◌∙◌, append_assoc}
-use Rattle.plan_types.specs.declared.machine.Machine.{Machine}
+use Rattle.laws_board.proofs.Names.{Machine, Note, WordMsg, Scene, Run, MotionTurn, ReactorTurn, gather}
 use Rattle.io_core.specs.declared.traits.Files.{Ghosts as Files}
 use Rattle.io_core.specs.declared.traits.Sink.{Ghosts as Sink}
-use Rattle.msg_code.specs.declared.talk.Note.{Note}
-use Rattle.msg_code.specs.declared.talk.WordMsg.{WordMsg}
-use Rattle.wire_scene.specs.declared.scene.Scene.{Scene}
-use Rattle.host_reactor.specs.Reactor.{Run}
 use Rattle.session_lanes.specs.declared.near.Told.{Told}
-use Rattle.session_work.specs.declared.table.MotionTurn.{MotionTurn}
-use Rattle.session_work.specs.declared.table.ReactorTurn.{ReactorTurn}
 use Rattle.session_work.specs.Leads.{last_words}
-use Rattle.session_work.specs.Rows.{gather, option_items}
+use Rattle.session_work.specs.Rows.{option_items}
 use Rattle.session_run.specs.declared.tell.Kept.{Kept}
 use Rattle.session_run.specs.Boards.{AreReactorTurns}
 use Rattle.session_run.specs.Runs.{RunsOver}
-use Rattle.laws_run.proofs.lanes.Whole.{gather_both}
 use Rattle.laws_run.proofs.run_headline.Facts.{notes_of}
 use Rattle.laws_run.proofs.run_headline.Making.{put_is, run_turns}
+use Rattle.laws_run.proofs.run_lates.Unbegun.{gather_both}
 
 -- The reactor's turns before its last one, the words of which are the first ones that a planner took in some turns, and the notes of which are the
 -- first ones that it put.

@@ -1,7 +1,8 @@
 use Rattle.std.proofs.Common.{arith, length-drop}
 use Rattle.board_sim.proofs.Hearing.{takes_some}
-use Rattle.frame_dump.proofs.Dumping.{has_number, line_end, line_more, line_none, rest_all}
+use Rattle.frame_dump.proofs.Dumping.{has_number, line_end, line_more, line_none}
 use Rattle.frame_dump.proofs.listing.list_line.Goals as goal
+use Rattle.msg_code.proofs.Parameters.{rest_all}
 
 pub returns-in-NeedMore-clause-lists : goal.returns-in-NeedMore-clause-lists
 returns-in-NeedMore-clause-lists c =

@@ -1,4 +1,4 @@
-use Rattle.plan_types.specs.Machines.{board_at}
+use Rattle.laws_board.proofs.Names.{board_at}
 use Rattle.laws_board.proofs.sections.Linking.{valid_ticks}
 use Rattle.laws_homing.proofs.clear_groups.Runs.{prepared_by, quiet_all}
 use Rattle.laws_homing.proofs.clear_groups.boards_stay_quiet.Goals as goal

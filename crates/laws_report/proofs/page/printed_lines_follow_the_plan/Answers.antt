@@ -1,4 +1,4 @@
-use Rattle.std.proofs.Math.Logic.{∥∥₁_map}
+use Rattle.laws_board.proofs.Names.{∥∥₁_map}
 use Rattle.laws_report.proofs.reports.Configured.{names-of-reading}
 use Rattle.laws_report.proofs.page.printed_lines_follow_the_plan.Goals as goal
 

@@ -8,9 +8,7 @@ use Rattle.motion_stream.proofs.Limits.{none_pushed}
 use Rattle.motion_stream.proofs.Opening.{home_good, home_ready, one_all}
 use Rattle.motion_stream.proofs.Taking.{first_short, home_on, may_start}
 use Rattle.motion_stream.proofs.begin.open_home.Goals as goal
-
-clash : false ≡ true → ⊥
-clash p = cc
+use Rattle.plan_types.proofs.Facts.{false_true}
 
 pub home_end-requires : goal.home_end-requires
 home_end-requires c =
@@ -62,5 +60,5 @@ returns c =
             omega (arith, known, is, small)),
         c.moving_in-moving.ensures,
       );
-      stops = λ takes. absurd (clash (sym f.open ∙ takes));
+      stops = λ takes. absurd (false_true (sym f.open ∙ takes));
     }

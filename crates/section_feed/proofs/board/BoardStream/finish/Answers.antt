@@ -5,14 +5,12 @@ use Rattle.step_feed.specs.Streams.{stream_start, next_turn, slots_of}
 use Rattle.section_feed.proofs.Merging.{gone-due}
 use Rattle.section_feed.proofs.Setting.{set-same}
 use Rattle.section_feed.proofs.board.BoardStream.finish.Goals as goal
+use Rattle.plan_types.proofs.Facts.{false_true}
 
 pub finish_all-requires : goal.finish_all-requires
 finish_all-requires c =
     let s = c.args.self.now in
     record { steppers = subst (λ v. ∥ AreUpTo s.lines true s.time s.turn v.items ∥₁) (sym c.replace-steppers.ensures.value) (subst (λ (b : Bool). ∥ AreUpTo s.lines b s.time s.turn s.steppers.items ∥₁) c.if-self.true s.up_to); lasting = s.lasting; begun = s.begun; small = s.time_small }
-
-no : false ≡ true → ⊥
-no e = cc
 
 pub invariant_of-self : goal.invariant_of-self
 invariant_of-self c =
@@ -21,7 +19,7 @@ invariant_of-self c =
       lasting = s.lasting;
       begun = s.begun;
       begun_next = s.begun_next;
-      ahead = λ going. absurd (no going);
+      ahead = λ going. absurd (false_true going);
       time_small = s.time_small;
       up_to = gone-up s.lines false s.time s.turn [] [] c.replace-steppers.result.items c.finish_all.new.steppers.items c.finish_all.ensures;
       near = s.near;

@@ -6,9 +6,7 @@ use Rattle.section_feed.proofs.Merging.{due-none, gone-due}
 use Rattle.section_feed.proofs.Setting.{set-same}
 use Rattle.section_feed.proofs.board.BoardStream.plan.Goals.{else-self-via-then-self+else-self-from, else-self-via-else-self}
 use Rattle.section_feed.proofs.board.BoardStream.plan.Goals as goal
-
-no : {b : Bool} → b ≡ true → b ≡ false → ⊥
-no t f = cc
+use Rattle.plan_types.proofs.Facts.{true_and_false}
 
 pub plan_all-requires-clause-steppers : goal.plan_all-requires-clause-steppers
 plan_all-requires-clause-steppers c =
@@ -22,7 +20,7 @@ invariant_of-self-2 c =
       lasting = s.lasting;
       begun = s.begun;
       begun_next = s.begun_next;
-      ahead = λ going. elim c.else-self.branch [ else-self-via-then-self+else-self-from w ↦ (let t = w.if-self-from.false in let f = w.from.ensures in omega arith) | else-self-via-else-self w ↦ absurd (no going w.if-self.false) ];
+      ahead = λ going. elim c.else-self.branch [ else-self-via-then-self+else-self-from w ↦ (let t = w.if-self-from.false in let f = w.from.ensures in omega arith) | else-self-via-else-self w ↦ absurd (true_and_false going w.if-self.false) ];
       time_small = s.time_small;
       up_to = gone-up s.lines s.goes s.time c.args.turn [] [] c.replace-steppers.result.items c.plan_all.new.steppers.items c.in_ok-plan_all.ensures;
       near = (let n = s.near in let t = c.if-turn-self.false in omega arith);

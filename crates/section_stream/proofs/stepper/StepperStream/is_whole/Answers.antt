@@ -6,6 +6,7 @@ use Rattle.section_stream.specs.Plans.{segments_for}
 use Rattle.section_stream.specs.Packs.{held_of, is_inverted}
 use Rattle.section_units.specs.Units.{as_sent}
 use Rattle.section_stream.proofs.stepper.StepperStream.is_whole.Goals as goal
+use Rattle.plan_types.proofs.Facts.{true_and_false}
 
 pub returns-then-is_given-clause-whole : goal.returns-then-is_given-clause-whole
 returns-then-is_given-clause-whole c = λ t base parts out pieces given h. (
@@ -15,11 +16,8 @@ returns-then-is_given-clause-whole c = λ t base parts out pieces given h. (
       held-none (as_sent (is_inverted s.pack) out) (steps_in pieces) (held_of s.pack) h.packed.split (c.is_packed.ensures.0 t),
     ))
 
-no : {b : Bool} → b ≡ true → b ≡ false → ⊥
-no t f = cc
-
 pub returns-then-is_given-clause-left : goal.returns-then-is_given-clause-left
-returns-then-is_given-clause-left c = λ f. left-packed c.args.self.now (c.is_given.ensures.given c.if-is_given.true) (λ none. no (c.is_packed.ensures.1 none) f)
+returns-then-is_given-clause-left c = λ f. left-packed c.args.self.now (c.is_given.ensures.given c.if-is_given.true) (λ none. true_and_false (c.is_packed.ensures.1 none) f)
 
 pub returns-else-is_given-clause-left : goal.returns-else-is_given-clause-left
 returns-else-is_given-clause-left c = λ f. left-planned c.args.self.now (c.is_given.ensures.left f)

@@ -311,3 +311,11 @@ not_passed_stands s t h until st early e =
       ordered = ordered_by h (Pass until) st.ordered;
       read = rw (append-nil h.queued) st.read;
     }
+
+-- a board that runs, and whose triggers tell nothing, says nothing
+pub none_said : (s : Station) (until : ℕ) → s.rig.controller.state ≡ Running → (passes s.rig until).answers ≡ [] → AreReplies (replies_of s.expected (says s.rig until)) []
+none_said s until runs none =
+    let at = s.rig.controller in
+    let told = says_shut (shut_before at.state at.tick) at.tick until in
+    let same : says s.rig until ≡ [] = ap (λ (cs : List Cmd). cs ++ told) none ∙ ap (λ b. says_shut (shut_before b at.tick) at.tick until) runs in
+    subst (λ (cs : List Cmd). AreReplies (replies_of s.expected cs) []) (sym same) refl

@@ -215,6 +215,11 @@ impl World {
         if until < from {
             return Ok(());
         }
+        // Mostly the board makes steps and tells nothing.
+        if self.taker.is_still(until) {
+            self.taker.pass_asleep(until, &mut self.pulses)?;
+            return Ok(());
+        }
         let before = shut_before(self.taker.state(), from);
         let mut answers = Vec::new(self.alloc);
         let pulses = self.taker.pass(until, &mut answers)?;

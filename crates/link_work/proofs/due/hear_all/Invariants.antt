@@ -2,7 +2,7 @@ use Rattle.wire_scene.specs.declared.scene.Way.TheVariants.{Up}
 use Rattle.wire_scene.specs.Wire.{dues_left}
 use Rattle.link_work.proofs.Coming.{HasCome}
 use Rattle.link_work.proofs.Hearing.{HasHeard}
-use Rattle.link_work.proofs.due.hear_due.Given as goal
+use Rattle.link_work.proofs.due.hear_all.Given as goal
 
 abbrev pub invariant-loop-came : goal.invariant-loop-came
 invariant-loop-came l = record {

@@ -1,5 +1,6 @@
 -- The host's part of a turn in which nothing is queued, waits or is outstanding.
-use Rattle.std.proofs.Common.{◌≡◌, ℕ, false, ◌+◌, List, [], ◌∷◌, ◌++◌, length, drop, map, refl, ap, sym, ◌∙◌, subst, arith, append-nil}
+use Rattle.std.proofs.Common.{◌≡◌, ℕ, false, ◌+◌, List, [], length, drop, map, refl, ap, sym, ◌∙◌, arith, append-nil}
+use Rattle.std.proofs.Math.Seq.{drop-length}
 use Rattle.plan_types.proofs.Facts.{false_true}
 use Rattle.link_core.specs.Core.{Link, Command}
 use Rattle.link_core.specs.Core as link
@@ -15,7 +16,7 @@ use Rattle.board_world.specs.Orders.{plain, units_orders}
 use Rattle.board_world.specs.Stands.{SeenWorld, WorldStandsFor, blocks_of}
 use Rattle.board_world.specs.World.{Core, after_event, in_turn, on_wire, run_world}
 use Rattle.board_world.proofs.Standing.{same_stands}
-use Rattle.link_work.specs.Turn.{Orders, host_steps, newly, put_all, sends}
+use Rattle.link_work.specs.Turn.{Orders, host_steps, put_all, sends}
 use Rattle.link_work.specs.Told.{asked_in}
 use Rattle.link_work.specs.Stands.{IsHostPart}
 use Rattle.link_work.proofs.Asked.{all_asked, asked_after, none_asked, rest_asked}
@@ -32,10 +33,6 @@ no_batch : (s : SeenWorld) (h : Core) (b : Batch) → b.units ≡ [] → WorldSt
 no_batch s h b none st =
     let orders = ap units_orders none in
     same_stands s s h (event.Put b) st orders refl refl refl (queue_none h.link (map on_wire (units_orders b.units)) (ap (map on_wire) orders)) refl
-
-none_behind : (bs : List (List ℕ)) → drop (length bs) bs ≡ []
-none_behind [] = refl
-none_behind (b ∷ bs) = none_behind bs
 
 -- what the host's part makes of a world in which no command waits and no block is outstanding, where nothing is queued
 pub idle_host : (turn : ℕ) (o : Orders) (old s : SeenWorld) (l : Line) (asked : List ℕ) → o.control.commands ≡ [] → o.batch.units ≡ [] → (old.host.waiting ≡ []) × (old.host.contents ≡ [])
@@ -58,7 +55,7 @@ idle_host turn o old s l asked commands units idle begun none h st =
         resent = false;
         due = (λ e. absurd (false_true e), λ d. absurd (omega (arith, d.0, contents)));
         stands = stands;
-        put = sym (ap (put_all l turn) (ap (drop (length (blocks_of Down h))) same ∙ none_behind (blocks_of Down h)));
+        put = sym (ap (put_all l turn) (ap (drop (length (blocks_of Down h))) same ∙ drop-length (blocks_of Down h)));
       },
       none ∙ asks ∙ sym (asked_after turn o false h (sends 12)),
     )

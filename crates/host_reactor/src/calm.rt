@@ -1,19 +1,16 @@
-//! A running turn in which nothing is ordered, and what is known stays as it is.
+//! A running turn in which nothing is ordered, nothing but pulses is told, and what is known stays as it is.
 
-ghost use Rattle.std.specs.Prelude.{◌≡◌, ◌++◌, [], None, OnOk, IfOk};
-ghost use Rattle.host_reactor.specs.Calm.{homes_none, is_none, none_put, asks_some, is_calm, calm_controls};
-ghost use Rattle.host_reactor.specs.Reactor.{given};
+ghost use Rattle.std.specs.Prelude.{◌≡◌, IfOk};
+ghost use Rattle.host_reactor.specs.Calm.{homes_none, is_none, says_none, all_say_none, tells_start, is_calm, calm_controls};
 
 use crate::OutOfMemory;
-use crate::free::{any_drifts, is_quiet};
-use crate::ordered::{Known, Ordered};
-use crate::react::no_word;
+use crate::free::is_quiet;
+use crate::ordered::{Begun, Known};
 use axis_homing::Homing;
 use board_asking::Asking;
 use clock_line::Lines;
 use msg_code::{Control, State};
-use plan_types::{Listed, Machine};
-use report_text::ReportLine;
+use plan_types::Listed;
 use std::alloc::Global;
 
 /// Whether no section homes.
@@ -35,40 +32,57 @@ fn is_none(numbers: &[u64]) -> bool
     }
 }
 
-/// Whether no block with an asking for a clock was put on a line.
-fn none_put(states: &[State]) -> bool
-    ensures { result ≡ none_put states.now }
+/// Whether a link has its memory, its board is not shut down, and no asking for a clock was put on its line.
+fn says_none(state: &State) -> bool
+    ensures { result ≡ says_none state.now }
+{
+    !state.out && state.shut.is_none() && is_none(state.asked.as_slice())
+}
+
+/// Whether all links say none of this.
+fn all_say_none(states: &[State]) -> bool
+    ensures { result ≡ all_say_none states.now }
 {
     match states {
         [] => true,
-        [first, rest @ ..] => is_none(first.asked.as_slice()) && none_put(rest),
+        [first, rest @ ..] => says_none(first) && all_say_none(rest),
     }
 }
 
-/// Whether some board that drifts is asked in a turn.
-fn asks_some(m: &Machine, k: u64) -> bool
-    ensures { result ≡ asks_some m.now k }
+/// Whether a section's line stands in a turn.
+fn tells_start(k: u64, begun: &Option<Begun>) -> bool
+    ensures { result ≡ tells_start k begun.now }
 {
-    any_drifts(m.boards.as_slice()) && k % 1_000 == 0
+    match begun {
+        None => false,
+        Some(begun) => begun.turn == k,
+    }
 }
 
-/// Whether the run goes on, no asking is out and none begins, and nothing homes.
-pub fn is_calm(m: &Machine, r: &Known, k: u64, states: &[State]) -> bool
-    ensures { result ≡ is_calm m.now r.now k states.now }
+/// Whether the run goes on, no asking is out and none begins, nothing homes, and nothing but pulses is told.
+pub fn is_calm(r: &Known, k: u64, states: &[State]) -> bool
+    ensures { result ≡ is_calm r.now k states.now }
 {
-    is_quiet(r) && homes_none(&r.homing) && none_put(states) && !asks_some(m, k)
+    is_quiet(r)
+        && homes_none(&r.homing)
+        && r.stopped.is_none()
+        && !tells_start(k, &r.begun)
+        && all_say_none(states)
+        && k % 1_000 != 0
 }
 
-/// Adds a control without commands for each board.
-fn put_calm(
+/// The controls of a calm turn. They stand in a list whose room is used again.
+pub fn calm_controls(
     alloc: Global,
     k: u64,
     clocks: &[Lines],
     askings: &[Asking],
-    out: &mut Listed<Control>,
-) -> Result<(), OutOfMemory>
-    ensures { OnOk result (out.new ≡ out.old ++ calm_controls k clocks.now askings.now) }
+    room: Vec<Control>,
+) -> Result<Listed<Control>, OutOfMemory>
+    ensures { IfOk result (λ c. c ≡ calm_controls k clocks.now askings.now) }
 {
+    let mut out = room;
+    out.clear();
     let mut lines = clocks;
     let mut rest = askings;
     while let [_first, behind @ ..] = rest {
@@ -83,33 +97,5 @@ fn put_calm(
         }
         rest = behind;
     }
-    Ok(())
-}
-
-/// What a calm turn gives. The controls stand in a list whose room is used again.
-pub fn calm_turn(
-    alloc: Global,
-    k: u64,
-    r: &Known,
-    lines: Listed<ReportLine>,
-    room: Vec<Control>,
-) -> Result<Ordered, OutOfMemory>
-    ensures { IfOk result (λ o. o ≡ given k (calm_controls k r.now.clocks r.now.askings.items) [] lines None) }
-{
-    let mut room = room;
-    room.clear();
-    let mut controls = Listed::of(room);
-    put_calm(
-        alloc,
-        k,
-        r.clocks.as_slice(),
-        r.askings.as_slice(),
-        &mut controls,
-    )?;
-    Ok(Ordered {
-        controls,
-        word: no_word(alloc, k, false),
-        lines,
-        end: None,
-    })
+    Ok(Listed::of(out))
 }

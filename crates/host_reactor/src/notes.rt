@@ -1,6 +1,6 @@
 //! What the motion machine's notes tell.
 
-ghost use Rattle.std.specs.Prelude.{◌≡◌, ◌≤◌, length, OnOk};
+ghost use Rattle.std.specs.Prelude.{◌≡◌, ◌≤◌, [], true, false, length, OnOk};
 ghost use Rattle.axis_homing.specs.Homing.{StartsTogether};
 ghost use Rattle.host_reactor.specs.Notes.{known_behind, told_all, noted, news_of, is_out};
 
@@ -97,4 +97,13 @@ pub fn is_out(note: &Option<Note>) -> bool
         None => false,
         Some(note) => note.out,
     }
+}
+
+/// Whether a note tells nothing, and no news may come earlier than was told before.
+pub fn is_plain(note: &Note, clear: u64) -> bool
+    ensures news { result ≡ true → note.now.news ≡ [] }
+    ensures out { result ≡ true → note.now.out ≡ false }
+    ensures clear { result ≡ true → clear ≤ note.now.clear }
+{
+    note.news.is_empty() && !note.out && clear <= note.clear
 }

@@ -20,7 +20,7 @@ use board_asking::{
     put_lines, ready_all, stale,
 };
 use msg_code::{Control, NoteNews, State, WordMsg, WordNews};
-use plan_types::{BoardDef, Cause, Line, Listed, Machine};
+use plan_types::{BoardDef, Cause, Listed, Machine};
 use report_text::ReportLine;
 use std::alloc::Global;
 
@@ -122,13 +122,6 @@ fn ask_boards(
         lines,
         end: None,
     })
-}
-
-/// The same lines once more.
-fn copied(alloc: Global, lines: &[Line]) -> Result<Listed<Line>, OutOfMemory>
-    ensures { IfOk result (λ l. l ≡ lines.now) }
-{
-    Ok(Listed::of(lines.to_vec(alloc)?))
 }
 
 /// Connecting ended in this turn.
@@ -235,7 +228,6 @@ fn by_phase(
     k: u64,
     states: &[State],
     lines: Listed<ReportLine>,
-    room: Vec<Control>,
 ) -> Result<Ordered, OutOfMemory>
     requires valid { IsValidMachine setting.now.machine.now }
     requires few { k < 2 ^ 59 }
@@ -252,7 +244,7 @@ fn by_phase(
 {
     match r.phase {
         Phase::Connecting => connect(setting.alloc, setting.machine, r, k, states, lines),
-        Phase::Running => run(setting, r, k, states, lines, room),
+        Phase::Running => run(setting, r, k, states, lines),
         Phase::Stopping(line) => stop_turn(
             setting.alloc,
             setting.machine,
@@ -265,7 +257,8 @@ fn by_phase(
     }
 }
 
-/// A turn behind its note. The room of a list is used again.
+/// A turn behind its note. Its locals are large, so it stands apart from the turns that are calm.
+#[inline(never)]
 pub fn react(
     setting: &Setting<'_>,
     r: &mut Known,
@@ -273,7 +266,6 @@ pub fn react(
     states: &[State],
     news: &[NoteNews],
     out: bool,
-    room: Vec<Control>,
 ) -> Result<Ordered, OutOfMemory>
     requires valid { IsValidMachine setting.now.machine.now }
     requires few { k < 2 ^ 59 }
@@ -291,5 +283,5 @@ pub fn react(
     if let Some(cause) = first_cause(out, r.stopped, states) {
         return end(setting.alloc, setting.machine, k, lines, cause, r);
     }
-    by_phase(setting, r, k, states, lines, room)
+    by_phase(setting, r, k, states, lines)
 }

@@ -1,19 +1,22 @@
 //! The reactor of a run.
 
-ghost use Rattle.std.specs.Prelude.{◌≡◌, ℕ, ◌+◌, ◌<◌, ◌≤◌, ◌^◌, ◌++◌, true, length, All, OnOk, IfOk};
+ghost use Rattle.std.specs.Prelude.{◌≡◌, ℕ, ◌+◌, ◌<◌, ◌≤◌, ◌^◌, ◌++◌, [], true, None, length, All, OnOk, IfOk, IfSome, IfNone};
 ghost use Rattle.arrayvec.specs.ArrayVec.{array_vec_len};
 ghost use Rattle.plan_types.specs.Machines.{IsValidMachine};
 ghost use Rattle.axis_homing.specs.Homing.{StartsTogether};
 ghost use Rattle.host_reactor.specs.Free.{free_turns, IsAtRest};
 ghost use Rattle.board_asking.specs.Kept.{IsEarly};
 ghost use Rattle.host_reactor.specs.Kept.{HasAskings};
+ghost use Rattle.host_reactor.specs.Notes.{news_of};
 ghost use Rattle.host_reactor.specs.Reactor.{Run, first_run, new_askings, new_known, reacts, stopped_by};
 
 use crate::OutOfMemory;
+use crate::calm::{calm_controls, is_calm};
 use crate::free::free_turns;
-use crate::notes::{is_out, news_of, take_note};
+use crate::notes::{is_out, is_plain, news_of, take_note};
 use crate::ordered::{Known, Ordered, Phase, Setting};
-use crate::react::react;
+use crate::react::{no_word, react};
+use crate::report::pulses_told;
 use arrayvec::ArrayVec;
 use board_asking::{AllClocks, Asking, new_asking};
 use msg_code::{Control, Note, State};
@@ -97,7 +100,6 @@ impl<'a> Reactor<'a> {
         take_note(self.setting.machine, &mut self.known, note)?;
         let out = is_out(note);
         self.next = k + 1;
-        let room = mem::replace(&mut self.room, Vec::new(self.setting.alloc));
         react(
             &self.setting,
             &mut self.known,
@@ -105,8 +107,54 @@ impl<'a> Reactor<'a> {
             states,
             news_of(note),
             out,
+        )
+    }
+
+    /// The next turn, where nothing is ordered in it, nothing but pulses is told, and nothing ends. None where it is
+    /// another turn, or memory was wanted: then nothing happened.
+    #[tactic(auto, using(crate::proofs::Unmoved::calm_known, crate::proofs::Unmoved::calm_ordered, crate::proofs::Unmoved::left_free))]
+    pub fn calm_turn(&mut self, k: u64, states: &[State], note: &Option<Note>) -> Option<Ordered>
+        requires next { k ≡ self.old.next }
+        requires few { k < 2 ^ 59 }
+        requires boards { length states.now ≤ length self.old.machine.boards }
+        ensures known { IfSome result (λ o.
+            self.new.known ≡ (reacts self.old.machine self.old.switches self.old.known k states.now note.now).known) }
+        ensures ordered { IfSome result
+            (λ o. o ≡ (reacts self.old.machine self.old.switches self.old.known k states.now note.now).ordered) }
+        ensures next { IfSome result (λ o. self.new.next ≡ k + 1) }
+        ensures machine { self.new.machine ≡ self.old.machine }
+        ensures switches { self.new.switches ≡ self.old.switches }
+        ensures goes_on { IfSome result (λ o. o.end ≡ None) }
+        ensures news { IfSome result (λ o. news_of note.now ≡ []) }
+        ensures free { IfSome result (λ o. free_turns self.old.machine self.old.known k
+            ≤ free_turns self.new.machine self.new.known (k + 1) + 1) }
+        ensures none { IfNone result (self.new ≡ self.old) }
+    {
+        let Some(note) = note else {
+            return None;
+        };
+        if !is_plain(note, self.known.clear) || !is_calm(&self.known, k, states) {
+            return None;
+        }
+        let alloc = self.setting.alloc;
+        let lines = pulses_told(alloc, self.setting.machine, states).ok()?;
+        let room = mem::replace(&mut self.room, Vec::new(alloc));
+        let controls = calm_controls(
+            alloc,
+            k,
+            self.known.clocks.as_slice(),
+            self.known.askings.as_slice(),
             room,
         )
+        .ok()?;
+        self.known.clear = note.clear;
+        self.next = k + 1;
+        Some(Ordered {
+            controls,
+            word: no_word(alloc, k, false),
+            lines,
+            end: None,
+        })
     }
 
     /// Whether a turn is the next one, and there are not too many.

@@ -11,7 +11,6 @@ ghost use Rattle.host_reactor.specs.Reactor.{homing_commands, run_control, run_c
 ghost use Rattle.axis_homing.specs.Homing.{homing_turn};
 
 use crate::OutOfMemory;
-use crate::calm::{calm_turn, is_calm};
 use crate::ordered::{Known, Ordered, Phase, Setting};
 use crate::react::end;
 use crate::report::put_counts;
@@ -292,9 +291,8 @@ fn take_homing(r: &mut Known, k: u64, states: &[State]) -> HomingTurn
     turn
 }
 
-/// A running turn in which the boards are heard. Its locals are large, so it stands apart from the turns that are calm.
-#[inline(never)]
-fn run_on(
+/// A running turn.
+pub fn run(
     setting: &Setting<'_>,
     r: &mut Known,
     k: u64,
@@ -317,30 +315,4 @@ fn run_on(
     }
     let turn = take_homing(r, k, states);
     behind_homing(setting, r, k, states, lines, askings.as_slice(), &turn)
-}
-
-/// A running turn.
-#[tactic(auto, using(crate::proofs::Unmoved::calm_known, crate::proofs::Unmoved::calm_ordered))]
-pub fn run(
-    setting: &Setting<'_>,
-    r: &mut Known,
-    k: u64,
-    states: &[State],
-    lines: Listed<ReportLine>,
-    room: Vec<Control>,
-) -> Result<Ordered, OutOfMemory>
-    requires valid { IsValidMachine setting.now.machine.now }
-    requires numbers { length states.now ≤ 8 }
-    requires turns { All (λ s. s.turn < 2 ^ 59) states.now }
-    requires kept { HasAskings setting.now.machine.now r.old }
-    ensures kept { HasAskings setting.now.machine.now r.new }
-    ensures known { OnOk result
-        (r.new ≡ (runs setting.now.machine.now setting.now.scene.now.switches r.old k states.now lines).known) }
-    ensures ordered { IfOk result
-        (λ o. o ≡ (runs setting.now.machine.now setting.now.scene.now.switches r.old k states.now lines).ordered) }
-{
-    if is_calm(setting.machine, r, k, states) {
-        return calm_turn(setting.alloc, k, r, lines, room);
-    }
-    run_on(setting, r, k, states, lines)
 }

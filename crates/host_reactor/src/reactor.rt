@@ -128,6 +128,8 @@ impl<'a> Reactor<'a> {
         ensures news { IfSome result (λ o. news_of note.now ≡ []) }
         ensures free { IfSome result (λ o. free_turns self.old.machine self.old.known k
             ≤ free_turns self.new.machine self.new.known (k + 1) + 1) }
+        ensures rest { IfSome result (λ o. (n : ℕ) → n + 1 ≤ free_turns self.old.machine self.old.known k →
+            IsAtRest self.old.machine self.old.known k (n + 1)) }
         ensures none { IfNone result (self.new ≡ self.old) }
     {
         let Some(note) = note else {

@@ -1,8 +1,9 @@
 -- What the reactor orders stands in a row of the run.
-use Rattle.std.proofs.Common.{◌≡◌, ◌<◌, ℕ, zero, suc, Bool, true, false, List, [], ◌∷◌, Option, Some, None, length, get_or, is_some, refl, sym, ap, ◌∙◌, subst, arith}
+use Rattle.std.proofs.Common.{◌≡◌, ℕ, zero, suc, Bool, List, [], ◌∷◌, Option, Some, None, length, is_some, refl, sym, ap, ◌∙◌, subst, arith}
 use Rattle.plan_types.specs.declared.cause.Cause.{Cause}
 use Rattle.msg_code.specs.declared.talk.Note.{Note}
 use Rattle.msg_code.specs.declared.talk.State.{State}
+use Rattle.msg_code.specs.declared.talk.WordMsg.{WordMsg}
 use Rattle.msg_code.specs.declared.unit.Control.{Control}
 use Rattle.host_reactor.specs.declared.ordered.Ordered.{Ordered}
 use Rattle.host_reactor.specs.Reactor.{Run, is_end}
@@ -36,14 +37,15 @@ module _ (x : Run) (k : ℕ) (states : List State) (note : Option Note) (o : Ord
         subst (λ (l : List Control). AreOf (λ c. c.turn) k l) (sym same) (are-of k (is_end o.end) o.controls r.controls),
       )
 
-  pub word : o.word.turn ≡ k
-  word = (row x k states note o w e).turn
+  pub word : (said : WordMsg) → said ≡ o.word → said.turn ≡ k
+  word said same = ap (λ (l : WordMsg). l.turn) same ∙ (row x k states note o w e).turn
 
-  pub last : (cs : List Control) → cs ≡ o.controls → (o.word.end ≡ is_some o.end) × AllEnd (is_some o.end) cs
-  last cs same =
-      let r = row x k states note o w e in (
-        r.end ∙ ending o.end,
-        subst (λ (l : List Control). AllEnd (is_some o.end) l) (sym same) (subst (λ b. AllEnd b o.controls) (ending o.end) (all-end k (is_end o.end) o.controls r.controls)),
+  pub last : (cs : List Control) → cs ≡ o.controls → (said : WordMsg) → said ≡ o.word → (end : Option Cause) → end ≡ o.end → (said.end ≡ is_some end) × AllEnd (is_some end) cs
+  last cs same said word_is end end_is =
+      let r = row x k states note o w e in
+      let ends = ending o.end ∙ ap (λ (c : Option Cause). is_some c) (sym end_is) in (
+        ap (λ (l : WordMsg). l.end) word_is ∙ r.end ∙ ends,
+        subst (λ (l : List Control). AllEnd (is_some end) l) (sym same) (subst (λ b. AllEnd b o.controls) ends (all-end k (is_end o.end) o.controls r.controls)),
       )
 
 pub whole : (x y : Run) (k : ℕ) (states : List State) (note : Option Note) → HasEachBoard x.machine x.known → y.machine ≡ x.machine → y.known ≡ (reacted x k states note).known → HasEachBoard y.machine y.known

@@ -6,7 +6,7 @@ use Rattle.msg_code.specs.declared.talk.WordMsg.{WordMsg}
 use Rattle.msg_code.specs.declared.unit.Control.{Control}
 use Rattle.plan_types.specs.declared.cause.Cause.{Cause}
 use Rattle.report_text.specs.declared.line.ReportLine.{ReportLine}
-use Rattle.host_reactor.specs.Free.{free_turns, IsAtRest}
+use Rattle.host_reactor.specs.Free.{free_turns}
 use Rattle.host_reactor.specs.Reactor.{Run, Reacted, reacts, stopped_by}
 use Rattle.host_reactor.specs.Rows.{HasEachBoard}
 
@@ -37,8 +37,3 @@ Stops x cause y = y ≡ record x { known = stopped_by cause x.known }
 -- is out or falls due, no homing section gets its first controls, and no note begins or ends a section
 abbrev pub IsFree : Run → ℕ → ℕ → Type 0
 IsFree x k n = (n ≡ 0) ⊎ ((k ≡ x.next) × (n ≤ free_turns x.machine x.known k))
-
--- a reactor is free for so many turns from its next one on, and rests in each of them
-abbrev pub IsFreeFor : Run → ℕ → Type 0
-IsFreeFor x n =
-    (n ≡ free_turns x.machine x.known x.next) × ((i : ℕ) → i + 1 ≤ n → IsAtRest x.machine x.known x.next (i + 1))

@@ -1,9 +1,8 @@
 //! The reactor, as a run drives it.
-ghost use Rattle.std.specs.Prelude.{◌≡◌, ◌+◌, ◌^◌, ◌<◌, ◌≤◌, ℕ, true, None, IfSome};
+ghost use Rattle.std.specs.Prelude.{◌≡◌, ◌+◌, ◌<◌, ◌≤◌, true, None};
 ghost use Rattle.host_reactor.specs.Notes.{are_lines, news_of};
 ghost use Rattle.host_reactor.specs.Reactor.{first_run};
 ghost use Rattle.plan_types.specs.Machines.{IsValidMachine};
-ghost use Rattle.session_run.specs.Reactors.{IsFreeFor};
 
 use host_reactor::{Reactor, orders_stand_in_rows};
 use msg_code::{Control, Note, NoteNews, State};
@@ -18,23 +17,18 @@ use wire_scene::Scene;
 pub struct Host<'a> {
     reactor: Reactor<'a>,
     live: bool,
-    /// For how many turns the reactor is free, where that is known.
-    free: Option<u64>,
 }
 
 impl<'a> Model for Host<'a> {
     ghost use Rattle.std.specs.Prelude.{◌≡◌, true};
-    ghost use Rattle.std.specs.Prelude.{IfSome};
     ghost use Rattle.host_reactor.specs.Reactor.{Run};
     ghost use Rattle.host_reactor.specs.Rows.{HasEachBoard};
-    ghost use Rattle.session_run.specs.Reactors.{IsFreeFor};
 
     ghost Value = { Run };
 
     ghost view = { λ h. h.reactor };
 
-    ghost invariant = { λ h.
-        (h.live ≡ true → HasEachBoard h.reactor.machine h.reactor.known) × IfSome h.free (λ n. IsFreeFor h.reactor n) };
+    ghost invariant = { λ h. h.live ≡ true → HasEachBoard h.reactor.machine h.reactor.known };
 }
 
 impl<'a> Host<'a> {
@@ -47,20 +41,7 @@ impl<'a> Host<'a> {
         Host {
             reactor: Reactor::new(alloc, machine, scene),
             live: true,
-            free: None,
         }
-    }
-}
-
-/// For how many turns a reactor is free, which may be known.
-fn free_of(reactor: &Reactor<'_>, known: Option<u64>) -> u64
-    requires next { reactor.now.next < 2 ^ 60 }
-    requires known { IfSome known (λ n. IsFreeFor reactor.now n) }
-    ensures { IsFreeFor reactor.now result }
-{
-    match known {
-        Some(n) => n,
-        None => reactor.free(),
     }
 }
 
@@ -92,6 +73,21 @@ fn stays_free(end: &Option<Cause>, calm: bool, before: u64, behind: u64) -> bool
     end.is_some() || before == 0 || (calm && before - 1 <= behind)
 }
 
+/// What a reactor ordered, as its thread takes it.
+fn order(ordered: host_reactor::Ordered) -> Ordered
+    ensures controls { result.controls.items ≡ ordered.controls }
+    ensures word { result.word ≡ ordered.word }
+    ensures lines { result.lines ≡ ordered.lines }
+    ensures end { result.end ≡ ordered.end }
+{
+    Ordered {
+        controls: ordered.controls.into_vec(),
+        word: ordered.word,
+        lines: ordered.lines,
+        end: ordered.end,
+    }
+}
+
 impl<'a> ReactorMachine for Host<'a> {
     ghost use Rattle.std.specs.Prelude.{◌≡◌, length};
     ghost use Rattle.session_run.specs.Reactors.{CanTurnReactor, IsFree, Stops, TurnsReactor};
@@ -114,7 +110,7 @@ impl<'a> ReactorMachine for Host<'a> {
         if !self.reactor.can_turn(k) {
             return 0;
         }
-        most.min(free_of(&self.reactor, self.free))
+        most.min(self.reactor.free())
     }
 
     fn turn(
@@ -123,10 +119,12 @@ impl<'a> ReactorMachine for Host<'a> {
         states: &[State],
         note: &Option<Note>,
     ) -> Result<Ordered, AllocError> {
-        self.live = false;
+        if let Some(ordered) = self.reactor.calm_turn(k, states, note) {
+            return Ok(order(ordered));
+        }
         let calm = is_calm(note);
-        let before = free_of(&self.reactor, self.free);
-        self.free = None;
+        let before = self.reactor.free();
+        self.live = false;
         let ordered = self.reactor.turn(k, states, note)?;
         let behind = self.reactor.free();
         // The motion machine's notes tell of no section in free turns: that is its law of clear turns.
@@ -134,13 +132,7 @@ impl<'a> ReactorMachine for Host<'a> {
             return Err(AllocError);
         }
         self.live = true;
-        self.free = Some(behind);
-        Ok(Ordered {
-            controls: ordered.controls.into_vec(),
-            word: ordered.word,
-            lines: ordered.lines,
-            end: ordered.end,
-        })
+        Ok(order(ordered))
     }
 
     fn give_back(&mut self, room: Vec<Control>) {
@@ -148,7 +140,6 @@ impl<'a> ReactorMachine for Host<'a> {
     }
 
     fn stop(&mut self, cause: Cause) {
-        self.free = None;
         self.reactor.stop(cause);
     }
 }

@@ -135,7 +135,7 @@ pub fn tell_lines<S: Sink>(
     ensures at { kept.new.at ≡ kept.old.at }
     ensures unread { kept.new.unread ≡ kept.old.unread }
 {
-    if kept.unwritten.is_some() {
+    if lines.is_empty() || kept.unwritten.is_some() {
         return;
     }
     kept.unwritten = say(

@@ -32,7 +32,7 @@ use Rattle.host_reactor.specs.Report.{first_lines, pulse_lines, section_line}
 use Rattle.host_reactor.specs.Running.{all_ended, all_idle, any_out, first_cause, is_finished, late, late_of, or_cause, stop_of}
 use Rattle.host_reactor.specs.Reactor.{Reacted, given, homing_commands, run_controls, run_askings, carries_on, finishes, homes, unless_stale, runs, by_phase, unless_ended, reacts_to, reacts}
 use Rattle.host_reactor.specs.Free.{is_running, all_rest, any_drifts, is_quiet, before_homing, before_asking, clear_turns, free_turns, Resting, AsksNone}
-use Rattle.host_reactor.specs.Calm.{homes_none, is_none, says_none, all_say_none, tells_start, is_calm, calm_controls}
+use Rattle.host_reactor.specs.Calm.{homes_none, is_none, says_none, all_say_none, tells_start, is_still, is_calm, calm_controls}
 use Rattle.host_reactor.proofs.Resting.{picked, listens-put, none-stale, waits-same, none-new}
 use Rattle.host_reactor.proofs.Freed.{all-resting, running-is}
 use Rattle.host_reactor.proofs.Idle.{no-question}
@@ -133,22 +133,22 @@ calms m r k states h =
     let b = not (k % 1_000 == 0) in
     let c = all_say_none states && b in
     let d = not (tells_start k r.begun) && c in
-    let e = not (is_some r.stopped) && d in
+    let e = not (is_some r.stopped) in
     let f = homes_none r.homing && e in
-    let quiet = first_of_both (is_quiet r) f h in
+    let still = first_of_both (is_still r) d h in
+    let hd = second_of_both (is_still r) d h in
+    let quiet = first_of_both (is_quiet r) f still in
     let rests = second_of_both (is_running r.phase) (all_rest r.askings.items && not (all_ended r.done r.reading)) quiet in
-    let he = second_of_both (is_quiet r) f h in
-    let hd = second_of_both (homes_none r.homing) e he in
-    let hc = second_of_both (not (is_some r.stopped)) d hd in
-    let hb = second_of_both (not (tells_start k r.begun)) c hc in
+    let he = second_of_both (is_quiet r) f still in
+    let hb = second_of_both (not (tells_start k r.begun)) c hd in
     let turn = not_true (k % 1_000 == 0) (second_of_both (all_say_none states) b hb) in
     record {
       phase = running-is r.phase (first_of_both (is_running r.phase) (all_rest r.askings.items && not (all_ended r.done r.reading)) quiet);
       resting = all-resting r.askings.items (first_of_both (all_rest r.askings.items) (not (all_ended r.done r.reading)) rests);
       going = not_true (all_ended r.done r.reading) (second_of_both (all_rest r.askings.items) (not (all_ended r.done r.reading)) rests);
       homing = homes-is r.homing (first_of_both (homes_none r.homing) e he);
-      stopped = untold r.stopped (first_of_both (not (is_some r.stopped)) d hd);
-      start = not_true (tells_start k r.begun) (first_of_both (not (tells_start k r.begun)) c hc);
+      stopped = untold r.stopped (second_of_both (homes_none r.homing) e he);
+      start = not_true (tells_start k r.begun) (first_of_both (not (tells_start k r.begun)) c hd);
       said = first_of_both (all_say_none states) b hb;
       first = not-first k turn;
       asking = none-asked m k turn;

@@ -34,11 +34,14 @@ abbrev pub tells_start : ℕ → Option Begun → Bool
 tells_start k None = false
 tells_start k (Some b) = b.turn == k
 
--- the run goes on, no asking is out and none begins, nothing homes, and nothing but pulses is told
+-- the run goes on, no asking is out, nothing homes, and no end was told
+abbrev pub is_still : Known → Bool
+is_still r = is_quiet r && (homes_none r.homing && not (is_some r.stopped))
+
+-- the reactor is still, no asking begins, and nothing but pulses is told
 abbrev pub is_calm : Known → ℕ → List State → Bool
 is_calm r k states =
-    is_quiet r && (homes_none r.homing && (not (is_some r.stopped)
-    && (not (tells_start k r.begun) && (all_say_none states && not (k % 1_000 == 0)))))
+    is_still r && (not (tells_start k r.begun) && (all_say_none states && not (k % 1_000 == 0)))
 
 -- the controls of a calm turn
 abbrev pub calm_controls : ℕ → List Clocks → List Asking → List Control

@@ -1,7 +1,7 @@
 //! A running turn in which nothing is ordered, nothing but pulses is told, and what is known stays as it is.
 
-ghost use Rattle.std.specs.Prelude.{◌≡◌, IfOk};
-ghost use Rattle.host_reactor.specs.Calm.{homes_none, is_none, says_none, all_say_none, tells_start, is_calm, calm_controls};
+ghost use Rattle.std.specs.Prelude.{◌≡◌, true, IfOk};
+ghost use Rattle.host_reactor.specs.Calm.{homes_none, is_none, says_none, all_say_none, tells_start, is_still, is_calm, calm_controls};
 
 use crate::OutOfMemory;
 use crate::free::is_quiet;
@@ -59,16 +59,19 @@ fn tells_start(k: u64, begun: &Option<Begun>) -> bool
     }
 }
 
-/// Whether the run goes on, no asking is out and none begins, nothing homes, and nothing but pulses is told.
+/// Whether the run goes on, no asking is out, nothing homes, and no end was told.
+pub fn is_still(r: &Known) -> bool
+    ensures { result ≡ is_still r.now }
+{
+    is_quiet(r) && homes_none(&r.homing) && r.stopped.is_none()
+}
+
+/// Whether no asking begins where the reactor is still, and nothing but pulses is told.
 pub fn is_calm(r: &Known, k: u64, states: &[State]) -> bool
+    requires { is_still r.now ≡ true }
     ensures { result ≡ is_calm r.now k states.now }
 {
-    is_quiet(r)
-        && homes_none(&r.homing)
-        && r.stopped.is_none()
-        && !tells_start(k, &r.begun)
-        && all_say_none(states)
-        && k % 1_000 != 0
+    !tells_start(k, &r.begun) && all_say_none(states) && k % 1_000 != 0
 }
 
 /// The controls of a calm turn. They stand in a list whose room is used again.

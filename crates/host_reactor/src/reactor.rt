@@ -11,7 +11,7 @@ ghost use Rattle.host_reactor.specs.Notes.{news_of};
 ghost use Rattle.host_reactor.specs.Reactor.{Run, first_run, new_askings, new_known, reacts, stopped_by};
 
 use crate::OutOfMemory;
-use crate::calm::{calm_controls, is_calm};
+use crate::calm::{calm_controls, is_calm, is_still};
 use crate::free::free_turns;
 use crate::notes::{is_out, is_plain, news_of, take_note};
 use crate::ordered::{Known, Ordered, Phase, Setting};
@@ -38,11 +38,15 @@ pub struct Reactor<'a> {
     next: u64,
     /// The list of an earlier turn's controls, whose room the next one uses.
     room: Vec<Control>,
+    /// Whether it is known that the run goes on, no asking is out, nothing homes, and no end was told.
+    still: bool,
 }
 
 impl<'a> Model for Reactor<'a> {
     ghost use Rattle.plan_types.specs.Machines.{IsValidMachine};
     ghost use Rattle.axis_homing.specs.Homing.{StartsTogether};
+    ghost use Rattle.std.specs.Prelude.{◌≡◌, true};
+    ghost use Rattle.host_reactor.specs.Calm.{is_still};
     ghost use Rattle.host_reactor.specs.Free.{free_turns, IsAtRest};
     ghost use Rattle.host_reactor.specs.Kept.{HasAskings};
     ghost use Rattle.host_reactor.specs.Reactor.{Run};
@@ -56,7 +60,8 @@ impl<'a> Model for Reactor<'a> {
       next = r.next;
     } };
 
-    ghost invariant = { λ r. IsValidMachine r.setting.machine.now × HasAskings r.setting.machine.now r.known };
+    ghost invariant = { λ r. IsValidMachine r.setting.machine.now × HasAskings r.setting.machine.now r.known
+        × (r.still ≡ true → is_still r.known ≡ true) };
 }
 
 impl<'a> Reactor<'a> {
@@ -74,6 +79,7 @@ impl<'a> Reactor<'a> {
             known: new_known(alloc, m),
             next: 0,
             room: Vec::new(alloc),
+            still: false,
         }
     }
 
@@ -97,6 +103,7 @@ impl<'a> Reactor<'a> {
         ensures machine { self.new.machine ≡ self.old.machine }
         ensures switches { self.new.switches ≡ self.old.switches }
     {
+        self.still = false;
         take_note(self.setting.machine, &mut self.known, note)?;
         let out = is_out(note);
         self.next = k + 1;
@@ -135,7 +142,10 @@ impl<'a> Reactor<'a> {
         let Some(note) = note else {
             return None;
         };
-        if !is_plain(note, self.known.clear) || !is_calm(&self.known, k, states) {
+        if !self.still {
+            self.still = is_still(&self.known);
+        }
+        if !self.still || !is_plain(note, self.known.clear) || !is_calm(&self.known, k, states) {
             return None;
         }
         let alloc = self.setting.alloc;
@@ -188,6 +198,7 @@ impl<'a> Reactor<'a> {
     pub fn stop(&mut self, cause: Cause)
         ensures { self.new ≡ record self.old { known = stopped_by cause self.old.known } }
     {
+        self.still = false;
         stop_by(&mut self.known, cause);
     }
 }

@@ -7,6 +7,7 @@ pub mod Opening
 pub mod Hearing
 pub mod Ending
 pub mod Turning
+pub mod Quiet
 pub mod Laying
 pub mod Wholing
 pub mod Bounding

@@ -1,5 +1,5 @@
 -- Up to which turn the notes begin and end no section.
-use Rattle.std.specs.Prelude.{◌≡◌, ◌⊎◌, ℕ, ◌+◌, ◌-◌, ◌/◌, ◌<◌, ◌≤◌, ◌&&◌, ◌||◌, All, Bool, true, false, List, [], ◌∷◌, ◌++◌, is_some, max, min, nat_lt, Some, None, if◌then◌else◌}
+use Rattle.std.specs.Prelude.{◌≡◌, ◌⊎◌, ℕ, ◌+◌, ◌-◌, ◌/◌, ◌<◌, ◌≤◌, ◌&&◌, ◌||◌, All, Bool, true, false, List, [], ◌∷◌, ◌++◌, is_none, is_some, not, max, min, nat_lt, Some, None, if◌then◌else◌}
 use Rattle.gcode_program.specs.declared.items.Item.{Item}
 use Rattle.gcode_program.specs.declared.items.Item.TheVariants as items
 use Rattle.gcode_program.specs.Programs.{program_sections}
@@ -42,6 +42,10 @@ idle_clear c =
     then (if (is_nothing_left c.source.items.items && is_some c.source.end) && c.read then never
     else max (next_begin c.ready c.source.items.items) c.next)
     else c.next)
+
+-- it is not told in the next turn how the text was read
+abbrev pub tells_nothing : Course → Bool
+tells_nothing c = c.read || (c.goes || (is_none c.source.end || not (is_nothing_left c.source.items.items)))
 
 -- The first turn whose note may begin or end a section: of a homing section its start; of a section of moves
 -- the turn in which those end that are settled.

@@ -210,7 +210,7 @@ fn section_clear(section: &SectionStream) -> u64
 }
 
 /// The first turn whose note may begin or end a section, where none goes on whose end is not known.
-fn idle_clear(course: &Course) -> u64
+pub fn idle_clear(course: &Course) -> u64
     ensures { result ≡ clear.idle_clear course.now }
 {
     if course.goes {

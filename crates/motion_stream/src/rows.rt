@@ -83,6 +83,28 @@ pub fn batches_of(
     Ok(made)
 }
 
+/// The batches of a turn in which no board has a unit, in a list whose room is used again.
+pub fn bare_batches(
+    alloc: Global,
+    boards: usize,
+    turn: u64,
+    room: Vec<Batch>,
+) -> Result<Vec<Batch>, OutOfMemory>
+    ensures value { IfOk result (λ made. made.items ≡ batches_of boards turn [] []) }
+    ensures turn { IfOk result (λ made. AreOfTurn turn boards made.items) }
+{
+    let mut made = room;
+    made.clear();
+    for _ in 0..boards {
+        made.push(Batch {
+            turn,
+            units: Listed::new(alloc),
+            end: false,
+        })?;
+    }
+    Ok(made)
+}
+
 /// The units of the next turn, none where none are there.
 pub fn next_row(alloc: Global, rows: &mut VecDeque<Row>) -> Row
     ensures row { result ≡ slice_index_or rows.old.items 0 [] }

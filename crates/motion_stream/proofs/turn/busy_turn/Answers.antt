@@ -6,7 +6,7 @@ use Rattle.motion_stream.specs.Courses.{IsCourseBy}
 use Rattle.motion_stream.specs.News.{HasPutAll, begins_in, read_news}
 use Rattle.motion_stream.specs.Steps.{Advances}
 use Rattle.motion_stream.proofs.Turning.{by_next, early_on, turned}
-use Rattle.motion_stream.proofs.turn.make_turn.Goals as goal
+use Rattle.motion_stream.proofs.turn.busy_turn.Goals as goal
 
 pub advance-requires-clause-sound : goal.advance-requires-clause-sound
 advance-requires-clause-sound c = by_next c.args.machine.now c.take_up.new.course c.args.k (c.take_up.ensures.next ∙ c.requires.next) c.in_ok-further.ensures.sound

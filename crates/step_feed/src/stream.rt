@@ -284,6 +284,10 @@ impl FeedStream {
         ensures slots { slots_of self.new ≡ slots_of self.old }
         ensures unchanged { OnErr result (self.new ≡ self.old) }
     {
+        if self.is_empty() {
+            self.next += 1;
+            return Ok(Vec::new(self.alloc));
+        }
         let mut units = Vec::with_capacity(self.alloc, MOST_UNITS)?;
         let mut used = 0;
         while let Some(unit) = self.release(lines, used) {

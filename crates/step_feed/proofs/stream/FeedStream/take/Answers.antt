@@ -1,5 +1,7 @@
-use Rattle.std.proofs.Common.{◌++◌, refl, ◌∙◌, arith}
+use Rattle.std.proofs.Common.{◌++◌, [], List, refl, sym, subst, ◌∙◌, arith}
+use Rattle.step_feed.specs.Fed.{IsStuck, releases_behind}
 use Rattle.step_feed.specs.Pacing.{at_turn}
+use Rattle.step_feed.specs.Units.{StepUnit}
 use Rattle.step_feed.proofs.Feds.{fed-turn, none-taken, one-more, one-longer}
 use Rattle.step_feed.proofs.stream.FeedStream.take.Goals as goal
 
@@ -34,14 +36,20 @@ loop-unit-preserved c =
       e.slots ∙ was.6,
     )
 
-pub overflow_add-self : goal.overflow_add-self
-overflow_add-self c =
+pub overflow_add-self-2 : goal.overflow_add-self-2
+overflow_add-self-2 c =
     let was = c.loop-unit.invariant in
     let e = c.in_default.ensures in
     let same = e.next in
     let n = was.1 in
     let t = c.requires.turn in
     omega arith
+
+pub returns-then-is_empty-clause-taken : goal.returns-then-is_empty-clause-taken
+returns-then-is_empty-clause-taken c = λ pushed released fed.
+    let s = c.args.self.now in
+    let stuck = subst (λ (w : List StepUnit). IsStuck c.args.lines.now s.slots s.next (releases_behind [] released) w) (sym (c.if-is_empty.ensures refl)) tt in
+    rw (c.new.ensures.items, none-taken released) (fed-turn c.args.lines.now s.slots s.next 0 s.rings.items s.waiting.items s.first pushed released stuck fed)
 
 pub returns-clause-taken : goal.returns-clause-taken
 returns-clause-taken c = λ pushed released fed.

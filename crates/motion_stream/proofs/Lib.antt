@@ -3,6 +3,7 @@ pub mod Taking
 pub mod Rowing
 pub mod Drawing
 pub mod Streaming
+pub mod Owning
 pub mod Opening
 pub mod Hearing
 pub mod Ending

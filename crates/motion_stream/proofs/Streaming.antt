@@ -7,7 +7,6 @@ use Rattle.msg_code.specs.declared.unit.Batch.{Batch}
 use Rattle.plan_types.specs.declared.machine.Machine.{Machine}
 use Rattle.plan_types.specs.declared.plan.Move.{Move}
 use Rattle.plan_types.specs.declared.plan.SectionKind.TheVariants.{Moves}
-use Rattle.plan_types.specs.Lines.{Clocks}
 use Rattle.plan_types.specs.Sections.{for_each_stepper, latest, section_end, stepper_end, is_home}
 use Rattle.section_feed.specs.declared.section.SectionStream.{SectionStream}
 use Rattle.section_feed.specs.Going.{IsPackedTo}
@@ -36,7 +35,7 @@ use Rattle.motion_stream.specs.declared.course.Open.TheVariants as opens
 use Rattle.motion_stream.proofs.Laid.{laid_later, laid_more}
 use Rattle.section_feed.proofs.Laid.{section-laid}
 use Rattle.motion_stream.specs.Courses.{AreAhead, IsConnected, IsCourseBy, BeginsNoEarlier, IsGoing, IsGoingOn, IsLaid, GoesAs, MovesOn, KnowsConnecting, row_at}
-use Rattle.motion_stream.specs.Gone.{HasEnded, HasGivenRows, released_in}
+use Rattle.motion_stream.specs.Gone.{HasDrawn, HasEnded, HasGivenRows, released_in}
 use Rattle.motion_stream.specs.Rows.{AreJoined, batches_of, units_in}
 use Rattle.motion_stream.specs.Motions.{started_until}
 use Rattle.motion_stream.specs.Seen.{AreWhole, EndsBy, Going, IsContinued, Seen, count_of, items_read, moves_end}
@@ -46,7 +45,7 @@ use Rattle.motion_stream.proofs.Drawing.{IsKept, ahead_next, batches_are, behind
 use Rattle.motion_stream.proofs.Rowing.{no_row}
 use Rattle.motion_stream.proofs.Taking.{same_released, section_on}
 use Rattle.section_stream.specs.Steppers.{StepperKind}
-use Rattle.plan_types.proofs.Facts.{true_false, none_some, some_same}
+use Rattle.plan_types.proofs.Facts.{none_some, some_same}
 
 -- whole sections of one that goes on
 pub record IsLast (m : Machine) (next : ℕ) (begun : List Started) (g : Going) (all : List Started) : Type 0 where
@@ -136,13 +135,6 @@ more_released g k own b = g.released b ++ at_turn k (slice_index_or own b [])
 
 abbrev pub going_more : Going → ℕ → List (List StepUnit) → Going
 going_more g k own = record { kind = g.kind; dwell = g.dwell; start = g.start; moves = g.moves; goes = g.goes; last = g.last; moving = g.moving; released = more_released g k own }
-
--- a section behind a turn whose units it gave
-pub record HasDrawn (old new : SectionStream) (k : ℕ) (own : List (List StepUnit)) : Type 0 where
-  pub on : (m : Machine) (clocks : List Clocks) (start : ℕ) (homing : Bool) (moves : List Move) (released : ℕ → List Release) → IsSectionOn m clocks start homing old moves released → IsSectionOn m clocks start homing new moves (λ b. released b ++ at_turn k (slice_index_or own b []))
-  pub takes : is_taking (queue_of new) ≡ is_taking (queue_of old)
-  pub next : next_of new ≡ k + 1
-  pub rested : AreAllRested (next_of new + 250) (boards_in new)
 
 -- what it has behind it, it has before it
 drawn_sooner : (m : Machine) (k next : ℕ) (g : Going) (own : List (List StepUnit)) (x : Started) → k ≡ next → IsContinued m (next + 1) (going_more g k own) x → IsContinued m next g x

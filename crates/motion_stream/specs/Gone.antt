@@ -7,7 +7,13 @@ use Rattle.plan_types.specs.declared.machine.Machine.{Machine}
 use Rattle.plan_types.specs.declared.plan.Move.{Move}
 use Rattle.plan_types.specs.Lines.{Clocks}
 use Rattle.section_feed.specs.declared.section.SectionStream.{SectionStream}
+use Rattle.section_feed.specs.Going.{IsPackedTo}
 use Rattle.section_feed.specs.On.{IsSectionOn}
+use Rattle.section_feed.specs.Rests.{AreAllRested}
+use Rattle.motion_stream.specs.declared.course.Course.{Course}
+use Rattle.motion_stream.specs.declared.course.Open.{Open}
+use Rattle.motion_stream.specs.declared.course.Open.TheVariants as opens
+use Rattle.motion_stream.specs.Rows.{AreJoined}
 use Rattle.plan_types.specs.Clock.{turn_ns}
 use Rattle.motion_work.specs.Homes.{last_step, moving_in, no_end}
 use Rattle.motion_work.specs.Seen.{AreBoardClocks}
@@ -18,7 +24,7 @@ use Rattle.plan_types.specs.Machines.{IsValidMachine}
 use Rattle.plan_types.specs.Sections.{clocks_at, is_home}
 use Rattle.section_feed.specs.AllBoards.{ArePast, AreReleased, latest_packed}
 use Rattle.section_feed.specs.Queues.{IsDrawn, drawn_to, is_taking}
-use Rattle.section_feed.specs.Sections.{boards_in, next_of, queue_of}
+use Rattle.section_feed.specs.Sections.{IsLeft, boards_in, next_of, queue_of}
 use Rattle.step_feed.specs.Pacing.{Release, at_turn}
 use Rattle.step_feed.specs.Units.{StepUnit}
 
@@ -102,3 +108,52 @@ pub record HasEnded (s : SectionStream) (end : ℕ) : Type 0 where
   pub past : ArePast end (boards_in s)
   pub value : end ≡ max (drawn_to (queue_of s) / turn_ns) (latest_packed (boards_in s))
   pub small : end < no_end
+
+-- a section behind a turn whose units it gave
+pub record HasDrawn (old new : SectionStream) (k : ℕ) (own : List (List StepUnit)) : Type 0 where
+  pub on : (m : Machine) (clocks : List Clocks) (start : ℕ) (homing : Bool) (moves : List Move)
+      (released : ℕ → List Release) → IsSectionOn m clocks start homing old moves released →
+      IsSectionOn m clocks start homing new moves (λ b. released b ++ at_turn k (slice_index_or own b []))
+  pub takes : is_taking (queue_of new) ≡ is_taking (queue_of old)
+  pub next : next_of new ≡ k + 1
+  pub rested : AreAllRested (next_of new + 250) (boards_in new)
+
+-- A section behind its next turn, whose units it gave, and whether its end is known then: then all its steps
+-- are packed, and it doesn't home.
+pub record HasOwn (homes : Bool) (old new : SectionStream) (own : List (List StepUnit)) (over : Bool) : Type 0 where
+  pub drawn : HasDrawn old new (next_of old) own
+  pub packed : All (IsPackedTo (next_of new + 251)) (boards_in new)
+  pub left : over ≡ false → homes ≡ false → IsLeft new
+  pub moves : over ≡ true → homes ≡ false
+  pub past : over ≡ true → (e : ℕ) × IsDrawn (queue_of new) × ArePast e (boards_in new)
+
+-- a section that goes on gives its next units in a turn
+abbrev pub GivesIn : ℕ → Open → Type 0
+GivesIn k opens.Nothing = Unit {0}
+GivesIn k (opens.Goes s homes) = next_of s ≡ k
+
+-- and that is a turn of a run
+abbrev pub GivesSoon : Open → Type 0
+GivesSoon opens.Nothing = Unit {0}
+GivesSoon (opens.Goes s homes) = next_of s < 2 ^ 43
+
+-- a section that goes on gave the units of its next turn
+abbrev pub GivesOwn : List (List StepUnit) → Bool → Open → Open → Type 0
+GivesOwn own over opens.Nothing new = ⊥
+GivesOwn own over (opens.Goes s homes) new =
+    (t : SectionStream) × (new ≡ opens.Goes t homes) × HasOwn homes s t own over
+
+-- a section that goes on has ended, of which all steps were packed: its units wait behind those of the others
+pub record HasEndedOpen (boards : ℕ) (old new : Course) (s : SectionStream) : Type 0 where
+  pub last : SectionStream
+  pub rows : List (List (List StepUnit))
+  pub end : ℕ
+  pub given : HasGivenRows s last old.next rows
+  pub ended : HasEnded last end
+  pub joined : AreJoined boards old.ahead.items rows new.ahead.items
+  pub others : new ≡ record old { ready = end + 260; goes = true; current = opens.Nothing; ahead = new.ahead }
+
+-- so has what goes on
+abbrev pub EndsOpen : ℕ → Course → Open → Course → Type 0
+EndsOpen boards old opens.Nothing new = ⊥
+EndsOpen boards old (opens.Goes s homes) new = HasEndedOpen boards old new s

@@ -1,11 +1,12 @@
 //! The units of a turn.
 
-ghost use Rattle.std.specs.Prelude.{◌≡◌, ℕ, ◌+◌, ◌-◌, ◌*◌, ◌<◌, ◌≤◌, ◌^◌, List, [], IfOk, ◌&&◌, ◌==◌, not, true, false, length, slice_index_or};
+ghost use Rattle.std.specs.Prelude.{◌≡◌, ℕ, ◌+◌, ◌-◌, ◌*◌, ◌<◌, ◌≤◌, ◌^◌, List, [], IfOk, OnOk, ◌&&◌, ◌==◌, not, true, false, length, slice_index_or};
 ghost use Rattle.section_feed.specs.AllBoards.{ArePast};
 ghost use Rattle.section_feed.specs.Queues.{IsDrawn};
-ghost use Rattle.section_feed.specs.Sections.{IsLeft, boards_in, next_of, queue_of};
+ghost use Rattle.section_feed.specs.Sections.{IsLeft, boards_in, queue_of};
 ghost use Rattle.motion_stream.specs.declared.course.Open.TheVariants as opens;
 ghost use Rattle.motion_stream.specs.Courses.{IsSoundBy};
+ghost use Rattle.motion_stream.specs.Gone.{EndsOpen, GivesIn, GivesOwn, GivesSoon};
 ghost use Rattle.motion_stream.specs.News.{IsPlain};
 ghost use Rattle.motion_stream.specs.Steps.{Advances, HasPassed};
 ghost use Rattle.motion_work.specs.Feeds.{AreOfTurn};
@@ -85,19 +86,17 @@ fn pass_before(
     alloc: Global,
     machine: &Machine,
     course: &mut Course,
-    section: SectionStream,
-    homes: bool,
     room: Vec<Batch>,
 ) -> Result<Passed, OutOfMemory>
+    requires on { course.old.current ≡ opens.Nothing → ⊥ }
     requires small { course.old.next < 2 ^ 42 }
     requires before { course.old.next + 250 < course.old.start }
-    ensures passed { IfOk result (λ p. Advances machine.now (record course.old { current = opens.Goes section homes })
-        course.old.next p.batches.items p.done course.new) }
+    ensures passed { IfOk result
+        (λ p. Advances machine.now course.old course.old.next p.batches.items p.done course.new) }
     ensures turn { IfOk result (λ p. AreOfTurn course.old.next (length machine.now.boards) p.batches.items) }
     ensures plain { IfOk result (λ p. IsPlain p.done) }
 {
     let batches = pass(alloc, machine, course, &[], room)?;
-    course.current = Open::Goes { section, homes };
     Ok(Passed {
         batches,
         done: None,
@@ -113,6 +112,45 @@ fn is_over(section: &SectionStream, homes: bool) -> bool
     !homes && section.end().is_some()
 }
 
+/// What a section gives in a turn: the units of each board, and whether its end is known then.
+#[derive(Drop)]
+struct Own {
+    pub units: Vec<Listed<Unit>>,
+    pub over: bool,
+}
+
+/// What a section that goes on gives in its next turn.
+fn draw_own(current: &mut Open) -> Result<Own, OutOfMemory>
+    requires { GivesSoon current.old }
+    ensures { IfOk result (λ own. GivesOwn own.units.items own.over current.old current.new) }
+{
+    match current {
+        Open::Nothing => Err(OutOfMemory),
+        Open::Goes { section, homes } => {
+            let units = section.batches()?;
+            let over = is_over(section, *homes);
+            Ok(Own { units, over })
+        }
+    }
+}
+
+/// Ends the section that goes on, all whose steps are packed: its units wait behind those of the others.
+#[inline(never)]
+fn end_open(alloc: Global, machine: &Machine, course: &mut Course) -> Result<(), OutOfMemory>
+    requires { GivesIn course.old.next course.old.current }
+    ensures { OnOk result (EndsOpen (length machine.now.boards) course.old course.old.current course.new) }
+{
+    let Open::Goes { section, .. } = mem::replace(&mut course.current, Open::Nothing) else {
+        return Err(OutOfMemory);
+    };
+    let Ended { rows, end, .. } = end_section(alloc, section, course.next)?;
+    let ahead = mem::replace(&mut course.ahead, VecDeque::new(alloc));
+    course.ahead = merged(alloc, machine.boards.len(), ahead, rows)?;
+    course.ready = end + BETWEEN;
+    course.goes = true;
+    Ok(())
+}
+
 /// A turn of a section that goes on. Once all steps of a section of moves are packed its end is known, and so
 /// are all its units, which is some 250 turns ahead; its last steps may come long behind its moves. One that
 /// homes goes on until its answer.
@@ -120,65 +158,29 @@ fn pass_section(
     alloc: Global,
     machine: &Machine,
     course: &mut Course,
-    section: SectionStream,
-    homes: bool,
     room: Vec<Batch>,
 ) -> Result<Passed, OutOfMemory>
     requires small { course.old.next < 2 ^ 42 }
     requires from { course.old.start ≤ course.old.next + 250 }
-    requires next { next_of section ≡ course.old.next }
-    ensures passed { IfOk result (λ p. Advances machine.now (record course.old { current = opens.Goes section homes })
-        course.old.next p.batches.items p.done course.new) }
-    ensures turn { IfOk result (λ p. AreOfTurn course.old.next (length machine.now.boards) p.batches.items) }
-    ensures plain { IfOk result (λ p. IsPlain p.done) }
-{
-    let k = course.next;
-    let mut section = section;
-    let own = section.batches()?;
-    let batches = pass(alloc, machine, course, &own, room)?;
-    if !is_over(&section, homes) {
-        course.current = Open::Goes { section, homes };
-        return Ok(Passed {
-            batches,
-            done: None,
-        });
-    }
-    let Ended { rows, end, .. } = end_section(alloc, section, k + 1)?;
-    let ahead = mem::replace(&mut course.ahead, VecDeque::new(alloc));
-    course.ahead = merged(alloc, machine.boards.len(), ahead, rows)?;
-    course.ready = end + BETWEEN;
-    course.goes = true;
-    course.current = Open::Nothing;
-    Ok(Passed {
-        batches,
-        done: None,
-    })
-}
-
-/// A turn in which a section may go on whose end is not known.
-fn advance_open(
-    alloc: Global,
-    machine: &Machine,
-    course: &mut Course,
-    room: Vec<Batch>,
-) -> Result<Passed, OutOfMemory>
-    requires sound { IsSoundBy machine.now course.old course.old.next }
-    requires small { course.old.next < 2 ^ 42 }
+    requires next { GivesIn course.old.next course.old.current }
     ensures passed { IfOk result
         (λ p. Advances machine.now course.old course.old.next p.batches.items p.done course.new) }
     ensures turn { IfOk result (λ p. AreOfTurn course.old.next (length machine.now.boards) p.batches.items) }
     ensures plain { IfOk result (λ p. IsPlain p.done) }
 {
-    let open = mem::replace(&mut course.current, Open::Nothing);
-    match open {
-        Open::Nothing => pass_idle(alloc, machine, course, room),
-        Open::Goes { section, homes } => {
-            if course.next + LEAD < course.start {
-                return pass_before(alloc, machine, course, section, homes, room);
-            }
-            pass_section(alloc, machine, course, section, homes, room)
-        }
+    let Own { units, over } = draw_own(&mut course.current)?;
+    let batches = pass(alloc, machine, course, &units, room)?;
+    if !over {
+        return Ok(Passed {
+            batches,
+            done: None,
+        });
     }
+    end_open(alloc, machine, course)?;
+    Ok(Passed {
+        batches,
+        done: None,
+    })
 }
 
 /// Goes on to the next turn: what is put in this one, but which section is begun. The room of a list is used again.
@@ -198,5 +200,8 @@ pub fn advance(
     if let Open::Nothing = course.current {
         return pass_idle(alloc, machine, course, room);
     }
-    advance_open(alloc, machine, course, room)
+    if course.next + LEAD < course.start {
+        return pass_before(alloc, machine, course, room);
+    }
+    pass_section(alloc, machine, course, room)
 }

@@ -261,9 +261,5 @@ idle_by m old mid new own seen k batches done p nil kept ready goes current ahea
     idle_passed m old new seen k batches done h nothing (ap (λ (c : Course). c.current) e ∙ current ∙ nothing) (kept_after old mid new kept (passed_kept m mid new own batches p)) (ap (λ (c : Course). c.ready) e ∙ ready) (ap (λ (c : Course). c.goes) e ∙ goes) (ap (λ (c : Course). c.next) e ∙ ap (λ n. n + 1) next) at small
     (p.ahead ∙ ap (λ a. drop 1 a.items) ahead) (p.are ∙ ap (λ n. batches_of (length m.boards) n (slice_index_or mid.ahead.items 0 []) own) next ∙ ap (λ a. batches_of (length m.boards) old.next (slice_index_or a.items 0 []) own) ahead ∙ ap (batches_of (length m.boards) old.next (slice_index_or old.ahead.items 0 [])) nil) news
 
--- what a machine does with what goes on
-pub advances_as : (m : Machine) (old new : Course) (o : Open) (k : ℕ) (batches : List Batch) (done : Option NoteNews) → old.current ≡ o → Advances m (record old { current = o }) k batches done new → Advances m old k batches done new
-advances_as m old new o k batches done e h = subst (λ x. Advances m (record old { current = x }) k batches done new) (sym e) h
-
 pub next_is : (m : Machine) (c : Course) (s : SectionStream) (homes : Bool) (told : Option Told) (begun : List Started) (going : Option Going) → IsGoingOn m s homes c told begun going → c.start ≤ c.next + 250 → next_of s ≡ c.next
 next_is m c s homes told begun going i near = let n = i.next in let b = i.start_is in omega (arith, n, b, near)

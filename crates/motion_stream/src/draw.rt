@@ -14,7 +14,7 @@ ghost use Rattle.motion_work.specs.Feeds.{AreOfTurn};
 use crate::OutOfMemory;
 use crate::course::{BETWEEN, Course, Open};
 use crate::news::done_news;
-use crate::rows::{batches_of, merged, next_row};
+use crate::rows::{batches_of, merged, next_row, row_batches};
 use crate::section::{Ended, end_section};
 use msg_code::{Batch, NoteNews, Unit};
 use plan_types::{Listed, Machine};
@@ -38,17 +38,21 @@ fn pass(
     alloc: Global,
     machine: &Machine,
     course: &mut Course,
-    own: &[Listed<Unit>],
+    own: Vec<Listed<Unit>>,
     room: Vec<Batch>,
 ) -> Result<Vec<Batch>, OutOfMemory>
     requires { course.old.next < 2 ^ 42 }
-    ensures passed { IfOk result (λ made. HasPassed machine.now course.old course.new own.now made.items) }
+    ensures passed { IfOk result (λ made. HasPassed machine.now course.old course.new own.items made.items) }
     ensures turn { IfOk result (λ made. AreOfTurn course.old.next (length machine.now.boards) made.items) }
 {
-    let front = next_row(alloc, &mut course.ahead);
     let boards = machine.boards.len();
-    let batches = batches_of(alloc, boards, course.next, front.as_slice(), own, room)?;
+    let turn = course.next;
     course.next += 1;
+    if course.ahead.is_empty() {
+        return row_batches(alloc, boards, turn, own, room);
+    }
+    let front = next_row(alloc, &mut course.ahead);
+    let batches = batches_of(alloc, boards, turn, front.as_slice(), &own, room)?;
     Ok(batches)
 }
 
@@ -77,7 +81,7 @@ fn pass_idle(
     let k = course.next;
     let done = done_news(course.goes, course.ready, course.place, k);
     course.goes = goes_on(course.goes, course.ready, k);
-    let batches = pass(alloc, machine, course, &[], room)?;
+    let batches = pass(alloc, machine, course, Vec::new(alloc), room)?;
     Ok(Passed { batches, done })
 }
 
@@ -96,7 +100,7 @@ fn pass_before(
     ensures turn { IfOk result (λ p. AreOfTurn course.old.next (length machine.now.boards) p.batches.items) }
     ensures plain { IfOk result (λ p. IsPlain p.done) }
 {
-    let batches = pass(alloc, machine, course, &[], room)?;
+    let batches = pass(alloc, machine, course, Vec::new(alloc), room)?;
     Ok(Passed {
         batches,
         done: None,
@@ -169,7 +173,7 @@ fn pass_section(
     ensures plain { IfOk result (λ p. IsPlain p.done) }
 {
     let Own { units, over } = draw_own(&mut course.current)?;
-    let batches = pass(alloc, machine, course, &units, room)?;
+    let batches = pass(alloc, machine, course, units, room)?;
     if !over {
         return Ok(Passed {
             batches,

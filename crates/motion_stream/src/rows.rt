@@ -10,6 +10,7 @@ use msg_code::{Batch, Unit};
 use plan_types::Listed;
 use std::alloc::Global;
 use std::collections::VecDeque;
+use std::mem;
 
 /// The units of each board in a turn.
 pub type Row = Listed<Listed<Unit>>;
@@ -83,22 +84,36 @@ pub fn batches_of(
     Ok(made)
 }
 
-/// The batches of a turn in which no board has a unit, in a list whose room is used again.
-pub fn bare_batches(
+/// Takes the units of a board out of a row.
+fn take_units(alloc: Global, row: &mut Vec<Listed<Unit>>, board: usize) -> Listed<Unit>
+    ensures units { result ≡ units_in row.old.items board }
+    ensures others { (b : ℕ) → board < b → units_in row.new.items b ≡ units_in row.old.items b }
+{
+    if board >= row.len() {
+        return Listed::new(alloc);
+    }
+    mem::replace(&mut row[board], Listed::new(alloc))
+}
+
+/// The batches of a turn for so many boards, with the units of one row alone, in a list whose room is used again.
+pub fn row_batches(
     alloc: Global,
     boards: usize,
     turn: u64,
+    row: Vec<Listed<Unit>>,
     room: Vec<Batch>,
 ) -> Result<Vec<Batch>, OutOfMemory>
-    ensures value { IfOk result (λ made. made.items ≡ batches_of boards turn [] []) }
+    ensures value { IfOk result (λ made. made.items ≡ batches_of boards turn [] row.items) }
     ensures turn { IfOk result (λ made. AreOfTurn turn boards made.items) }
 {
+    let mut row = row;
     let mut made = room;
     made.clear();
-    for _ in 0..boards {
+    for board in 0..boards {
+        let units = take_units(alloc, &mut row, board);
         made.push(Batch {
             turn,
-            units: Listed::new(alloc),
+            units,
             end: false,
         })?;
     }

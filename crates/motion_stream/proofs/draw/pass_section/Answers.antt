@@ -1,6 +1,4 @@
-use Rattle.std.proofs.Common.{List, refl, subst, sym}
-use Rattle.step_feed.specs.Units.{StepUnit}
-use Rattle.motion_stream.specs.Gone.{GivesOwn}
+use Rattle.std.proofs.Common.{refl}
 use Rattle.motion_stream.proofs.Owning.{own_ended, own_passed}
 use Rattle.motion_stream.proofs.draw.pass_section.Goals as goal
 
@@ -9,13 +7,11 @@ returns-then-not-over-clause-passed c =
     let old = c.args.course.now in
     let own = c.in_ok-units.field-0 in
     let later = c.draw_own.new.current in
-    let gives = subst (λ (us : List (List StepUnit)). GivesOwn us own.over old.current later) (sym c.deref.ensures.value) c.in_ok-units.ensures in
-    own_passed c.args.machine.now old c.pass.new.course old.current later c.deref.result.now own.over c.in_ok-batches.batches.items refl c.requires.next gives c.if-not-over.true c.in_ok-batches.ensures.passed c.requires.small c.requires.from
+    own_passed c.args.machine.now old c.pass.new.course old.current later own.units.items own.over c.in_ok-batches.batches.items refl c.requires.next c.in_ok-units.ensures c.if-not-over.true c.in_ok-batches.ensures.passed c.requires.small c.requires.from
 
 pub returns-clause-passed : goal.returns-clause-passed
 returns-clause-passed c =
     let old = c.args.course.now in
     let own = c.in_ok-units.field-0 in
     let later = c.draw_own.new.current in
-    let gives = subst (λ (us : List (List StepUnit)). GivesOwn us own.over old.current later) (sym c.deref.ensures.value) c.in_ok-units.ensures in
-    own_ended c.args.machine.now old c.pass.new.course c.end_open.new.course old.current later c.deref.result.now own.over c.in_ok-batches.batches.items refl c.requires.next gives c.if-not-over.false c.in_ok-batches.ensures.passed c.requires.small c.in_ok-end_open.ensures
+    own_ended c.args.machine.now old c.pass.new.course c.end_open.new.course old.current later own.units.items own.over c.in_ok-batches.batches.items refl c.requires.next c.in_ok-units.ensures c.if-not-over.false c.in_ok-batches.ensures.passed c.requires.small c.in_ok-end_open.ensures

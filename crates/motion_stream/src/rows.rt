@@ -84,6 +84,28 @@ pub fn batches_of(
     Ok(made)
 }
 
+/// The batches of a turn in which no board has a unit, in a list whose room is used again.
+pub fn bare_batches(
+    alloc: Global,
+    boards: usize,
+    turn: u64,
+    room: Vec<Batch>,
+) -> Result<Vec<Batch>, OutOfMemory>
+    ensures value { IfOk result (λ made. made.items ≡ batches_of boards turn [] []) }
+    ensures turn { IfOk result (λ made. AreOfTurn turn boards made.items) }
+{
+    let mut made = room;
+    made.clear();
+    for _ in 0..boards {
+        made.push(Batch {
+            turn,
+            units: Listed::new(alloc),
+            end: false,
+        })?;
+    }
+    Ok(made)
+}
+
 /// Takes the units of a board out of a row.
 fn take_units(alloc: Global, row: &mut Vec<Listed<Unit>>, board: usize) -> Listed<Unit>
     ensures units { result ≡ units_in row.old.items board }

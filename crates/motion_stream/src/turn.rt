@@ -13,7 +13,7 @@ use crate::begin::begin_next;
 use crate::course::{Course, Open, clear_turn, idle_clear};
 use crate::draw::{Passed, advance};
 use crate::news::{news_of, read_after, read_news, telling};
-use crate::rows::row_batches;
+use crate::rows::bare_batches;
 use crate::uptake::take_up;
 use msg_code::{Batch, Made, Note};
 use plan_types::{Listed, Machine};
@@ -60,14 +60,13 @@ fn quiet_turn(
     ensures clear { IfOk result (λ m. m.note.clear ≡ clear_of course.new) }
     ensures batches { IfOk result (λ m. AreOfTurn k (length machine.now.boards) m.batches.items) }
 {
-    let batches = row_batches(alloc, machine.boards.len(), k, Vec::new(alloc), room)?;
-    let news = Listed::new(alloc);
+    let batches = bare_batches(alloc, machine.boards.len(), k, room)?;
     course.next = k + 1;
     Ok(Made {
         batches,
         note: Note {
             turn: k,
-            news,
+            news: Listed::new(alloc),
             clear,
             out: false,
         },

@@ -17,7 +17,7 @@ use plan_types::Cause;
 use session_work::{
     Control, Found, Hand, HandsTurn, Head, Lanes, Late, LinkMachine, MotionDone, MotionMachine,
     Outside, ReactorDone, ReactorMachine, Row, Runtime, State, WordMsg, flush, hands_turn, hear,
-    keep, order_here, put_piece,
+    keep, order_here, put_piece, stay,
 };
 use std::snapshot::Snapshot;
 use std::sync::Wait;
@@ -41,7 +41,30 @@ pub struct Both<M, A, O> {
 }
 
 // Reads behind word k the pieces of the file that the batches of the planner's next turn need.
+#[inline(always)]
 fn feed_here<R: Wait, G, M: MotionMachine, A: ReactorMachine, O: Outside>(
+    rt: &Runtime<'_, R, G>,
+    k: u64,
+    place: &Place<'_, M, A, O>,
+    both: &mut Both<M, A, O>,
+)
+    requires motion { IsHeard M.MotionMachine place.now.lanes both.old.next place.now.start.now.value both.old.motion }
+    requires reactor { OwesServing A.ReactorMachine O.Outside place.now.lanes k place.now.first.now.value
+        both.old.owed.items both.old.hand }
+    ensures motion { IsFed M.MotionMachine place.now.lanes both.new.next place.now.start.now.value both.new.motion }
+    ensures next { both.new.next ≡ both.old.next }
+    ensures late { both.new.motion.late ≡ both.old.motion.late }
+    ensures reactor { OwesServing A.ReactorMachine O.Outside place.now.lanes k place.now.first.now.value
+        both.new.owed.items both.new.hand }
+{
+    if both.motion.seat.hungers(both.next) {
+        read_here(rt, k, place, both);
+    }
+}
+
+// The same, where they need some.
+#[inline(never)]
+fn read_here<R: Wait, G, M: MotionMachine, A: ReactorMachine, O: Outside>(
     rt: &Runtime<'_, R, G>,
     k: u64,
     place: &Place<'_, M, A, O>,
@@ -381,8 +404,5 @@ pub fn alone<R: Wait, G: Gate, M: MotionMachine, L: LinkMachine, A: ReactorMachi
         };
         give_back(controls, batches, &mut both);
     }
-    for _ in rt.threads.forever() {
-        thread::yield_now();
-    }
-    unreachable!()
+    stay(rt.threads)
 }

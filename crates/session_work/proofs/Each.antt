@@ -1,5 +1,5 @@
 -- Facts at each place of two or three lists.
-use Rattle.std.proofs.Common.{rules, Result, Ok, Err, true, is_ok, is_err, IfOk, IfSome, Some, map, ◌≡◌, ◌≢◌, ℕ, zero, suc, ◌+◌, ◌<◌, ◌≤◌, List, [], ◌∷◌, ◌++◌, length, get_or, set, sym, subst, ap, ◌∙◌, arith, refl}
+use Rattle.std.proofs.Common.{rules, Result, Ok, Err, true, is_ok, is_err, IfOk, IfSome, Some, map, ◌≡◌, ◌≢◌, ℕ, zero, suc, ◌+◌, ◌<◌, ◌≤◌, List, [], ◌∷◌, ◌++◌, length, get_or, set, remove, swap_remove, sym, subst, ap, ◌∙◌, arith, refl}
 use Rattle.std.specs.Result.{result_ok}
 use Rattle.std.proofs.lemmas.List.{get_or-set_other, get_or-set_same, get_or_append_left, get_or_push, length-append}
 use Rattle.session_work.specs.Rows.{Each, EachFrom, item, copies}
@@ -116,3 +116,9 @@ never_failed (Err e) well failed = search rules
 pub of_ok : {T E : Type 0} (r : Result T E) (x : T) (P : T → Type 0) → Some x ≡ result_ok r → IfOk r P → P x
 of_ok (Ok y) x P is h = subst (λ o. IfSome o P) (sym is) h
 of_ok (Err e) x P is h = subst (λ o. IfSome o P) (sym is) tt
+
+-- what is left of a list of one
+pub one_left : {A : Type 0} (xs : List A) (x : A) → length xs ≡ 1 → swap_remove xs 0 x ≡ remove xs 0
+one_left [] x h = absurd (omega (arith, h))
+one_left (y ∷ []) x h = refl
+one_left (y ∷ z ∷ zs) x h = absurd (omega (arith, h))

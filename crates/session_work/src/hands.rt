@@ -12,12 +12,12 @@ use crate::late::{Row, next_batch};
 use crate::link::{LinkDone, state_of};
 use crate::machines::LinkMachine;
 use crate::messages::{Batch, Control, State};
-use crate::runtime::Runtime;
+use crate::rows::take_first;
+use crate::runtime::{Runtime, stay};
 use io_core::{Gate, Who};
 use lane_queue::{SendPass, TakePass};
 use std::snapshot::Snapshot;
 use std::sync::Wait;
-use std::thread;
 
 /// A link, and the machine that it began with.
 #[derive(Drop)]
@@ -45,6 +45,7 @@ pub struct HandsTurn {
 }
 
 // A turn of the link of a board: its control and its batch are handed to it, and its state to the reactor.
+#[inline(always)]
 fn hand_turn<R: Wait, G: Gate, L: LinkMachine>(
     rt: &Runtime<'_, R, G>,
     lanes: &Lanes<'_>,
@@ -83,11 +84,8 @@ fn hand_turn<R: Wait, G: Gate, L: LinkMachine>(
     rt.gate
         .pass(Who::Link(u8::try_from(at).unwrap_or(u8::MAX)), turn);
     // No control ends the run but behind the reactor's last turn.
-    for _ in rt.threads.forever() {
-        if !control.end {
-            break;
-        }
-        thread::yield_now();
+    if control.end {
+        stay(rt.threads);
     }
     lanes.controls[at].hand(send, &mut hand.done.control_pass, &control);
     lanes.batches[at].hand(batch_send, &mut hand.done.batch_pass, &batch);
@@ -99,6 +97,7 @@ fn hand_turn<R: Wait, G: Gate, L: LinkMachine>(
 
 /// Makes a turn of all links: hands them what the turn has for them, and their states to the reactor, into a list
 /// that has room for them. The lists of the controls and the batches are empty behind it.
+#[inline(always)]
 pub fn hands_turn<R: Wait, G: Gate, L: LinkMachine>(
     rt: &Runtime<'_, R, G>,
     lanes: &Lanes<'_>,
@@ -139,7 +138,7 @@ pub fn hands_turn<R: Wait, G: Gate, L: LinkMachine>(
     let k = turn.number;
     turn.states.clear();
     for i in 0..lanes.batches.len() {
-        let control = turn.controls.remove(0);
+        let control = take_first(&mut turn.controls);
         let batch = next_batch(rt.alloc, k, &mut turn.batches);
         let handed = Handed {
             turn: k,

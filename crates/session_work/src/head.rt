@@ -6,11 +6,11 @@ ghost use Rattle.session_work.specs.Rows.{AreOf, AllEnd, copies};
 
 use crate::machines::{Ordered, Outside, ReactorMachine};
 use crate::messages::{Bare, Control, Note, Piece, State, stop_piece};
+use crate::runtime::stay;
 use plan_types::{Cause, Listed};
 use report_text::ReportLine;
 use std::alloc::Global;
 use std::sync::Wait;
-use std::thread;
 
 /// What a turn of the reactor begins with: the states of the turn before, one of each board, and its note.
 #[derive(Drop)]
@@ -40,6 +40,7 @@ fn wants_memory(end: &Option<Cause>) -> bool
 impl<A: ReactorMachine, O: Outside> Head<A, O> {
     /// What the machine orders in turn k. None where memory was wanted, by the machine or by who found the
     /// row: then nothing of it is written.
+    #[inline(always)]
     pub fn turn<R: Wait>(&mut self, rt: &R, k: u64, found: &Found) -> Option<Ordered>
         requires found { IsRow (A.boards self.old.machine) k found.now.states.items found.now.note }
         requires states { AreOf (λ s. s.turn + 1) k found.now.states.items }
@@ -58,11 +59,8 @@ impl<A: ReactorMachine, O: Outside> Head<A, O> {
         ensures stopped { self.new.stopped ≡ self.old.stopped }
     {
         // A machine at a limit stays there.
-        for _ in rt.forever() {
-            if self.machine.can_turn(k) {
-                break;
-            }
-            thread::yield_now();
+        if !self.machine.can_turn(k) {
+            stay(rt);
         }
         let ordered = self
             .machine
@@ -75,6 +73,7 @@ impl<A: ReactorMachine, O: Outside> Head<A, O> {
     }
 
     /// Takes the list of a turn's controls back, whose room is used again.
+    #[inline(always)]
     pub fn give_back(&mut self, room: Vec<Control>)
         ensures { self.new ≡ self.old }
     {
@@ -82,6 +81,7 @@ impl<A: ReactorMachine, O: Outside> Head<A, O> {
     }
 
     /// Writes the lines of a turn. Where they don't go out, the machine is told.
+    #[inline(always)]
     pub fn write(&mut self, lines: Listed<ReportLine>)
         ensures wrote { Wrote A.stops O.writes self.old lines self.new }
         ensures free { (k n : ℕ) → A.free self.old.machine k n → A.free self.new.machine k n }

@@ -5,6 +5,7 @@ ghost use Rattle.session_work.specs.Lates.{batches_of, late_row};
 ghost use Rattle.session_work.specs.Rows.{copies};
 
 use crate::messages::{Bare, Batch, Made, Note};
+use crate::rows::take_first;
 use std::alloc::Global;
 
 /// A batch for each board.
@@ -23,6 +24,7 @@ pub struct Late {
 }
 
 // What waits of a turn that was made, or where the machine is asked no more.
+#[inline(always)]
 pub fn late_of(alloc: Global, k: u64, made: Option<Made>, halted: bool, out: bool) -> Late
     ensures made { IfSome made (λ m. (result.note ≡ m.note) × ((n : ℕ) → late_row n result ≡ m.batches.items)) }
     ensures none { IfNone made
@@ -41,13 +43,14 @@ pub fn late_of(alloc: Global, k: u64, made: Option<Made>, halted: bool, out: boo
 }
 
 // Takes the batch of turn k of the first board of those that are left.
+#[inline(always)]
 pub fn next_batch(alloc: Global, k: u64, row: &mut Row) -> Batch
     requires some { (n : ℕ) × (length (batches_of (n + 1) k row.old) ≡ n + 1) }
     ensures { (n : ℕ) → length (batches_of (n + 1) k row.old) ≡ n + 1 →
         batches_of (n + 1) k row.old ≡ result ∷ batches_of n k row.new }
 {
     match row {
-        Row::Made(batches) => batches.remove(0),
+        Row::Made(batches) => take_first(batches),
         Row::Bare { end } => Batch::bare(alloc, k, *end),
     }
 }

@@ -27,6 +27,6 @@ pub use messages::{Ask, Bare, Batch, Control, Note, Piece, State, WordMsg};
 pub use motion::{MotionDone, flush, hear, keep, motion_turn, motion_worker};
 pub use reactor::{ReactorDone, order_here, put_piece, reactor_turn, reactor_worker};
 pub use rows::put_bare;
-pub use runtime::Runtime;
+pub use runtime::{Runtime, stay};
 pub use seat::Seat;
 pub use table::{LinkTurn, MotionTurn, ReactorTurn};

@@ -6,12 +6,11 @@ ghost use Rattle.session_work.specs.Links.{IsBoard, LinkStep, link_turn_of, IsLi
 use crate::ends::Lanes;
 use crate::machines::LinkMachine;
 use crate::messages::{Bare, Batch, Control, State};
-use crate::runtime::Runtime;
+use crate::runtime::{Runtime, stay};
 use io_core::{Gate, Who};
 use lane_queue::{SendPass, TakePass};
 use std::snapshot::Snapshot;
 use std::sync::Wait;
-use std::thread;
 
 /// A link worker's machine and its own passes, and whether memory was wanted.
 #[derive(Drop)]
@@ -24,6 +23,7 @@ pub struct LinkDone<L> {
 }
 
 // The state of turn k. A machine that wanted memory is asked no more.
+#[inline(always)]
 pub fn state_of<R: Wait, G, L: LinkMachine>(
     rt: &Runtime<'_, R, G>,
     k: u64,
@@ -42,11 +42,8 @@ pub fn state_of<R: Wait, G, L: LinkMachine>(
         return State::bare(rt.alloc, k, true);
     }
     // A machine at a limit stays there.
-    for _ in rt.threads.forever() {
-        if machine.can_turn(k) {
-            break;
-        }
-        thread::yield_now();
+    if !machine.can_turn(k) {
+        stay(rt.threads);
     }
     match machine.turn(k, control, batch) {
         Ok(state) => state,
@@ -105,8 +102,5 @@ pub fn link_worker<R: Wait, G: Gate, L: LinkMachine>(
             return link;
         }
     }
-    for _ in rt.threads.forever() {
-        thread::yield_now();
-    }
-    unreachable!()
+    stay(rt.threads)
 }

@@ -11,14 +11,13 @@ use crate::late::{Late, Row, late_of};
 use crate::machines::MotionMachine;
 use crate::messages::{Ask, Bare, Batch, Made, Note, Piece, WordMsg};
 use crate::rows::{put_bare, put_each};
-use crate::runtime::Runtime;
+use crate::runtime::{Runtime, stay};
 use crate::seat::Seat;
 use io_core::{Gate, Who};
 use lane_queue::{Lane, SendPass, TakePass};
 use std::collections::VecDeque;
 use std::snapshot::Snapshot;
 use std::sync::Wait;
-use std::thread;
 
 /// The motion worker's machine and its own passes.
 #[derive(Drop)]
@@ -51,11 +50,8 @@ fn put_ask<R: Wait>(
     ensures { IsSendOf asks.now pass.new × (next_put pass.new ≡ count.new) }
 {
     // No count passes the last number.
-    for _ in rt.forever() {
-        if *count < u64::MAX {
-            break;
-        }
-        thread::yield_now();
+    if *count == u64::MAX {
+        stay(rt);
     }
     let ask = Ask {
         number: *count,
@@ -86,9 +82,28 @@ fn no_more<R: Wait>(
     }
 }
 
-// Takes the words that must be taken before the batches of turn k, all or those that are left. Before each it
-// says that no piece is asked for behind the word before.
+// Takes the words that must be taken before the batches of turn k, all or those that are left.
+#[inline(always)]
 pub fn hear<R: Wait, M: MotionMachine>(
+    rt: &R,
+    k: u64,
+    start: &Snapshot<M>,
+    lanes: &Lanes<'_>,
+    motion: &mut MotionDone<M>,
+)
+    requires limit { k + 1 < 2 ^ 64 }
+    requires at { IsHearing M.MotionMachine lanes.now k start.now.value motion.old }
+    ensures heard { IsHeard M.MotionMachine lanes.now k start.now.value motion.new }
+    ensures late { motion.new.late ≡ motion.old.late }
+{
+    if motion.seat.needs(k) {
+        hear_more(rt, k, start, lanes, motion);
+    }
+}
+
+// The same, where there are some. Before each it says that no piece is asked for behind the word before.
+#[inline(never)]
+fn hear_more<R: Wait, M: MotionMachine>(
     rt: &R,
     k: u64,
     start: &Snapshot<M>,
@@ -184,6 +199,7 @@ fn make<R: Wait, G, M: MotionMachine>(
 }
 
 /// Makes turn k, whose batches and note wait.
+#[inline(always)]
 pub fn keep<R: Wait, G, M: MotionMachine>(
     rt: &Runtime<'_, R, G>,
     k: u64,
@@ -294,8 +310,5 @@ pub fn motion_worker<R: Wait, G: Gate, M: MotionMachine>(
             return motion;
         }
     }
-    for _ in rt.threads.forever() {
-        thread::yield_now();
-    }
-    unreachable!()
+    stay(rt.threads)
 }

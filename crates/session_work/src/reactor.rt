@@ -13,13 +13,12 @@ use crate::head::{Found, Head};
 use crate::machines::{Ordered, Outside, ReactorMachine};
 use crate::messages::{Ask, Bare, Control, Note, Piece, State, WordMsg, stop_piece};
 use crate::rows::{put_ahead, put_bare, put_each, put_each_ahead, take_each};
-use crate::runtime::Runtime;
+use crate::runtime::{Runtime, stay};
 use io_core::{Gate, Who};
 use lane_queue::{Lane, SendPass, TakePass};
 use plan_types::Cause;
 use std::snapshot::Snapshot;
 use std::sync::Wait;
-use std::thread;
 
 /// The reactor and its own passes, and how far it is.
 #[derive(Drop)]
@@ -327,11 +326,8 @@ pub fn put_piece<R: Wait>(
     ensures count { next_put pass.new ≡ count.new }
 {
     // No count passes the last number.
-    for _ in rt.forever() {
-        if *count < u64::MAX {
-            break;
-        }
-        thread::yield_now();
+    if *count == u64::MAX {
+        stay(rt);
     }
     pieces.put(rt, pass, piece);
     *count += 1;
@@ -377,8 +373,5 @@ pub fn reactor_worker<R: Wait, G: Gate, A: ReactorMachine, O: Outside>(
             return (hand, cause);
         }
     }
-    for _ in rt.threads.forever() {
-        thread::yield_now();
-    }
-    unreachable!()
+    stay(rt.threads)
 }

@@ -1,5 +1,5 @@
 //! Lanes board by board.
-ghost use Rattle.std.specs.Prelude.{false, ◌≡◌, ◌-◌, ◌+◌, ◌++◌, ◌≤◌, ◌<◌, ℕ, length, vec_len, vec_capacity, [], IfOk};
+ghost use Rattle.std.specs.Prelude.{false, ◌≡◌, ◌-◌, ◌+◌, ◌++◌, ◌≤◌, ◌<◌, ℕ, length, get_or, remove, vec_len, vec_capacity, [], IfOk};
 ghost use Rattle.lane_queue.specs.Ends.{IsSendOf, next_put};
 ghost use Rattle.session_work.specs.Leads.{each_turn, RowsPut};
 ghost use Rattle.session_work.specs.Rows.{AreOf, CanPut, CanTake, PutMore, RowPut, RowTaken, copies};
@@ -9,6 +9,21 @@ use crate::runtime::Runtime;
 use lane_queue::{Lane, SendPass, TakePass};
 use plan_types::Numbered;
 use std::sync::Wait;
+
+/// Takes the first message of a list. Where there is one alone, no other moves up.
+#[inline(always)]
+#[tactic(auto, using(crate::proofs::Each::one_left))]
+pub fn take_first<T>(msgs: &mut Vec<T>) -> T
+    requires { 0 < vec_len msgs.old }
+    ensures value { result ≡ get_or msgs.old.items 0 result }
+    ensures items { msgs.new.items ≡ remove msgs.old.items 0 }
+    ensures len { vec_len msgs.new + 1 ≡ vec_len msgs.old }
+{
+    if msgs.len() == 1 {
+        return msgs.swap_remove(0);
+    }
+    msgs.remove(0)
+}
 
 /// Puts a message of turn k on each lane.
 pub fn put_each<R: Wait, T: Numbered>(
@@ -25,7 +40,7 @@ pub fn put_each<R: Wait, T: Numbered>(
 {
     let mut msgs = msgs;
     for i in 0..lanes.len() {
-        let msg = msgs.remove(0);
+        let msg = take_first(&mut msgs);
         lanes[i].put(rt, &mut passes[i], msg);
     }
 }

@@ -7,8 +7,8 @@ ghost use Rattle.session_work.specs.Bares.{bare_batch, bare_note};
 use crate::late::Row;
 use crate::machines::MotionMachine;
 use crate::messages::{Made, Piece, WordMsg};
+use crate::runtime::stay;
 use std::sync::Wait;
-use std::thread;
 
 /// A motion machine, and what its worker knows beside it.
 #[derive(Drop)]
@@ -29,6 +29,7 @@ const LAG: u64 = 64;
 
 impl<M: MotionMachine> Seat<M> {
     /// Whether the next word must be taken before the batches of turn k.
+    #[inline(always)]
     pub fn needs(&self, k: u64) -> bool
         ensures value { result ≡ needs M.wants k self.now }
         ensures bound { result ≡ true → self.now.heard ≤ k }
@@ -46,6 +47,7 @@ impl<M: MotionMachine> Seat<M> {
     }
 
     /// Whether a piece of the file must be taken before the batches of turn k.
+    #[inline(always)]
     pub fn hungers(&self, k: u64) -> bool
         ensures { result ≡ hungers M.hungry k self.now }
     {
@@ -53,6 +55,7 @@ impl<M: MotionMachine> Seat<M> {
     }
 
     /// Whether the batches of turn n need no word behind word k.
+    #[inline(always)]
     pub fn is_free(&self, n: u64, k: u64) -> bool {
         if self.halted {
             return false;
@@ -78,6 +81,7 @@ impl<M: MotionMachine> Seat<M> {
     }
 
     /// Takes the next word.
+    #[inline(always)]
     pub fn word(&mut self, word: WordMsg)
         requires room { self.old.heard + 1 < 2 ^ 64 }
         requires on { self.old.halted ≡ false }
@@ -96,6 +100,7 @@ impl<M: MotionMachine> Seat<M> {
     }
 
     /// The batches of turn k and its note; none where the machine is asked no more.
+    #[inline(always)]
     pub fn turn<R: Wait>(&mut self, rt: &R, k: u64) -> Option<Made>
         requires fed { hungers M.hungry k self.old ≡ false }
         ensures made { IfSome result (λ m.
@@ -115,11 +120,8 @@ impl<M: MotionMachine> Seat<M> {
             return None;
         }
         // A machine at a limit stays there.
-        for _ in rt.forever() {
-            if self.machine.can_turn(k) {
-                break;
-            }
-            thread::yield_now();
+        if !self.machine.can_turn(k) {
+            stay(rt);
         }
         if let Ok(made) = self.machine.turn(k) {
             return Some(made);
@@ -130,6 +132,7 @@ impl<M: MotionMachine> Seat<M> {
     }
 
     /// Takes back what a turn was in: where it was a list, its room is used again.
+    #[inline(always)]
     pub fn give_back(&mut self, row: Row)
         ensures { self.new ≡ self.old }
     {

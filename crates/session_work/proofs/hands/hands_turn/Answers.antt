@@ -24,10 +24,10 @@ hand_turn-state-requires-clause-at g c =
 
 pub hand_turn-state-requires-clause-control : goal.hand_turn-state-requires-clause-control
 hand_turn-state-requires-clause-control g c =
-    let i = c.loop-i.i in let m = c.remove-control.result in let below = c.loop-i-test.true in
+    let i = c.loop-i.i in let m = c.take_first-control.result in let below = c.loop-i-test.true in
     let many : length c.args.turn.now.controls.items ≡ length c.args.lanes.now.controls.now = search rules in let same = c.requires.boards.0 in
     let at : i + 0 ≡ i = omega arith in
-    let is : m ≡ get_or c.args.turn.now.controls.items i m = c.remove-control.ensures.value ∙ (c.loop-i.invariant.rest 0 m ∙ ap (λ k. get_or c.args.turn.now.controls.items k m) at) in
+    let is : m ≡ get_or c.args.turn.now.controls.items i m = c.take_first-control.ensures.value ∙ (c.loop-i.invariant.rest 0 m ∙ ap (λ k. get_or c.args.turn.now.controls.items k m) at) in
     ap (λ (x : Control). x.turn) is ∙ c.requires.made.1 i m (omega arith)
 
 pub hand_turn-state-requires-clause-send : goal.hand_turn-state-requires-clause-send
@@ -73,11 +73,11 @@ loop-i-preserved g c =
     let there = c.hand_turn-state.ensures.at in
     let P = IsHandAt g.L.LinkMachine (c.args.turn.now.number + 1) c.args.lanes.now in let R = IsHandAt g.L.LinkMachine c.args.turn.now.number c.args.lanes.now in
     -- the control that is sent
-    let made = c.args.turn.now.controls.items in let m = c.remove-control.result in let many : length made ≡ length c.args.lanes.now.controls.now = search rules in
+    let made = c.args.turn.now.controls.items in let m = c.take_first-control.result in let many : length made ≡ length c.args.lanes.now.controls.now = search rules in
     let at : i + 0 ≡ i = omega arith in
-    let is : m ≡ get_or made i m = c.remove-control.ensures.value ∙ (c.loop-i.invariant.rest 0 m ∙ ap (λ k. get_or made k m) at) in
+    let is : m ≡ get_or made i m = c.take_first-control.ensures.value ∙ (c.loop-i.invariant.rest 0 m ∙ ap (λ k. get_or made k m) at) in
     let one : item i made ≡ m ∷ [] = item_at made i m (omega arith) ∙ ap (λ x. x ∷ []) (sym is) in
-    let before = c.loop-i.invariant.still in let less : vec_len c.remove-control.new.self + 1 ≡ vec_len c.loop-i.turn.controls = c.remove-control.ensures.len in
+    let before = c.loop-i.invariant.still in let less : vec_len c.take_first-control.new.msgs + 1 ≡ vec_len c.loop-i.turn.controls = c.take_first-control.ensures.len in
     let some : 0 < length c.loop-i.turn.controls.items = search rules in
     let so = c.args.sends.now.items in let sn = c.loop-i.sends.items in let ssize : length sn ≡ length so = c.loop-i.invariant.sends_size in
     let sroom : length so ≡ length c.args.lanes.now.controls.now = search rules in let sp = c.index_mut.result.now in let sq = c.hand_turn-state.new.send in let sin : i < length sn = omega arith in
@@ -100,7 +100,7 @@ loop-i-preserved g c =
     let there2 : tp ≡ get_or to i tp = c.index_mut-in-loop-i-2.ensures.value ∙ c.loop-i.invariant.untaken i tp (omega arith) in
     let got : (x : Lane State) → TookMore (item i (found ++ s ∷ [])) (get_or c.args.lanes.now.states.now i x) tp tq = λ x. (let r = c.hand_turn-state.ensures.taken x in (r.0, r.1, r.2 ∙ ap (λ q. taken tp ++ q) (sym (item_push_at found s i (sym count))))) in record {
       still = omega arith;
-      rest = λ j x. ap (λ xs. get_or xs j x) c.remove-control.ensures.items ∙ (get_or-remove_above c.loop-i.turn.controls.items 0 x j (omega arith) some ∙ (c.loop-i.invariant.rest (j + 1) x ∙ (let e : i + (j + 1) ≡ (i + 1) + j = omega arith in ap (λ k. get_or made k x) e)));
+      rest = λ j x. ap (λ xs. get_or xs j x) c.take_first-control.ensures.items ∙ (get_or-remove_above c.loop-i.turn.controls.items 0 x j (omega arith) some ∙ (c.loop-i.invariant.rest (j + 1) x ∙ (let e : i + (j + 1) ≡ (i + 1) + j = omega arith in ap (λ k. get_or made k x) e)));
       sends_size = length-set sn i sq ∙ ssize;
       sent = done_next (λ j. PutMore (item j made)) c.args.lanes.now.controls.now so sn i sq sin c.loop-i.invariant.sent
           (λ x p. let f : sp ≡ get_or so i p = shere ∙ get_or_default so i sp p (omega arith) in subst (λ w. PutMore (item i made) (get_or c.args.lanes.now.controls.now i x) w sq) f (sent x));

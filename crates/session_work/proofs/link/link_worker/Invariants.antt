@@ -3,7 +3,3 @@ use Rattle.session_work.proofs.link.link_worker.Given as goal
 
 abbrev pub invariant-loop-k : goal.invariant-loop-k
 invariant-loop-k g l = IsLinkAt g.L.LinkMachine.turns l.k l.lanes l.at l.start.value l.link
-
-abbrev pub invariant-loop : goal.invariant-loop
-invariant-loop g l =
-    (goal.iterator-loop g).can_next l.iterator' × (goal.iterator-loop g).is_finite l.iterator'

@@ -4,7 +4,3 @@ use Rattle.session_work.proofs.motion.motion_worker.Given as goal
 
 abbrev pub invariant-loop-k : goal.invariant-loop-k
 invariant-loop-k g l = IsMotionAt g.M.MotionMachine l.lanes l.k l.start.value l.motion × (l.motion.late.items ≡ [])
-
-abbrev pub invariant-loop : goal.invariant-loop
-invariant-loop g l =
-    (goal.iterator-loop g).can_next l.iterator' × (goal.iterator-loop g).is_finite l.iterator'

@@ -3,7 +3,7 @@ use Rattle.session_work.specs.declared.table.MotionTurn.{MotionTurn}
 use Rattle.session_work.specs.Rows.{gather}
 use Rattle.session_work.specs.Seats.{needs, WordStep}
 use Rattle.session_work.proofs.Goes.{goes_on, taken_more}
-use Rattle.session_work.proofs.motion.hear.Goals as goal
+use Rattle.session_work.proofs.motion.hear_more.Goals as goal
 
 pub loop-preserved : goal.loop-preserved
 loop-preserved g c =

@@ -1,6 +1,6 @@
 use Rattle.std.proofs.Common.{◌≡◌}
 use Rattle.session_work.specs.Motions.{IsHearing}
-use Rattle.session_work.proofs.motion.hear.Given as goal
+use Rattle.session_work.proofs.motion.hear_more.Given as goal
 
 abbrev pub invariant-loop : goal.invariant-loop
 invariant-loop g l =

@@ -2,7 +2,7 @@
 use Rattle.std.proofs.Common.{drop, true, Bool, ◌≡◌, ℕ, suc, false, ◌%◌, ◌+◌, ◌<◌, ◌≤◌, ◌⊎◌, inl, inr, arith, ◌++◌, List, [], ◌∷◌, map, Option, Some, None, refl, ap, sym, ◌∙◌, subst, append-nil}
 use Rattle.std.proofs.lemmas.Bool.Decides.{eqb_tells, leb_tells}
 use Rattle.std.proofs.lemmas.List.{map-append}
-use Rattle.std.specs.Prelude.{slice_index_or}
+use Rattle.std.specs.Prelude.{slice_index_or, nat_le, if◌then◌else◌}
 use Rattle.arrayvec.specs.ArrayVec.{ArrayVec}
 use Rattle.block_frame.specs.Block.{block_text}
 use Rattle.block_frame.specs.declared.Found.{Found}
@@ -17,15 +17,18 @@ use Rattle.link_core.proofs.Steps.{repeat_down}
 use Rattle.msg_code.specs.declared.cmd.Cmd.{Cmd}
 use Rattle.msg_code.proofs.Written.{text_is}
 use Rattle.msg_dict.specs.Own.{own_formats}
-use Rattle.board_sim.specs.Rig.{Rig, takes_all, passes}
+use Rattle.board_sim.specs.Board.{Controller}
+use Rattle.board_sim.specs.Board as board
+use Rattle.board_sim.specs.Rig.{Rig, Passed, takes_all, passes}
 use Rattle.board_sim.specs.Turn.{Station, Heard, Expected, Other, Reply, AreReplies, IsContent, Holds, hears, hears_all, replies_of, empty_reply, next_number, says_shut, Noise}
 use Rattle.board_sim.specs.Given.{AddsReplies, HearsOne}
 use Rattle.board_sim.specs.Fair.{Meant, commands_of}
 use Rattle.board_world.specs.declared.event.Event.TheVariants.{Garble, Arrive, Lose, Repeat, Pass}
+use Rattle.board_sim.proofs.Asleep.{asleep_passes}
 use Rattle.board_sim.proofs.Replies.{adds_both, replies_append}
 use Rattle.plan_types.specs.declared.plan.BoardState.TheVariants.{Running, Shut}
 use Rattle.board_world.specs.World.{spoilt_by, unless_none, Core, after_event, does, obeys, says, board_runs, last_by, block_of, wire_text, shut_before}
-use Rattle.board_world.specs.Stands.{SeenWorld, WorldStandsFor, IsFound, texts, text_at, reply_text}
+use Rattle.board_world.specs.Stands.{SeenWorld, WorldStandsFor, IsFound, IsStill, texts, text_at, reply_text}
 use Rattle.board_world.proofs.Runs.{ordered_by}
 use Rattle.board_world.proofs.Standing.{station_of, link_after, quiet_stands, same_stands}
 use Rattle.board_world.proofs.Blocks.{block_is, block_reads, reads_as}
@@ -311,6 +314,17 @@ not_passed_stands s t h until st early e =
       ordered = ordered_by h (Pass until) st.ordered;
       read = rw (append-nil h.queued) st.read;
     }
+
+-- a board that tells nothing runs on
+runs_if : (is : Bool) (o : BoardState) (b : Controller) (t : ℕ) → o ≡ Running → b.state ≡ Running → (if is then board.passes_on o b t else record { board = b; pulses = [] }).board.state ≡ Running
+runs_if true Running b t e k = k
+runs_if true (Shut reason tick first) b t e k = absurd (cc)
+runs_if false o b t e k = k
+
+pub still_runs : (r : Rig) (until : ℕ) → IsStill r until → (passes r until).rig.controller.state ≡ Running
+still_runs r until s =
+    let at = r.controller in
+    ap (λ (p : Passed). p.rig.controller.state) (asleep_passes r until s.later s.asleep) ∙ runs_if (nat_le at.tick until) at.state at until s.runs s.runs
 
 -- a board that runs, and whose triggers tell nothing, says nothing
 pub none_said : (s : Station) (until : ℕ) → s.rig.controller.state ≡ Running → (passes s.rig until).answers ≡ [] → AreReplies (replies_of s.expected (says s.rig until)) []

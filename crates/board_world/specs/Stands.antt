@@ -1,10 +1,11 @@
 -- When a world stands for a state of a board and its link.
-use Rattle.std.specs.Prelude.{◌≡◌, ◌↔◌, ℕ, ◌+◌, ◌++◌, ◌%◌, ◌^◌, ◌<◌, List, [], ◌∷◌, length, take, map, slice_index_or, Option, Some, None}
+use Rattle.std.specs.Prelude.{◌≡◌, ◌↔◌, ℕ, ◌+◌, ◌++◌, ◌%◌, ◌^◌, ◌<◌, ◌≤◌, List, [], ◌∷◌, length, take, map, slice_index_or, Option, Some, None}
 use Rattle.arrayvec.specs.ArrayVec.{ArrayVec}
 use Rattle.block_frame.specs.Block.{block_text}
 use Rattle.block_frame.specs.declared.Found.{Found}
 use Rattle.block_frame.specs.declared.Found.TheVariants.{Block, Skip, NeedMore, Bad}
 use Rattle.plan_types.specs.Clock.{tick_limit}
+use Rattle.plan_types.specs.declared.plan.BoardState.TheVariants.{Running}
 use Rattle.plan_types.specs.declared.plan.Pulse.{Pulse}
 use Rattle.link_core.specs.Core.{Command, Reply, InStep, queued}
 use Rattle.link_core.specs.Host.{Host, content_of}
@@ -13,6 +14,8 @@ use Rattle.msg_dict.specs.Own.{own_formats}
 use Rattle.msg_code.specs.Text.{IsText}
 use Rattle.msg_code.specs.declared.cmd.Cmd.{Cmd}
 use Rattle.board_sim.specs.Turn.{Station}
+use Rattle.board_sim.specs.Asleep.{AllSleep}
+use Rattle.board_sim.specs.Rig.{Rig}
 use Rattle.board_sim.specs.RigRuns.{AllSound}
 use Rattle.board_sim.specs.Fair.{Meant}
 use Rattle.board_world.specs.declared.event.Event.{Event}
@@ -112,6 +115,12 @@ CanHappen s Arrive = s.station.rig.controller.tick < tick_limit
 CanHappen s Repeat = s.station.rig.controller.tick < tick_limit
 CanHappen s Garble = s.station.rig.controller.tick < tick_limit
 CanHappen s _ = Unit {0}
+
+-- a board tells nothing up to a tick, which isn't behind it: it runs, and all its triggers sleep
+pub record IsStill (r : Rig) (until : ℕ) : Type 0 where
+  pub later : r.controller.tick ≤ until
+  pub runs : r.controller.state ≡ Running
+  pub asleep : AllSleep until r.triggers
 
 -- the blocks under way, one way
 abbrev pub under_way : Way → SeenWorld → List (List ℕ)

@@ -1,7 +1,8 @@
 //! A board with its link: a host's end, a simulated board, and the blocks under way between them.
 
-ghost use Rattle.std.specs.Prelude.{◌≡◌, ℕ, ◌^◌, ◌<◌, ◌↔◌, List, [], ◌++◌, length, slice_index_or, IsTrue, false, OnOk, IfOk};
+ghost use Rattle.std.specs.Prelude.{◌≡◌, ℕ, ◌^◌, ◌<◌, ◌↔◌, List, [], ◌++◌, length, slice_index_or, IsTrue, true, false, OnOk, IfOk};
 ghost use Rattle.plan_types.specs.Clock.{tick_limit};
+ghost use Rattle.plan_types.specs.declared.plan.BoardState.TheVariants.{Running};
 ghost use Rattle.link_core.specs.Core.{sent};
 ghost use Rattle.link_core.specs.Host.{Host, acked_of, IsResendDue};
 ghost use Rattle.link_core.specs.Stands.{host_of, last_closes};
@@ -10,7 +11,7 @@ ghost use Rattle.msg_code.specs.declared.unit.Control.{Control};
 ghost use Rattle.board_world.specs.declared.event.Event.{Event};
 ghost use Rattle.wire_scene.specs.declared.scene.Way.{Way};
 ghost use Rattle.board_world.specs.World.{Core, after_event, in_turn, new_world};
-ghost use Rattle.board_world.specs.Stands.{SeenWorld, WorldStandsFor, CanHappen, under_way, blocks_of, all_put_again, blocks_from};
+ghost use Rattle.board_world.specs.Stands.{SeenWorld, WorldStandsFor, CanHappen, IsStill, under_way, blocks_of, all_put_again, blocks_from};
 
 use crate::event::Event;
 use crate::line::{Line, found_in};
@@ -211,13 +212,13 @@ impl World {
         ensures { OnOk result ((h : Core) → WorldStandsFor self.old h →
             WorldStandsFor self.new (after_event h (Event.Pass until))) }
     {
-        let from = self.taker.tick();
-        if until < from {
+        // Mostly the board makes steps and tells nothing.
+        if self.is_still(until) {
+            self.pass_still(until)?;
             return Ok(());
         }
-        // Mostly the board makes steps and tells nothing.
-        if self.taker.is_still(until) {
-            self.taker.pass_asleep(until, &mut self.pulses)?;
+        let from = self.taker.tick();
+        if until < from {
             return Ok(());
         }
         let before = shut_before(self.taker.state(), from);
@@ -226,6 +227,27 @@ impl World {
         self.taker.say_shut(before, from, until, &mut answers)?;
         self.up.put_all(answers.as_slice())?;
         self.pulses = pulses;
+        Ok(())
+    }
+
+    /// Whether the board runs on to a tick and tells nothing before it.
+    pub fn is_still(&self, until: u64) -> bool
+        ensures { result ≡ true → IsStill self.now.station.rig until }
+    {
+        self.taker.tick() <= until && self.taker.is_still(until)
+    }
+
+    /// The board, which tells nothing before a tick, is run on to it.
+    pub fn pass_still(&mut self, until: u64) -> Result<(), AllocError>
+        requires until { until < tick_limit }
+        requires still { IsStill self.old.station.rig until }
+        ensures stands { OnOk result ((h : Core) → WorldStandsFor self.old h →
+            WorldStandsFor self.new (after_event h (Event.Pass until))) }
+        ensures host { OnOk result (self.new.host ≡ self.old.host) }
+        ensures up { OnOk result (self.new.up ≡ self.old.up) }
+        ensures runs { OnOk result (self.new.station.rig.controller.state ≡ Running) }
+    {
+        self.taker.pass_asleep(until, &mut self.pulses)?;
         Ok(())
     }
 
@@ -246,6 +268,7 @@ impl World {
     pub fn due(&mut self, turn: u64) -> bool
         ensures seen { IsTrue result ↔ IsResendDue self.old.host turn }
         ensures due { (h : Core) → WorldStandsFor self.old h → IsTrue result ↔ IsResendDue (host_of h.link) turn }
+        ensures board { self.new.station ≡ self.old.station }
         ensures stands { (h : Core) → WorldStandsFor self.old h → WorldStandsFor self.new (in_turn h turn) }
     {
         self.host.turn(turn)

@@ -1,10 +1,10 @@
-use Rattle.std.proofs.Common.{◌∙◌, ◌++◌, ◌≤◌, ◌<◌, ap, refl, sym, subst, List, [], ℕ, arith, append-nil}
+use Rattle.std.proofs.Common.{◌∙◌, ◌++◌, ◌≤◌, ◌<◌, ap, refl, sym, subst, List, ℕ, arith}
 use Rattle.plan_types.specs.declared.plan.Pulse.{Pulse}
 use Rattle.board_sim.specs.Rig.{passes}
 use Rattle.board_sim.specs.Turn.{Station}
 use Rattle.board_world.specs.World.{shut_before}
 use Rattle.board_world.specs.Stands.{SeenWorld, WorldStandsFor, texts}
-use Rattle.board_world.proofs.Hearing.{none_said, passed_stands, not_passed_stands, said}
+use Rattle.board_world.proofs.Hearing.{passed_stands, not_passed_stands, said}
 use Rattle.board_world.proofs.world.World.pass.Goals as goal
 
 pub returns : goal.returns
@@ -30,18 +30,3 @@ returns-then-until-from c h st =
     let early : c.args.until < i.taker.rig.controller.tick = omega (arith, c.tick-from.ensures, c.if-until-from.true) in
     let seen : c.args.until < c.args.self.now.station.rig.controller.tick = subst (λ (x : SeenWorld). c.args.until < x.station.rig.controller.tick) c.self.view_is early in
     not_passed_stands c.args.self.now c.args.self.now h c.args.until st seen refl
-
-pub returns-then-is_still : goal.returns-then-is_still
-returns-then-is_still c h st =
-    let i = c.self.inside in
-    let before : SeenWorld = record { host = i.host; station = i.taker; down = i.down; up = i.up; pulses = i.pulses.items } in
-    let At : SeenWorld → Type 0 = λ s. WorldStandsFor s h in
-    let st0 : WorldStandsFor before h = subst At (sym c.self.view_is) st in
-    let later : i.taker.rig.controller.tick ≤ c.args.until = omega (arith, c.tick-from.ensures, c.if-until-from.false) in
-    let passed = c.in_ok-pass_asleep.ensures in
-    let station : Station = record i.taker { rig = (passes i.taker.rig c.args.until).rig } in
-    let pulses : List Pulse = c.pass_asleep.new.pulses.items in
-    passed_stands before _ h c.args.until [] st0 later (none_said i.taker c.args.until (c.is_still.ensures.runs c.if-is_still.true) passed.silent)
-    (ap (λ (x : Station). record before { station = x; pulses = pulses }) passed.station
-    ∙ ap (λ (u : List (List ℕ)). record before { station = station; up = u; pulses = pulses }) (sym (append-nil i.up))
-    ∙ ap (λ (ps : List Pulse). record before { station = station; up = i.up ++ []; pulses = ps }) passed.pulses)

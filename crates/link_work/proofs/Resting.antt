@@ -1,18 +1,17 @@
 -- The parts of a turn in which a link rests: nothing is under way, and the board tells nothing.
-use Rattle.std.proofs.Common.{◌≡◌, ℕ, Bool, true, ◌+◌, List, [], ◌∷◌, ◌++◌, drop, length, refl, ap, sym, ◌∙◌, subst}
+use Rattle.std.proofs.Common.{◌≡◌, ℕ, Bool, true, false, List, [], ◌∷◌, ◌++◌, drop, length, refl, ap, sym, ◌∙◌, subst}
 use Rattle.std.proofs.Math.Seq.{drop-length}
 use Rattle.std.specs.Prelude.{◌&&◌}
 use Rattle.link_core.specs.Host.{Host}
-use Rattle.msg_code.specs.declared.talk.News.{News}
 use Rattle.wire_scene.specs.declared.scene.Way.{Way}
 use Rattle.wire_scene.specs.declared.scene.Way.TheVariants.{Down, Up}
-use Rattle.wire_scene.specs.Wire.{Copy, Line}
+use Rattle.wire_scene.specs.Wire.{Copy, Line, connect_if}
 use Rattle.board_world.specs.declared.event.Event.TheVariants.{Pass}
 use Rattle.board_world.specs.Stands.{SeenWorld, WorldStandsFor, blocks_of}
 use Rattle.board_world.specs.World.{Core, Do, after_event, in_turn, run_world}
 use Rattle.link_work.specs.Ends.{is_quiet_line}
 use Rattle.link_work.specs.Told.{AddsNews, heard_in}
-use Rattle.link_work.specs.Turn.{come, newly, put_all, still}
+use Rattle.link_work.specs.Turn.{come, line_for, put_all, still}
 use Rattle.plan_types.proofs.Facts.{both_parts}
 use Rattle.link_work.proofs.Bounds.{quiet_line}
 use Rattle.link_work.proofs.Hearing.{adds_none}
@@ -23,6 +22,21 @@ pub none_under_way : (down up : Line) (turn : ℕ) → is_quiet_line down turn &
 none_under_way down up turn quiet =
     let b = both_parts (is_quiet_line down turn) (is_quiet_line up turn) quiet in
     ((quiet_line down turn b.0).nothing, (quiet_line up turn b.1).nothing)
+
+-- where connecting ends, lines stay quiet
+opened_if : (was : Bool) (l : Line) (turn : ℕ) → is_quiet_line (connect_if was l) turn ≡ is_quiet_line l turn
+opened_if true l turn = refl
+opened_if false l turn = refl
+
+opened : (connected : Bool) (l : Line) (turn : ℕ) → is_quiet_line (line_for connected l) turn ≡ is_quiet_line l turn
+opened true l turn = opened_if l.connected l turn
+opened false l turn = refl
+
+pub opened_quiet : (connected : Bool) (down up d u : Line) (turn : ℕ) → d ≡ line_for connected down → u ≡ line_for connected up → is_quiet_line down turn && is_quiet_line up turn ≡ true → is_quiet_line d turn && is_quiet_line u turn ≡ true
+opened_quiet connected down up d u turn e f quiet =
+    let first = ap (λ (l : Line). is_quiet_line l turn) e ∙ opened connected down turn in
+    let second = ap (λ (l : Line). is_quiet_line l turn) f ∙ opened connected up turn in
+    ap (λ b. b && is_quiet_line u turn) first ∙ ap (λ b. is_quiet_line down turn && b) second ∙ quiet
 
 -- nothing comes on a line on which no block is under way, and none stays
 none_comes : (way : Way) (turn : ℕ) (s : SeenWorld) (l : Line) → l.copies ≡ [] → (h : Core) → WorldStandsFor s h → WorldStandsFor s (run_world (come way turn l.copies) h)

@@ -1,2 +1,3 @@
 mod Heads
+mod Pairs
 pub mod Writing

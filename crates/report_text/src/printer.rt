@@ -1,15 +1,12 @@
 //! The lines of a machine's report, of which those of pulses have their words put together once.
 
-ghost use Rattle.std.specs.Prelude.{◌≡◌, ◌++◌, ◌∷◌, [], decimal, drop, length, OnOk, IfOk};
-ghost use Rattle.report_text.specs.Heads.{AreHeads, head_text};
-ghost use Rattle.report_text.specs.Pieces.{joined};
+ghost use Rattle.std.specs.Prelude.{◌≡◌, ◌++◌, ◌+◌, ◌≤◌, decimal, take, length, OnOk, IfOk};
+ghost use Rattle.report_text.specs.Heads.{AreHeads, IsHead};
 ghost use Rattle.report_text.specs.Text.{direction_word, line_text};
 
+use crate::digits::{place, place_number};
 use crate::line::ReportLine;
-use crate::pieces::Piece::Text;
-use crate::pieces::put_pieces;
-use crate::print::{board_name, put_line, stepper_name};
-use itoa::write_digits;
+use crate::print::{board_name, direction_word, put_line, stepper_name};
 use plan_types::Machine;
 use std::alloc::{AllocError, Global};
 use std::marker::Model;
@@ -17,11 +14,13 @@ use std::marker::Model;
 /// No machine has more steppers.
 const MOST_STEPPERS: usize = 16;
 
-/// The words in front of the tick, in the lines of a stepper's pulses on a board.
+/// The words in front of the tick, in the lines of a stepper's pulses on a board, and room behind them for the rest
+/// of such a line: no name is longer than 16 bytes, no tick than 20 digits.
 #[derive(Drop)]
 pub struct Head {
     board: u8,
-    words: Vec<u8>,
+    size: usize,
+    words: [u8; 64],
 }
 
 /// Puts the lines of a machine's report into text. A report is mostly lines of pulses.
@@ -51,44 +50,39 @@ fn board_of(machine: &Machine, stepper: u8) -> u8 {
 }
 
 /// The words of a stepper.
-fn head_of(alloc: Global, machine: &Machine, stepper: u8) -> Result<Head, AllocError>
-    ensures { IfOk result (λ h. h.words.items ≡ head_text machine.now h.board stepper) }
+fn head_of(machine: &Machine, stepper: u8) -> Head
+    ensures { IsHead machine.now stepper result }
 {
     let board = board_of(machine, stepper);
-    let mut words = Vec::new(alloc);
-    put_pieces(
-        &mut words,
-        &[
-            Text(b"pulse "),
-            Text(board_name(machine, board)),
-            Text(b" "),
-            Text(stepper_name(machine, stepper)),
-            Text(b" "),
-        ],
-    )?;
-    Ok(Head { board, words })
+    let mut words = [b' '; 64];
+    let verb = place(&mut words, 0, b"pulse ");
+    let name = place(&mut words, verb, board_name(machine, board));
+    let next = place(&mut words, name, b" ");
+    let last = place(&mut words, next, stepper_name(machine, stepper));
+    let size = place(&mut words, last, b" ");
+    Head { board, size, words }
 }
 
-/// Room for the digits of a tick, and the end of a pulse's line.
-fn line_end(up: bool) -> [u8; 23]
-    ensures size { length result ≡ 23 }
-    ensures end { drop 20 result ≡ direction_word up }
+/// Puts the tick and the end of a pulse's line behind its words: the place behind the line.
+fn place_rest(line: &mut [u8], at: usize, tick: u64, up: bool) -> usize
+    requires { at + 23 ≤ length line.old }
+    ensures bytes { take result line.new ≡ take at line.old ++ (decimal tick ++ direction_word up) }
+    ensures size { length line.new ≡ length line.old }
 {
-    if up {
-        *b"                     +\n"
-    } else {
-        *b"                     -\n"
-    }
+    let end = place_number(line, at, tick);
+    place(line, end, &direction_word(up))
 }
 
-/// Adds the line of a pulse, whose words in front of the tick are these.
-fn put_behind(out: &mut Vec<u8>, words: &[u8], tick: u64, up: bool) -> Result<(), AllocError>
-    ensures { OnOk result (out.new.items ≡ out.old.items ++ (words.now ++ (decimal tick ++ direction_word up))) }
+/// Adds the line of a pulse. Its words are copied with the room behind them, which takes the rest and is cut off.
+fn put_behind(out: &mut Vec<u8>, head: &Head, tick: u64, up: bool) -> Result<(), AllocError>
+    requires { (head.now.size ≤ 40) × (length head.now.words ≡ 64) }
+    ensures { OnOk result (out.new.items
+        ≡ out.old.items ++ (take head.now.size head.now.words ++ (decimal tick ++ direction_word up))) }
 {
-    let mut end = line_end(up);
-    let start = write_digits(tick, &mut end, 20);
-    out.extend_from_slice(words)?;
-    out.extend_from_slice(&end[start..])?;
+    out.extend_from_slice(&head.words)?;
+    let at = out.len() - 64 + head.size;
+    let end = place_rest(out.as_mut_slice(), at, tick, up);
+    out.truncate(end);
     Ok(())
 }
 
@@ -100,7 +94,7 @@ impl<'a> LinePrinter<'a> {
         let mut heads = Vec::new(alloc);
         let count = machine.steppers.as_slice().len().min(MOST_STEPPERS) as u8;
         for stepper in 0..count {
-            heads.push(head_of(alloc, machine, stepper)?)?;
+            heads.push(head_of(machine, stepper))?;
         }
         Ok(LinePrinter { machine, heads })
     }
@@ -119,7 +113,7 @@ impl<'a> LinePrinter<'a> {
             if (stepper as usize) < self.heads.len() {
                 let head = &self.heads[stepper as usize];
                 if head.board == board {
-                    put_behind(out, head.words.as_slice(), tick, up)?;
+                    put_behind(out, head, tick, up)?;
                     return Ok(());
                 }
             }

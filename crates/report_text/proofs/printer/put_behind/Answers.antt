@@ -1,8 +1,11 @@
-use Rattle.std.proofs.Common.{◌<◌, ◌^◌, arith}
-use Rattle.std.proofs.lemmas.Fmt.{length-decimal-le}
+use Rattle.std.proofs.Common.{◌≡◌, ◌+◌, ◌++◌, length, length-append, ap, sym, ◌∙◌, arith}
+use Rattle.report_text.proofs.Heads.{put-over}
 use Rattle.report_text.proofs.printer.put_behind.Goals as goal
 
-pub write_digits-start-requires : goal.write_digits-start-requires
-write_digits-start-requires c =
-    let fits : c.args.tick < 2 ^ 64 = omega (arith, c.ranges.tick.fits) in
-    (length-decimal-le 20 c.args.tick (omega arith) (omega (arith, fits)) fits, omega (arith, c.line_end-end.ensures.size))
+pub returns : goal.returns
+returns c =
+    let old = c.args.out.now.items in
+    let block = c.args.head.now.words in
+    let before : c.as_mut_slice.result.now ≡ old ++ block = c.as_mut_slice.ensures.value ∙ c.in_ok-extend_from_slice.ensures.items in
+    let long : length c.as_mut_slice.result.now ≡ length old + length block = ap length before ∙ length-append old block in
+    put-over old block _ _ _ _ _ c.args.head.now.size _ _ _ before (omega (arith, long, c.len.ensures, c.as_mut_slice.ensures.len, c.requires.1)) (omega (arith, c.place_rest-end.ensures.size, c.as_mut_slice.ensures.len)) c.place_rest-end.ensures.bytes c.truncate.ensures.items

@@ -1,0 +1,25 @@
+use Rattle.std.proofs.Common.{◌≡◌, ◌+◌, ◌/◌, length, ap, arith}
+use Rattle.std.specs.Fmt.{decimal}
+use Rattle.report_text.proofs.Pairs.{four-behind, longer}
+use Rattle.report_text.proofs.digits.place_eight.Goals as goal
+
+pub place_short-end-requires : goal.place_short-end-requires
+place_short-end-requires c =
+    let long = longer c.args.number c.if-number-lt10000.false c.ranges.number.fits in
+    omega arith
+
+pub place-requires : goal.place-requires
+place-requires c =
+    let long = longer c.args.number c.if-number-lt10000.false c.ranges.number.fits in
+    let four : length c.four_of.result ≡ 4 = ap length c.four_of.ensures in
+    omega (arith, c.place_short-end.ensures.end, c.place_short-end.ensures.size)
+
+pub returns-clause-bytes : goal.returns-clause-bytes
+returns-clause-bytes c =
+    four-behind _ _ _ _ _ _ _ _ c.if-number-lt10000.false c.ranges.number.fits c.four_of.ensures c.place_short-end.ensures.bytes c.place.ensures.bytes
+
+pub returns-clause-end : goal.returns-clause-end
+returns-clause-end c =
+    let long = longer c.args.number c.if-number-lt10000.false c.ranges.number.fits in
+    let four : length c.four_of.result ≡ 4 = ap length c.four_of.ensures in
+    omega (arith, c.place_short-end.ensures.end, c.place.ensures.end)

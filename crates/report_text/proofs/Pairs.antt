@@ -5,7 +5,7 @@ use Rattle.std.specs.Fmt.{decimal}
 use lib.Ieee.Fits.{and_l, and_r}
 use Rattle.itoa.proofs.Decimal.{decimal_two, decimal_pair, decimal_four}
 use Rattle.report_text.specs.declared.digits.TheConstants.{PAIRS}
-use Rattle.report_text.specs.Digits.{pair, four}
+use Rattle.report_text.specs.Digits.{pair, four, eight}
 
 abbrev are_pairs : ℕ → Bool
 are_pairs zero = true
@@ -37,10 +37,24 @@ four-digits n lo hi = rw (decimal_pair n (omega arith) (omega arith), decimal_tw
 pub more-digits : (n : ℕ) → 10000 ≤ n → n < 2 ^ 64 → decimal n ≡ decimal (n / 10000) ++ four (n % 10000)
 more-digits n lo hi = decimal_four n lo hi
 
+pub most-digits : (n : ℕ) → 100000000 ≤ n → n < 2 ^ 64 → decimal n ≡ decimal (n / 100000000) ++ eight (n % 100000000)
+most-digits n lo hi =
+    let a : n / 10000 / 10000 ≡ n / 100000000 = omega arith in
+    let b : n / 10000 % 10000 ≡ n % 100000000 / 10000 = omega arith in
+    let c : n % 10000 ≡ n % 100000000 % 10000 = omega arith in
+    more-digits n (omega arith) hi ∙ ap (λ t. t ++ four (n % 10000)) (more-digits (n / 10000) (omega arith) (omega arith)) ∙ append_assoc (decimal (n / 10000 / 10000)) (four (n / 10000 % 10000)) (four (n % 10000))
+    ∙ ap (λ k. decimal k ++ (four (n / 10000 % 10000) ++ four (n % 10000))) a ∙ ap (λ k. decimal (n / 100000000) ++ (four k ++ four (n % 10000))) b ∙ ap (λ k. decimal (n / 100000000) ++ (four (n % 100000000 / 10000) ++ four k)) c
+
 pub longer : (n : ℕ) → 10000 ≤ n → n < 2 ^ 64 → length (decimal n) ≡ length (decimal (n / 10000)) + 4
 longer n lo hi = ap length (more-digits n lo hi) ∙ length-append _ _
 
--- a number behind which four more digits are put
-pub four-behind : (n at mid end : ℕ) (before first last text : List ℕ) → 10000 ≤ n → n < 2 ^ 64 → text ≡ four (n % 10000) → take mid first ≡ take at before ++ decimal (n / 10000) → take end last ≡ take mid first ++ text → take end last ≡ take at before ++ decimal n
-four-behind n at mid end before first last text lo hi e front more =
-    more ∙ ap (λ t. t ++ text) front ∙ append_assoc (take at before) (decimal (n / 10000)) text ∙ ap (λ t. take at before ++ (decimal (n / 10000) ++ t)) e ∙ ap (λ t. take at before ++ t) (sym (more-digits n lo hi))
+pub longest : (n : ℕ) → 100000000 ≤ n → n < 2 ^ 64 → length (decimal n) ≡ length (decimal (n / 100000000)) + 8
+longest n lo hi = ap length (most-digits n lo hi) ∙ length-append _ _
+
+-- a number behind whose front its last digits are put
+pub digits-behind : (n m at mid end : ℕ) (before first last text : List ℕ) → decimal n ≡ decimal m ++ text → take mid first ≡ take at before ++ decimal m → take end last ≡ take mid first ++ text → take end last ≡ take at before ++ decimal n
+digits-behind n m at mid end before first last text e front more =
+    more ∙ ap (λ t. t ++ text) front ∙ append_assoc (take at before) (decimal m) text ∙ ap (λ t. take at before ++ t) (sym e)
+
+pub eight-behind : (n at mid end : ℕ) (before first last text : List ℕ) → 100000000 ≤ n → n < 2 ^ 64 → text ≡ eight (n % 100000000) → take mid first ≡ take at before ++ decimal (n / 100000000) → take end last ≡ take mid first ++ text → take end last ≡ take at before ++ decimal n
+eight-behind n at mid end before first last text lo hi e = digits-behind n (n / 100000000) at mid end before first last text (most-digits n lo hi ∙ ap (λ t. decimal (n / 100000000) ++ t) (sym e))

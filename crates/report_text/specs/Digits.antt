@@ -8,3 +8,7 @@ pair p = (48 + p / 10) ∷ (48 + p % 10) ∷ []
 -- a number below 10,000 in four digits
 abbrev pub four : ℕ → List ℕ
 four n = pair (n / 100) ++ pair (n % 100)
+
+-- a number below 100,000,000 in eight digits
+abbrev pub eight : ℕ → List ℕ
+eight n = four (n / 10000) ++ four (n % 10000)

@@ -1,6 +1,6 @@
-use Rattle.std.proofs.Common.{◌≡◌, ◌+◌, ◌/◌, length, ap, arith}
+use Rattle.std.proofs.Common.{◌≡◌, ◌+◌, ◌/◌, ◌++◌, ◌∙◌, sym, length, ap, arith}
 use Rattle.std.specs.Fmt.{decimal}
-use Rattle.report_text.proofs.Pairs.{four-behind, longer}
+use Rattle.report_text.proofs.Pairs.{digits-behind, longer, more-digits}
 use Rattle.report_text.proofs.digits.place_eight.Goals as goal
 
 pub place_short-end-requires : goal.place_short-end-requires
@@ -16,7 +16,7 @@ place-requires c =
 
 pub returns-clause-bytes : goal.returns-clause-bytes
 returns-clause-bytes c =
-    four-behind _ _ _ _ _ _ _ _ c.if-number-lt10000.false c.ranges.number.fits c.four_of.ensures c.place_short-end.ensures.bytes c.place.ensures.bytes
+    digits-behind _ _ _ _ _ _ _ _ _ (more-digits c.args.number c.if-number-lt10000.false c.ranges.number.fits ∙ ap (λ t. decimal (c.args.number / 10000) ++ t) (sym c.four_of.ensures)) c.place_short-end.ensures.bytes c.place.ensures.bytes
 
 pub returns-clause-end : goal.returns-clause-end
 returns-clause-end c =

@@ -74,6 +74,10 @@ item_past [] j h = refl
 item_past (x ∷ xs) zero h = absurd (omega (arith, h))
 item_past (x ∷ xs) (suc j) h = item_past xs j (omega (arith, h))
 
+-- the item that was pushed stands at the end
+pub pushed_here : {A : Type 0} (xs ys : List A) (y z : A) (i : ℕ) → length xs ≡ i → ys ≡ xs ++ y ∷ [] → z ≡ get_or ys i z → z ≡ y
+pushed_here xs ys y z i long more is = is ∙ (ap (λ zs. get_or zs i z) more ∙ get_or_push xs y z i long)
+
 -- one more with this number
 pub more_of : {A : Type 0} (number : A → ℕ) (k : ℕ) (xs : List A) (y : A) → ((j : ℕ) (x : A) → j < length xs → number (get_or xs j x) ≡ k) → number y ≡ k → (j : ℕ) (x : A) → j < length (xs ++ y ∷ []) → number (get_or (xs ++ y ∷ []) j x) ≡ k
 more_of number k xs y all here j x low =

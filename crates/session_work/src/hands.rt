@@ -1,5 +1,5 @@
 //! All links of a run on one thread.
-ghost use Rattle.std.specs.Prelude.{◌≡◌, ◌+◌, ◌≤◌, ◌∷◌, [], map, length, get_or, vec_len, vec_capacity};
+ghost use Rattle.std.specs.Prelude.{◌≡◌, ◌+◌, ◌≤◌, ◌++◌, ◌∷◌, [], map, length, get_or, vec_len, vec_capacity};
 ghost use Rattle.lane_queue.specs.Ends.{IsSendOf, IsTakeOf, next_put, next_take};
 ghost use Rattle.lane_queue.specs.declared.ends.Lane.{Lane};
 ghost use Rattle.session_work.specs.Alone.{AreHands, IsHandAt};
@@ -12,7 +12,7 @@ use crate::late::{Row, next_batch};
 use crate::link::{LinkDone, state_of};
 use crate::machines::LinkMachine;
 use crate::messages::{Batch, Control, State};
-use crate::rows::take_first;
+use crate::rows::{empty, take_first};
 use crate::runtime::{Runtime, stay};
 use io_core::{Gate, Who};
 use lane_queue::{SendPass, TakePass};
@@ -26,9 +26,10 @@ pub struct Hand<L> {
     pub done: LinkDone<L>,
 }
 
-/// What is handed to the link of a board in a turn.
+/// What is handed to the link of a board in a turn, and what runs it.
 #[derive(Drop)]
-struct Handed {
+struct Handed<'a, 'b, R, G> {
+    rt: &'a Runtime<'b, R, G>,
     turn: u64,
     at: usize,
     control: Control,
@@ -44,38 +45,44 @@ pub struct HandsTurn {
     pub states: Vec<State>,
 }
 
-// A turn of the link of a board: its control and its batch are handed to it, and its state to the reactor.
+// A turn of the link of a board: its control and its batch are handed to it, and its state, which is the next one of
+// the list, to the reactor.
 #[inline(always)]
 fn hand_turn<R: Wait, G: Gate, L: LinkMachine>(
-    rt: &Runtime<'_, R, G>,
     lanes: &Lanes<'_>,
-    handed: Handed,
+    handed: Handed<'_, '_, R, G>,
     send: &mut SendPass<Control>,
     batch_send: &mut SendPass<Batch>,
     take: &mut TakePass<State>,
     hand: &mut Hand<L>,
-) -> State
+    states: &mut Vec<State>,
+)
     requires board { IsBoard lanes.now handed.at }
     requires at { IsHandAt L.LinkMachine handed.turn lanes.now handed.at hand.old }
     requires control { handed.control.turn ≡ handed.turn }
     requires batch { handed.batch.turn ≡ handed.turn }
     requires send { (l : Lane Control) →
         IsSendOf (get_or lanes.now.controls.now handed.at l) send.old × (next_put send.old ≡ handed.turn) }
-    requires batch_send { (l : Lane Batch) →
-        IsSendOf (get_or lanes.now.batches.now handed.at l) batch_send.old × (next_put batch_send.old ≡ handed.turn) }
+    requires batch_send { (l : Lane Batch) → IsSendOf (get_or lanes.now.batches.now handed.at l) batch_send.old
+        × (next_put batch_send.old ≡ handed.turn) }
     requires take { (l : Lane State) →
         IsTakeOf (get_or lanes.now.states.now handed.at l) take.old × (next_take take.old ≡ handed.turn) }
-    ensures at { IsHandAt L.LinkMachine (handed.turn + 1) lanes.now handed.at hand.new }
+    requires count { vec_len states.old ≡ handed.at }
+    requires room { vec_len states.old + 1 ≤ vec_capacity states.old }
+    ensures at { IsHandAt L.LinkMachine (handed.entry.turn + 1) lanes.now handed.entry.at hand.new }
     ensures start { hand.new.start.value ≡ hand.old.start.value }
     ensures put { (l : Lane Control) →
-        PutMore (handed.control ∷ []) (get_or lanes.now.controls.now handed.at l) send.old send.new }
+        PutMore (handed.entry.control ∷ []) (get_or lanes.now.controls.now handed.entry.at l) send.old send.new }
     ensures batch { (l : Lane Batch) →
-        PutMore (handed.batch ∷ []) (get_or lanes.now.batches.now handed.at l) batch_send.old batch_send.new }
-    ensures taken { (l : Lane State) →
-        TookMore (result ∷ []) (get_or lanes.now.states.now handed.at l) take.old take.new }
-    ensures number { result.turn ≡ handed.turn }
+        PutMore (handed.entry.batch ∷ []) (get_or lanes.now.batches.now handed.entry.at l)
+        batch_send.old batch_send.new }
+    ensures state { (x : State) × (states.new.items ≡ states.old.items ++ x ∷ []) × (x.turn ≡ handed.entry.turn)
+        × ((l : Lane State) →
+        TookMore (x ∷ []) (get_or lanes.now.states.now handed.entry.at l) take.old take.new) }
+    ensures room { vec_capacity states.old ≤ vec_capacity states.new }
 {
     let Handed {
+        rt,
         turn,
         at,
         control,
@@ -87,12 +94,15 @@ fn hand_turn<R: Wait, G: Gate, L: LinkMachine>(
     if control.end {
         stay(rt.threads);
     }
-    lanes.controls[at].hand(send, &mut hand.done.control_pass, &control);
-    lanes.batches[at].hand(batch_send, &mut hand.done.batch_pass, &batch);
     let link = &mut hand.done;
-    let state = state_of(rt, turn, control, batch, &mut link.machine, &mut link.out);
-    lanes.states[at].hand(&mut hand.done.state_pass, take, &state);
-    state
+    lanes.controls[at].hand(send, &mut link.control_pass, &control);
+    lanes.batches[at].hand(batch_send, &mut link.batch_pass, &batch);
+    // Pushed where it is made: a state is large, and moved no more than once.
+    match states.push(state_of(rt, turn, control, batch, &mut link.machine, &mut link.out)) {
+        Ok(()) => {}
+        Err(_) => unreachable!(),
+    }
+    lanes.states[at].hand(&mut link.state_pass, take, &states[at]);
 }
 
 /// Makes a turn of all links: hands them what the turn has for them, and their states to the reactor, into a list
@@ -136,28 +146,25 @@ pub fn hands_turn<R: Wait, G: Gate, L: LinkMachine>(
     ensures room { length lanes.now.states.now ≤ vec_capacity turn.new.states }
 {
     let k = turn.number;
-    turn.states.clear();
+    empty(&mut turn.states);
     for i in 0..lanes.batches.len() {
         let control = take_first(&mut turn.controls);
         let batch = next_batch(rt.alloc, k, &mut turn.batches);
         let handed = Handed {
+            rt,
             turn: k,
             at: i,
             control,
             batch,
         };
-        let state = hand_turn(
-            rt,
+        hand_turn(
             lanes,
             handed,
             &mut sends[i],
             &mut batch_sends[i],
             &mut takes[i],
             &mut hands[i],
+            &mut turn.states,
         );
-        match turn.states.push(state) {
-            Ok(()) => {}
-            Err(_) => unreachable!(),
-        }
     }
 }

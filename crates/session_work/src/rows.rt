@@ -25,6 +25,19 @@ pub fn take_first<T>(msgs: &mut Vec<T>) -> T
     msgs.remove(0)
 }
 
+/// Empties a list, whose room stays. Where there is one message alone, no loop runs over them.
+#[inline(always)]
+pub fn empty<T: Drop>(msgs: &mut Vec<T>)
+    ensures len { vec_len msgs.new ≡ 0 }
+    ensures room { vec_capacity msgs.new ≡ vec_capacity msgs.old }
+{
+    if msgs.len() == 1 {
+        msgs.pop();
+    } else {
+        msgs.clear();
+    }
+}
+
 /// Puts a message of turn k on each lane.
 pub fn put_each<R: Wait, T: Numbered>(
     rt: &R,

@@ -49,22 +49,12 @@ module _ {M : Type 0} (m : Ghosts M) where
   late_more n k i [] x all is at = let e : i ≡ k = omega (arith, at) in (subst (λ a. IsLate n a x) e is, tt)
   late_more n k i (y ∷ ys) x all is at = (all.0, late_more n (k + 1) i ys x all.1 is (omega (arith, at)))
 
-  -- what a machine answered, or bare messages where it is asked no more
-  pub late_step : (n k : ℕ) (r : Option Made) (s y : Seat M) (x : Late) → m.boards s.machine ≡ n
-      → IfSome r (λ a. (i : ℕ) → m.boards s.machine ≡ i → MakeStep i m.turns k s a.batches.items a.note y)
-      → IfSome r (λ a. (vec_len a.batches ≡ m.boards s.machine) × AreOf (λ b. b.turn) k a.batches.items)
-      → IfSome r (λ a. a.note.turn ≡ k)
-      → IfNone r ((i : ℕ) → MakeStep i m.turns k s (copies i (bare_batch k y.halted)) (bare_note k y.out) y)
-      → IfSome r (λ a. (x.note ≡ a.note) × ((i : ℕ) → late_row i x ≡ a.batches.items))
-      → IfNone r ((x.note ≡ bare_note k y.out) × ((i : ℕ) → late_row i x ≡ copies i (bare_batch k y.halted)))
-      → MakeStep n m.turns k s (late_row n x) x.note y × IsLate n k x
-  late_step n k None s y x many made rows turn none some bare = (
-    subst (λ (z : List Batch × Note). MakeStep n m.turns k s z.0 z.1 y) (λ i. (sym (bare.1 n) i, sym bare.0 i)) (none n),
-    (ap (λ (a : Note). a.turn) bare.0, ap length (bare.1 n) ∙ length-copies n (bare_batch k y.halted), subst (AreOf (λ (b : Batch). b.turn) k) (sym (bare.1 n)) (of_copies (λ (b : Batch). b.turn) k n (bare_batch k y.halted) refl)),
-  )
-  late_step n k (Some a) s y x many made rows turn none some bare = (
-    subst (λ (z : List Batch × Note). MakeStep n m.turns k s z.0 z.1 y) (λ i. (sym (some.1 n) i, sym some.0 i)) (made n many),
-    (ap (λ (b : Note). b.turn) some.0 ∙ turn, ap length (some.1 n) ∙ (let e = rows.0 in let f : length a.batches.items ≡ vec_len a.batches = search rules in f ∙ (e ∙ many)), subst (AreOf (λ (b : Batch). b.turn) k) (sym (some.1 n)) rows.1),
+  -- bare messages, where the machine is asked no more
+  pub bare_step : (n k : ℕ) (s y : Seat M) (x : Late) → MakeStep n m.turns k s (copies n (bare_batch k y.halted)) (bare_note k y.out) y
+      → x.note ≡ bare_note k y.out → ((i : ℕ) → late_row i x ≡ copies i (bare_batch k y.halted)) → MakeStep n m.turns k s (late_row n x) x.note y × IsLate n k x
+  bare_step n k s y x made note row = (
+    subst (λ (z : List Batch × Note). MakeStep n m.turns k s z.0 z.1 y) (λ i. (sym (row n) i, sym note i)) made,
+    (ap (λ (a : Note). a.turn) note, ap length (row n) ∙ length-copies n (bare_batch k y.halted), subst (AreOf (λ (b : Batch). b.turn) k) (sym (row n)) (of_copies (λ (b : Batch). b.turn) k n (bare_batch k y.halted) refl)),
   )
 
   -- how many words a seat heard

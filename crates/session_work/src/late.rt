@@ -1,10 +1,10 @@
 //! Turns of the planner whose batches and notes wait, on one thread, until the links are so far.
-ghost use Rattle.std.specs.Prelude.{◌≡◌, ◌+◌, ℕ, ◌∷◌, length, IfSome, IfNone};
+ghost use Rattle.std.specs.Prelude.{◌≡◌, ◌+◌, ℕ, ◌∷◌, length};
 ghost use Rattle.session_work.specs.Bares.{bare_batch, bare_note};
 ghost use Rattle.session_work.specs.Lates.{batches_of, late_row};
 ghost use Rattle.session_work.specs.Rows.{copies};
 
-use crate::messages::{Bare, Batch, Made, Note};
+use crate::messages::{Bare, Batch, Note};
 use crate::rows::take_first;
 use std::alloc::Global;
 
@@ -23,22 +23,15 @@ pub struct Late {
     pub note: Note,
 }
 
-// What waits of a turn that was made, or where the machine is asked no more.
+// What waits of a turn in which the machine is asked nothing.
 #[inline(always)]
-pub fn late_of(alloc: Global, k: u64, made: Option<Made>, halted: bool, out: bool) -> Late
-    ensures made { IfSome made (λ m. (result.note ≡ m.note) × ((n : ℕ) → late_row n result ≡ m.batches.items)) }
-    ensures none { IfNone made
-        ((result.note ≡ bare_note k out) × ((n : ℕ) → late_row n result ≡ copies n (bare_batch k halted))) }
+pub fn bare_late(alloc: Global, k: u64, halted: bool, out: bool) -> Late
+    ensures note { result.note ≡ bare_note k out }
+    ensures row { (n : ℕ) → late_row n result ≡ copies n (bare_batch k halted) }
 {
-    match made {
-        Some(Made { batches, note }) => Late {
-            row: Row::Made(batches),
-            note,
-        },
-        None => Late {
-            row: Row::Bare { end: halted },
-            note: Note::bare(alloc, k, out),
-        },
+    Late {
+        row: Row::Bare { end: halted },
+        note: Note::bare(alloc, k, out),
     }
 }
 

@@ -7,9 +7,9 @@ ghost use Rattle.session_work.specs.Rows.{AreOf, CanPut, RowPut};
 ghost use Rattle.session_work.specs.Motions.{IsMotionAt, IsHearing, IsHeard, IsFed, IsMotionDone};
 
 use crate::ends::Lanes;
-use crate::late::{Late, Row, late_of};
+use crate::late::{Late, Row};
 use crate::machines::MotionMachine;
-use crate::messages::{Ask, Bare, Batch, Made, Note, Piece, WordMsg};
+use crate::messages::{Ask, Batch, Note, Piece, WordMsg};
 use crate::rows::{put_bare, put_each};
 use crate::runtime::{Runtime, stay};
 use crate::seat::Seat;
@@ -178,23 +178,8 @@ fn make<R: Wait, G, M: MotionMachine>(
     ensures at { IsMotionAt M.MotionMachine lanes.now (k + 1) start.now.value motion.new }
     ensures late { motion.new.late.items ≡ [] }
 {
-    if let Some(made) = motion.seat.turn(rt.threads, k) {
-        let Made {
-            batches: made,
-            note,
-        } = made;
-        put_each(rt.threads, k, lanes.batches, &mut motion.batch_passes, made);
-        lanes.notes.put(rt.threads, &mut motion.note_pass, note);
-        return;
-    }
-    put_bare(
-        rt,
-        k,
-        motion.seat.halted,
-        lanes.batches,
-        &mut motion.batch_passes,
-    );
-    let note = Note::bare(rt.alloc, k, motion.seat.out);
+    let Late { row, note } = motion.seat.turn(rt, k);
+    put_row(rt, k, lanes.batches, &mut motion.batch_passes, row);
     lanes.notes.put(rt.threads, &mut motion.note_pass, note);
 }
 
@@ -215,9 +200,7 @@ pub fn keep<R: Wait, G, M: MotionMachine>(
     ensures count { deque_len motion.new.late ≡ deque_len motion.old.late + 1 }
     ensures room { deque_capacity motion.old.late ≤ deque_capacity motion.new.late }
 {
-    let made = motion.seat.turn(rt.threads, k);
-    let late = late_of(rt.alloc, k, made, motion.seat.halted, motion.seat.out);
-    match motion.late.push_back(late) {
+    match motion.late.push_back(motion.seat.turn(rt, k)) {
         Ok(()) => {}
         Err(_) => unreachable!(),
     }

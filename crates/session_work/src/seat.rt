@@ -1,13 +1,12 @@
 //! A motion machine at its lanes: what it was told of the run's end, and whether it still plans.
-ghost use Rattle.std.specs.Prelude.{◌≡◌, ◌+◌, ◌<◌, ◌≤◌, ◌^◌, ℕ, true, false, length, vec_len, IfSome, IfNone};
+ghost use Rattle.std.specs.Prelude.{◌≡◌, ◌+◌, ◌<◌, ◌≤◌, ◌^◌, ℕ, true, false};
 ghost use Rattle.session_work.specs.Seats.{needs, hungers, WordStep, PieceStep, MakeStep};
-ghost use Rattle.session_work.specs.Rows.{copies, AreOf};
-ghost use Rattle.session_work.specs.Bares.{bare_batch, bare_note};
+ghost use Rattle.session_work.specs.Lates.{late_row, IsLate};
 
-use crate::late::Row;
+use crate::late::{Late, Row, bare_late};
 use crate::machines::MotionMachine;
 use crate::messages::{Made, Piece, WordMsg};
-use crate::runtime::stay;
+use crate::runtime::{Runtime, stay};
 use std::sync::Wait;
 
 /// A motion machine, and what its worker knows beside it.
@@ -99,36 +98,30 @@ impl<M: MotionMachine> Seat<M> {
         }
     }
 
-    /// The batches of turn k and its note; none where the machine is asked no more.
+    /// The batches of turn k and its note, bare ones where the machine is asked no more.
     #[inline(always)]
-    pub fn turn<R: Wait>(&mut self, rt: &R, k: u64) -> Option<Made>
+    pub fn turn<R: Wait, G>(&mut self, rt: &Runtime<'_, R, G>, k: u64) -> Late
         requires fed { hungers M.hungry k self.old ≡ false }
-        ensures made { IfSome result (λ m.
-            (n : ℕ) → M.boards self.old.machine ≡ n → MakeStep n M.turns k self.old m.batches.items m.note self.new) }
-        ensures batches { IfSome result
-            (λ m. (vec_len m.batches ≡ M.boards self.old.machine) × AreOf (λ b. b.turn) k m.batches.items) }
-        ensures note { IfSome result (λ m. m.note.turn ≡ k) }
-        ensures none { IfNone result ((n : ℕ) →
-            MakeStep n M.turns k self.old (copies n (bare_batch k self.new.halted)) (bare_note k self.new.out)
-            self.new) }
+        ensures made { (n : ℕ) → M.boards self.old.machine ≡ n →
+            MakeStep n M.turns k self.old (late_row n result) result.note self.new × IsLate n k result }
         ensures boards { M.boards self.new.machine ≡ M.boards self.old.machine }
     {
-        if self.halted {
-            return None;
-        }
-        if self.quiet {
-            return None;
+        if self.halted || self.quiet {
+            return bare_late(rt.alloc, k, self.halted, self.out);
         }
         // A machine at a limit stays there.
         if !self.machine.can_turn(k) {
-            stay(rt);
+            stay(rt.threads);
         }
-        if let Ok(made) = self.machine.turn(k) {
-            return Some(made);
+        if let Ok(Made { batches, note }) = self.machine.turn(k) {
+            return Late {
+                row: Row::Made(batches),
+                note,
+            };
         }
         self.quiet = true;
         self.out = true;
-        None
+        bare_late(rt.alloc, k, self.halted, self.out)
     }
 
     /// Takes back what a turn was in: where it was a list, its room is used again.

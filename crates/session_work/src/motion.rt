@@ -101,7 +101,7 @@ pub fn hear<R: Wait, M: MotionMachine>(
     }
 }
 
-// The same, where there are some. Before each it says that no piece is asked for behind the word before.
+// The same, looked for one by one. Before each it says that no piece is asked for behind the word before.
 #[inline(never)]
 fn hear_more<R: Wait, M: MotionMachine>(
     rt: &R,
@@ -267,7 +267,7 @@ pub fn motion_turn<R: Wait, G: Gate, M: MotionMachine>(
     ensures end { result ≡ false → motion.new.seat.halted ≡ true }
 {
     rt.gate.pass(Who::Motion, k);
-    hear(rt.threads, k, start, lanes, motion);
+    hear_more(rt.threads, k, start, lanes, motion);
     feed(rt.threads, k, start, lanes, motion);
     make(rt, k, start, lanes, motion);
     !motion.seat.halted

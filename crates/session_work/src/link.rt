@@ -45,13 +45,11 @@ pub fn state_of<R: Wait, G, L: LinkMachine>(
     if !machine.can_turn(k) {
         stay(rt.threads);
     }
-    match machine.turn(k, control, batch) {
-        Ok(state) => state,
-        Err(_) => {
-            *out = true;
-            State::bare(rt.alloc, k, true)
-        }
+    if let Ok(state) = machine.turn(k, control, batch) {
+        return state;
     }
+    *out = true;
+    State::bare(rt.alloc, k, true)
 }
 
 /// Turn k of the link of board `at`: takes its control and its batch, and puts its state. False where the control ends

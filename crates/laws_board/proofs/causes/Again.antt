@@ -307,8 +307,7 @@ stale_open (Some cause) m switches r k states lines askings h = cc
 phase_open : (p : Phase) (m : Machine) (switches : List Switch) (r : Known) (k : ℕ) (states : List State) (lines : List ReportLine) → p ≡ Running → (by_phase p m switches r k states lines).ordered.end ≡ None
     → stale k 0 (listen_all r.askings.items states) ≡ None
 phase_open Running m switches r k states lines e h = stale_open (stale k 0 (listen_all r.askings.items states)) m switches r k states lines (listen_all r.askings.items states) h
-phase_open Connecting m switches r k states lines e _ = cc
-phase_open (Stopping line) m switches r k states lines e _ = cc
+phase_open c m switches r k states lines e _ = cc
 
 ended_open : (o : Option Cause) (m : Machine) (switches : List Switch) (r : Known) (k : ℕ) (states : List State) (lines : List ReportLine) → r.phase ≡ Running
     → (unless_ended o m switches r k states lines).ordered.end ≡ None → stale k 0 (listen_all r.askings.items states) ≡ None

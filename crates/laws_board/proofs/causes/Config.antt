@@ -123,10 +123,8 @@ IsComing (Do event.Garble) = Unit {0}
 IsComing s = ⊥
 
 come_by : (fate : Fate) → AllOf IsComing (comes Down fate)
-come_by Lost = (tt, tt)
-come_by Last = (tt, tt)
 come_by Stays = (tt, (tt, tt))
-come_by Garbled = (tt, tt)
+come_by c = (tt, tt)
 
 one_comes : (h : Core) (front rest : List Meant) (s : Step) → IsComing s → IsOrdered h → Waits front rest h → Comes h (length front) (length (world_after h s).taken) (world_after h s).link
 one_comes h front rest (Do event.Arrive) k o w =
@@ -240,9 +238,7 @@ board_comes clock turn copies h front rest o w =
 
 first_heard : (fate : Fate) (r : Reply) (rs : List Reply) (h : Core) → fate ≡ Last → h.link.up ≡ r ∷ rs → IsAmong r (heard_in (comes Up fate) h)
 first_heard Last r rs h f e = subst (λ (us : List Reply). IsAmong r (take 1 us ++ [])) (sym e) (inl refl)
-first_heard Lost r rs h f e = cc
-first_heard Stays r rs h f e = cc
-first_heard Garbled r rs h f e = cc
+first_heard c r rs h f e = cc
 
 heard_here : (turn : ℕ) (ds : List Copy) (h : Core) (more : List Reply) (r : Reply) → h.link.up ≡ more → length more ≡ length ds → AllLast ds → still turn ds ≡ [] → IsAmong r more
     → IsAmong r (heard_in (come Up turn ds) h)

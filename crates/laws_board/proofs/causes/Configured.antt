@@ -237,11 +237,9 @@ may_if true cs k = k
 may_if false cs k = tt
 
 may_asks : (setups : List Setup) (k : ℕ) (a : Asking) (stage : Stage) → AllMay (map plain (asks setups k a stage))
-may_asks setups k a (Identify offset) = may_if (is_question_due k a.since) (question (Identify offset)) (tt, tt)
-may_asks setups k a Uptime = may_if (is_question_due k a.since) (question Uptime) (tt, tt)
 may_asks setups k a (Configure n) = may_setups (fitting control_bytes (drop n setups))
-may_asks setups k a Config = may_if (is_question_due k a.since) (question Config) (tt, tt)
 may_asks setups k a Connected = may_if (is_question_due k a.since) (question Connected) tt
+may_asks setups k a c = may_if (is_question_due k a.since) (question c) (tt, tt)
 
 steps_none : (us : List StepUnit) → us ≡ [] → units_orders us ≡ []
 steps_none us e = ap units_orders e

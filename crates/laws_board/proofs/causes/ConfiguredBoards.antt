@@ -42,10 +42,8 @@ use Rattle.cfg_text.proofs.Fitting.{amount_fits}
 -- ---- values
 
 abbrev IsShortPin : Value → Type 0
-IsShortPin (Amount n) = Unit {0}
-IsShortPin (Signed z) = Unit {0}
-IsShortPin (Flag b) = Unit {0}
 IsShortPin (Pin p) = is_pin_name p.name ≡ true
+IsShortPin c = Unit {0}
 
 abbrev IsOfKind : Kind → Value → Type 0
 IsOfKind kind v = (fits_kind kind v ≡ true) × IsShortPin v
@@ -142,11 +140,8 @@ key_judges key text = kind_judges (option_row key).kind text
 
 -- a value of its option's kind, whose name is short where it is a pin
 abbrev IsGood : Item → Type 0
-IsGood Skipped = Unit {0}
-IsGood PassedOver = Unit {0}
-IsGood (Opens section) = Unit {0}
 IsGood (Holds section key value) = IsOfKind (option_row key).kind value
-IsGood (Wrong kind) = Unit {0}
+IsGood c = Unit {0}
 
 abbrev AreGoodItems : List Item → Type 0
 AreGoodItems [] = Unit {0}
@@ -167,12 +162,7 @@ key_good section value (Some key) = value_good section key (judged key value) (k
 option_good : (section : Section) (name value : List ℕ) → IsGood (option_in section name value)
 option_good Before name value = tt
 option_good Unknown name value = tt
-option_good Printer name value = key_good Printer value (key_named Printer name)
-option_good (Board b) name value = key_good (Board b) value (key_named (Board b) name)
-option_good (Simulated b) name value = key_good (Simulated b) value (key_named (Simulated b) name)
-option_good Simulation name value = key_good Simulation value (key_named Simulation name)
-option_good (Stepper motor) name value = key_good (Stepper motor) value (key_named (Stepper motor) name)
-option_good Fan name value = key_good Fan value (key_named Fan name)
+option_good c name value = key_good c value (key_named c name)
 
 opened_good : (section : Section) → IsGood (opened section)
 opened_good Unknown = tt
@@ -183,33 +173,27 @@ continued_good true = tt
 continued_good false = tt
 
 meant_good : (place : Place) (line : ConfigurationLine) → IsGood (meant place line)
-meant_good place Nothing = tt
 meant_good place (Begins name) = opened_good (section_of name)
 meant_good place Continues = continued_good place.lenient
 meant_good place (Sets name value) = option_good place.section name value
-meant_good place Neither = tt
+meant_good place c = tt
 
 items_good : (place : Place) (lines : List (List ℕ)) → AreGoodItems (items place lines)
 items_good place [] = tt
 items_good place (line ∷ lines) = (meant_good place (said line), items_good (place_behind place (said line)) lines)
 
 entry_good : (number : ℕ) (item : Item) (es : List Entry) → IsGood item → AreGood es → AreGood (entry_of number item ++ es)
-entry_good number Skipped es g h = h
-entry_good number PassedOver es g h = h
 entry_good number (Opens section) es g h = (tt, h)
 entry_good number (Holds section key value) es g h = (g, h)
-entry_good number (Wrong kind) es g h = h
+entry_good number c es g h = h
 
 entries_good : (number : ℕ) (all : List Item) → AreGoodItems all → AreGood (entries number all)
 entries_good number [] g = tt
 entries_good number (item ∷ all) g = entry_good number item (entries (number + 1) all) g.0 (entries_good (number + 1) all g.1)
 
 item_fit : (item : Item) → IsGood item → item_fits item ≡ true
-item_fit Skipped g = refl
-item_fit PassedOver g = refl
-item_fit (Opens section) g = refl
 item_fit (Holds section key value) g = g.0
-item_fit (Wrong kind) g = refl
+item_fit c g = refl
 
 all_fit : (es : List Entry) → AreGood es → list_all entry_fits es ≡ true
 all_fit [] g = refl

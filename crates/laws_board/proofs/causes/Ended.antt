@@ -49,8 +49,7 @@ homing_other clocks k states (Some h) c e = let g = hears_all clocks states h in
 
 finishes_other : (stop : ReadStop) (m : Machine) (r : Known) (k : ℕ) (lines : List ReportLine) (askings : List Asking) (h : HomingTurn) (c : Cause) → end_of (finishes stop m r k lines askings h) ≡ Some c → IsOther c
 finishes_other (read.Stop line) m r k lines askings h c e = no_end c _ e
-finishes_other read.End m r k lines askings h c e = other _ c e tt
-finishes_other (read.Refused line kind) m r k lines askings h c e = other _ c e tt
+finishes_other x m r k lines askings h c e = other _ c e tt
 
 either_other : (b : Bool) (x y : Reacted) (c : Cause) → (end_of x ≡ Some c → IsOther c) → end_of y ≡ None → end_of (cond b x y) ≡ Some c → IsOther c
 either_other true x y c f g h = f h

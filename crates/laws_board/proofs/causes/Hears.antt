@@ -55,22 +55,18 @@ answer_ends a s n k e l among some =
     ∙ hears_none s.turn s.news b n among (λ none. some (subst (λ (g : Stage). answered s.turn b g n.number n.answer ≡ None) stage none))
 
 same_ready : (setups : List Setup) (stage : Stage) → AsksOf stage → ready_stage setups stage ≡ stage
-same_ready setups (Identify offset) h = refl
-same_ready setups Uptime h = refl
 same_ready setups (Configure n) h = absurd h
-same_ready setups Config h = refl
 same_ready setups Connected h = absurd h
+same_ready setups c h = refl
 
 pub either_same : (b : Bool) (x y : Asking) (g : Stage) → x.stage ≡ g → y.stage ≡ g → (cond b x y).stage ≡ g
 either_same true x y g e f = e
 either_same false x y g e f = f
 
 behind_same : (setups : List Setup) (k : ℕ) (a : Asking) (stage : Stage) → a.stage ≡ stage → AsksOf stage → (after_asks setups k a stage).stage ≡ stage
-behind_same setups k a (Identify offset) e h = either_same (is_question_due k a.since) (asked k a) a (Identify offset) e e
-behind_same setups k a Uptime e h = either_same (is_question_due k a.since) (asked k a) a Uptime e e
 behind_same setups k a (Configure n) e h = absurd h
-behind_same setups k a Config e h = either_same (is_question_due k a.since) (asked k a) a Config e e
 behind_same setups k a Connected e h = absurd h
+behind_same setups k a c e h = either_same (is_question_due k a.since) (asked k a) a c e e
 
 -- an asking in a turn is out behind it, as long as it is in the next one
 pub record IsOut (k : ℕ) (g : Stage) (a : Asking) : Type 0 where
@@ -138,17 +134,13 @@ small_listens a s h =
 
 small_ready : (setups : List Setup) (stage : Stage) → SmallStage stage → SmallStage (ready_stage setups stage)
 small_ready setups (Identify offset) h = h
-small_ready setups Uptime h = tt
 small_ready setups (Configure n) h = small_either (is_over (drop n setups)) Config (Configure n) tt tt
-small_ready setups Config h = tt
-small_ready setups Connected h = tt
+small_ready setups c h = tt
 
 small_asks : (setups : List Setup) (k : ℕ) (a : Asking) (stage : Stage) → SmallStage a.stage → SmallStage (after_asks setups k a stage).stage
-small_asks setups k a (Identify offset) h = small_asking (is_question_due k a.since) (asked k a) a h h
-small_asks setups k a Uptime h = small_asking (is_question_due k a.since) (asked k a) a h h
 small_asks setups k a (Configure n) h = tt
-small_asks setups k a Config h = small_asking (is_question_due k a.since) (asked k a) a h h
 small_asks setups k a Connected h = h
+small_asks setups k a c h = small_asking (is_question_due k a.since) (asked k a) a h h
 
 pub small_heard : (setups : List Setup) (states : List State) → SmallStage (heard setups states).stage
 small_heard setups [] = omega arith

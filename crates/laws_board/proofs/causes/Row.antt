@@ -60,11 +60,9 @@ not_due : (k j : ℕ) → j ≤ 3 → is_question_due (k + j) (Some k) ≡ false
 not_due k j h = lt-leb 4 (k + j - k) (omega arith)
 
 no_question : (setups : List Setup) (n : ℕ) (a : Asking) (stage : Stage) → AsksOf stage → is_question_due n a.since ≡ false → asks setups n a stage ≡ []
-no_question setups n a (Identify offset) g e = ap (λ (t : Bool). cond t (question (Identify offset)) []) e
-no_question setups n a Uptime g e = ap (λ (t : Bool). cond t (question Uptime) []) e
 no_question setups n a (Configure i) g e = absurd g
-no_question setups n a Config g e = ap (λ (t : Bool). cond t (question Config) []) e
 no_question setups n a Connected g e = absurd g
+no_question setups n a c g e = ap (λ (t : Bool). cond t (question c) []) e
 
 -- what is queued from the asking's turn on
 pub record Queued (turns : List BoardTurn) (k j : ℕ) (q : Cmd) : Type 0 where
@@ -259,9 +257,8 @@ hindered m pins entries b setups turns k stage a o config =
     by_stage : (stage : Stage) → Out setups turns k stage → (stage ≡ Config → NotHindered (first_state (board_at m b) pins b entries) turns k → ⊥) → NotHindered (first_state (board_at m b) pins b entries) turns k → ⊥
     by_stage (Identify offset) o config clear = piece_counts m pins entries b setups turns k offset a o (found m pins entries b setups turns k (Identify offset) (cmd.Identify offset 40) a o refl clear)
     by_stage Uptime o config clear = clock_counts m pins entries b setups turns k a o (found m pins entries b setups turns k Uptime cmd.GetUptime a o refl clear)
-    by_stage (Configure n) o config clear = o.is_asked
     by_stage Config o config clear = config refl clear
-    by_stage Connected o config clear = o.is_asked
+    by_stage c o config clear = o.is_asked
 
 -- what a row of unanswered askings says
 pub out_of : (setups : List Setup) (turns : List BoardTurn) (k : ℕ) → k + 4 ≤ length turns → WasAsked setups k (heard_at setups k (states_of turns)) → IsOutBehind setups k (states_of turns)

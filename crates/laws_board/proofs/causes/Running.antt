@@ -133,8 +133,6 @@ either_not true k a stage e n w = record { waits = w; rests = λ c. let x = sym 
 either_not false k a stage e n w = record { waits = w; rests = λ c. let x = sym (ap is_connected e ∙ n) ∙ c in cc }
 
 pub settled_asks : (setups : List Setup) (k : ℕ) (a : Asking) (stage : Stage) → a.stage ≡ stage → IsSettled a → IsSettled (after_asks setups k a stage)
-settled_asks setups k a (Identify offset) e s = either_not (is_question_due k a.since) k a (Identify offset) e refl s.waits
-settled_asks setups k a Uptime e s = either_not (is_question_due k a.since) k a Uptime e refl s.waits
 settled_asks setups k a (Configure n) e s = record { waits = s.waits; rests = λ c. cc }
-settled_asks setups k a Config e s = either_not (is_question_due k a.since) k a Config e refl s.waits
 settled_asks setups k a Connected e s = s
+settled_asks setups k a c e s = either_not (is_question_due k a.since) k a c e refl s.waits

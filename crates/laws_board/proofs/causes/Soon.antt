@@ -146,11 +146,8 @@ over_ready setups i true e = tt
 over_ready setups i false e = e
 
 is_ready : (setups : List Setup) (stage : Stage) → IsReady setups (ready_stage setups stage)
-is_ready setups (Identify offset) = tt
-is_ready setups Uptime = tt
 is_ready setups (Configure i) = over_ready setups i (is_over (drop i setups)) refl
-is_ready setups Config = tt
-is_ready setups Connected = tt
+is_ready setups c = tt
 
 over_begins : (n size k samples i : ℕ) (t : Bool) → i ≤ n → k ≤ 2_144 + i → BeginsBy n size k samples (cond t Config (Configure i))
 over_begins n size k samples i true h l = omega arith
@@ -158,12 +155,9 @@ over_begins n size k samples i false h l = (h, l)
 
 ready_soon : (setups : List Setup) (size k : ℕ) (o : Option ℕ) (stage : Stage) (samples missed : ℕ) → InTime (length setups) size k o stage samples missed
     → InTime (length setups) size k o (ready_stage setups stage) samples missed
-ready_soon setups size k o (Identify offset) samples missed h = h
-ready_soon setups size k o Uptime samples missed h = h
 ready_soon setups size k None (Configure i) samples missed h = over_begins (length setups) size k samples i (is_over (drop i setups)) h.0 h.1
 ready_soon setups size k (Some s) (Configure i) samples missed h = absurd h.asks
-ready_soon setups size k o Config samples missed h = h
-ready_soon setups size k o Connected samples missed h = h
+ready_soon setups size k o c samples missed h = h
 
 -- what is asked in a turn
 not_seven : (t : Bool) (missed : ℕ) → (t && nat_le 7 missed) ≡ false → t ≡ true → missed ≤ 6
@@ -257,14 +251,10 @@ stays_soon n size k a (Some s) e g h = absurd h.asks
 
 behind_soon : (setups : List Setup) (size k : ℕ) (a : Asking) (stage : Stage) → a.stage ≡ stage → IsReady setups stage → gives_up k a ≡ false → length setups ≤ 22
     → InTime (length setups) size k a.since stage a.samples a.missed → IsSoon (length setups) size (k + 1) (after_asks setups k a stage)
-behind_soon setups size k a (Identify offset) e remains up small h =
-    asks_soon (length setups) size k a a.since refl (subst AsksOf (sym e) tt) up (subst (λ (x : Stage). InTime (length setups) size k a.since x a.samples a.missed) (sym e) h)
-behind_soon setups size k a Uptime e remains up small h =
-    asks_soon (length setups) size k a a.since refl (subst AsksOf (sym e) tt) up (subst (λ (x : Stage). InTime (length setups) size k a.since x a.samples a.missed) (sym e) h)
 behind_soon setups size k a (Configure i) e remains up small h = configures_soon setups size k a i a.since refl small remains h
-behind_soon setups size k a Config e remains up small h =
-    asks_soon (length setups) size k a a.since refl (subst AsksOf (sym e) tt) up (subst (λ (x : Stage). InTime (length setups) size k a.since x a.samples a.missed) (sym e) h)
 behind_soon setups size k a Connected e remains up small h = stays_soon (length setups) size k a a.since refl e h
+behind_soon setups size k a c e remains up small h =
+    asks_soon (length setups) size k a a.since refl (subst AsksOf (sym e) tt) up (subst (λ (x : Stage). InTime (length setups) size k a.since x a.samples a.missed) (sym e) h)
 
 -- a turn
 record Soon (setups : List Setup) (size k : ℕ) (a : Asking) : Type 0 where
@@ -283,10 +273,9 @@ soon_turn setups size k a s short small up w h =
 -- a board that isn't connected is at one of its first 2,199 turns
 late_begins : (n size from samples : ℕ) (stage : Stage) → n ≤ 22 → size < 2_360 → BeginsBy n size from samples stage → 2_167 ≤ from → is_connected stage ≡ true
 late_begins n size from samples (Identify offset) few short b late = let l = b.0 in let t = b.2 in absurd (omega arith)
-late_begins n size from samples Uptime few short b late = let l = b.0 in let t = b.1 in absurd (omega arith)
-late_begins n size from samples (Configure i) few short b late = let l = b.0 in let t = b.1 in absurd (omega arith)
 late_begins n size from samples Config few short b late = absurd (omega arith)
 late_begins n size from samples Connected few short b late = refl
+late_begins n size from samples c few short b late = let l = b.0 in let t = b.1 in absurd (omega arith)
 
 late_connected : (setups : List Setup) (size k : ℕ) (a : Asking) → length setups ≤ 22 → size < 2_360 → Soon setups size k a → 2_199 ≤ k → is_connected a.stage ≡ true
 late_connected setups size k a few short s late =
@@ -461,8 +450,7 @@ run_rest m switches pins entries b c before (t ∷ turns) r = run_before m switc
 
 pub phase_or : (p : Phase) → (p ≡ Connecting) ⊎ (p ≡ Connecting → ⊥)
 phase_or Connecting = inl refl
-phase_or Running = inr (λ e. cc)
-phase_or (Stopping line) = inr (λ e. cc)
+phase_or c = inr (λ e. cc)
 
 ended_at : (m : Machine) (switches : List Switch) (pins : ℕ → List (List Level)) (entries : List Entry) (came : List Came) (turns : ℕ → List BoardTurn) → IsValidMachine m → HaveShortDictionaries m
     → AreInRun m switches pins entries came turns → ((known_by m switches came).phase ≡ Connecting → ⊥) → HasEnded m switches came

@@ -205,11 +205,8 @@ asked_from m switches pins entries b all turns k long p n a (suc j) l =
 
 -- an answer to an asking that is out would end it
 connected_is : (stage : Stage) → is_connected stage ≡ true → stage ≡ Connected
-connected_is (Identify offset) e = cc
-connected_is Uptime e = cc
-connected_is (Configure n) e = cc
-connected_is Config e = cc
 connected_is Connected e = refl
+connected_is c e = cc
 
 drift_counts : (y : Asking) (s : State) (k number high low : ℕ) → is_connected y.stage ≡ true → y.since ≡ Some k → s.turn ≤ k + 3 → IsAmong (record { number = number; answer = cmd.Uptime high low }) s.news
     → tells_clock (were_put s.turn s.asked y) number ≡ true → (listens y s).since ≡ Some k → ⊥

@@ -86,11 +86,9 @@ owed_put owed None k number turn s l = tt
 owed_put owed (Some q) k number turn s l = inr (omega arith)
 
 owes_put : (stage : Stage) (owed : ℕ) (since : Option ℕ) (k number turn : ℕ) → IsSince k since → k ≤ turn + 1 → Owes stage owed since (Some (record { number = number; turn = turn }))
-owes_put (Identify offset) owed since k number turn s l = tt
 owes_put Uptime owed since k number turn s l = owed_put owed since k number turn s l
-owes_put (Configure n) owed since k number turn s l = tt
-owes_put Config owed since k number turn s l = tt
 owes_put Connected owed since k number turn s l = owed_put owed since k number turn s l
+owes_put c owed since k number turn s l = tt
 
 puts_kept : (clock : BoardClock) (turns : List BoardTurn) (k turn : ℕ) (ns : List ℕ) (a : Asking) → k ≤ turn + 1 → ((n : ℕ) → IsAmong n ns → WasPut n turn turns)
     → IsAsking clock turns k a → IsAsking clock turns k (were_put turn ns a)
@@ -110,17 +108,11 @@ if_maybe clock turns k false a f = tt
 
 owes_none : (stage : Stage) (owed : ℕ) (put : Option Put) → Owes stage owed None put
 owes_none (Identify offset) owed put = tt
-owes_none Uptime owed put = tt
-owes_none (Configure n) owed put = tt
-owes_none Config owed put = tt
-owes_none Connected owed put = tt
+owes_none c owed put = tt
 
 sampled_some : (stage : Stage) (s : Sample) → Sampled stage (Some s)
 sampled_some (Identify offset) s = tt
-sampled_some Uptime s = tt
-sampled_some (Configure n) s = tt
-sampled_some Config s = tt
-sampled_some Connected s = tt
+sampled_some c s = tt
 
 piece_sampled : (b : Bool) (offset : ℕ) (best : Option Sample) → Sampled (cond b Uptime (Identify offset)) best
 piece_sampled true offset best = tt
@@ -239,11 +231,8 @@ ready_kept_if false n owed since put best h = (tt, h)
 
 ready_stays : (setups : List Setup) (stage : Stage) (owed : ℕ) (since : Option ℕ) (put : Option Put) (best : Option Sample) → Owes stage owed since put → Sampled stage best
     → Owes (ready_stage setups stage) owed since put × Sampled (ready_stage setups stage) best
-ready_stays setups (Identify offset) owed since put best o s = (o, s)
-ready_stays setups Uptime owed since put best o s = (o, s)
 ready_stays setups (Configure n) owed since put best o s = ready_kept_if (is_over (drop n setups)) n owed since put best s
-ready_stays setups Config owed since put best o s = (o, s)
-ready_stays setups Connected owed since put best o s = (o, s)
+ready_stays setups c owed since put best o s = (o, s)
 
 pub ready_kept : (clock : BoardClock) (turns : List BoardTurn) (k : ℕ) (setups : List Setup) (a : Asking) → IsAsking clock turns k a → IsAsking clock turns k (ready setups a)
 ready_kept clock turns k setups a i =
@@ -255,11 +244,9 @@ owed_now owed k None l = l
 owed_now owed k (Some p) l = inl l
 
 owes_now : (stage : Stage) (owed k : ℕ) (put : Option Put) → is_connected stage ≡ false → Owes stage (cond (asks_clock stage) (more owed) owed) (Some k) put
-owes_now (Identify offset) owed k put e = tt
 owes_now Uptime owed k put e = owed_now (more owed) k put (omega arith)
-owes_now (Configure n) owed k put e = tt
-owes_now Config owed k put e = tt
 owes_now Connected owed k put e = cc
+owes_now c owed k put e = tt
 
 asked_kept : (clock : BoardClock) (turns : List BoardTurn) (k : ℕ) (a : Asking) (stage : Stage) → a.stage ≡ stage → is_connected stage ≡ false → IsAsking clock turns k a → IsAsking clock turns (k + 1) (asked k a)
 asked_kept clock turns k a stage e n i =
@@ -274,15 +261,11 @@ either_asking clock turns k false x y i j = j
 
 pub asks_kept : (clock : BoardClock) (turns : List BoardTurn) (k : ℕ) (setups : List Setup) (a : Asking) (stage : Stage) → a.stage ≡ stage → IsAsking clock turns k a
     → IsAsking clock turns (k + 1) (after_asks setups k a stage)
-asks_kept clock turns k setups a (Identify offset) e i =
-    either_asking clock turns (k + 1) (is_question_due k a.since) (asked k a) a (asked_kept clock turns k a (Identify offset) e refl i) (next_turn clock turns k a i)
-asks_kept clock turns k setups a Uptime e i =
-    either_asking clock turns (k + 1) (is_question_due k a.since) (asked k a) a (asked_kept clock turns k a Uptime e refl i) (next_turn clock turns k a i)
 asks_kept clock turns k setups a (Configure n) e i =
     record { put = i.put; best = i.best; since = later_since k (k + 1) a.since (omega arith) i.since; owes = tt; sampled = subst (λ (g : Stage). Sampled g a.best) e i.sampled }
-asks_kept clock turns k setups a Config e i =
-    either_asking clock turns (k + 1) (is_question_due k a.since) (asked k a) a (asked_kept clock turns k a Config e refl i) (next_turn clock turns k a i)
 asks_kept clock turns k setups a Connected e i = next_turn clock turns k a i
+asks_kept clock turns k setups a c e i =
+    either_asking clock turns (k + 1) (is_question_due k a.since) (asked k a) a (asked_kept clock turns k a c e refl i) (next_turn clock turns k a i)
 
 pub waits_kept : (clock : BoardClock) (turns : List BoardTurn) (k n : ℕ) (drifting : Bool) (a : Asking) → IsAsking clock turns k a → IsAsking clock turns k (waits_in drifting n a)
 waits_kept clock turns k n drifting a i =
@@ -293,11 +276,9 @@ waits_kept clock turns k n drifting a i =
     (either_asking clock turns k (is_asked_now drifting n a.since) waiting a (record { put = i.put; best = i.best; since = i.since; owes = i.owes; sampled = i.sampled }) i)
 
 owes_more : (stage : Stage) (owed k : ℕ) (put : Option Put) → Owes stage (more owed) (Some k) put
-owes_more (Identify offset) owed k put = tt
 owes_more Uptime owed k put = owed_now (more owed) k put (omega arith)
-owes_more (Configure n) owed k put = tt
-owes_more Config owed k put = tt
 owes_more Connected owed k put = owed_now (more owed) k put (omega arith)
+owes_more c owed k put = tt
 
 pub question_kept : (clock : BoardClock) (turns : List BoardTurn) (k : ℕ) (commands : List Cmd) (a : Asking) → IsAsking clock turns k a → IsAsking clock turns (k + 1) (after_question k commands a)
 question_kept clock turns k commands a i =
@@ -313,9 +294,7 @@ best_sample clock turns (Some s) h k = k
 sampled_best : (stage : Stage) (best : Option Sample) → is_connected stage ≡ true → Sampled stage best → HasBest best
 sampled_best (Identify offset) best c s = cc
 sampled_best Uptime best c s = cc
-sampled_best (Configure n) best c s = s
-sampled_best Config best c s = s
-sampled_best Connected best c s = s
+sampled_best m best c s = s
 
 pub connected_sample : (clock : BoardClock) (turns : List BoardTurn) (k : ℕ) (a : Asking) → is_connected a.stage ≡ true → IsAsking clock turns k a → IsSample clock turns (sample_or_none a.best)
 connected_sample clock turns k a c i = best_sample clock turns a.best (sampled_best a.stage a.best c i.sampled) i.best

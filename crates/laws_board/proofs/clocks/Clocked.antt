@@ -39,11 +39,7 @@ set_none t k (c ∷ cs) e = (one_none t k c e.0, set_none t k cs e.1)
 -- the commands of the group's orders
 ctl_set : (m : Machine) (clocks : Clocks) (b start : ℕ) (axis : AxisDef) (what : Order) → SetsTo (turn_tick clocks start) (order_command m clocks b start axis what)
 ctl_set m clocks b start axis (order.Reset i) = refl
-ctl_set m clocks b start axis (order.Stop i) = tt
-ctl_set m clocks b start axis order.Start = tt
-ctl_set m clocks b start axis (order.Timeout turn) = tt
-ctl_set m clocks b start axis order.Home = tt
-ctl_set m clocks b start axis order.Trigger = tt
+ctl_set m clocks b start axis c = tt
 
 set_if : (t : ℕ) (b : Bool) (xs : List Cmd) → EachSet t xs → EachSet t (cond b xs [])
 set_if t true xs a = a

@@ -37,11 +37,7 @@ none_if false xs e = refl
 
 order_none : (m : Machine) (clocks : Clocks) (b start : ℕ) (axis : AxisDef) (o : Order) → NoSetup (order_command m clocks b start axis o ∷ [])
 order_none m clocks b start axis (order.Reset i) = refl
-order_none m clocks b start axis (order.Stop i) = refl
-order_none m clocks b start axis order.Start = refl
-order_none m clocks b start axis (order.Timeout t) = refl
-order_none m clocks b start axis order.Home = refl
-order_none m clocks b start axis order.Trigger = refl
+order_none m clocks b start axis c = refl
 
 home_none : (m : Machine) (clocks : Clocks) (b start : ℕ) (axis : AxisDef) (ctls : List Ctl) → NoSetup (commands_to m clocks b start axis ctls)
 home_none m clocks b start axis [] = refl
@@ -143,20 +139,16 @@ done m switches pins entries b (c ∷ before) (t ∷ turns) v r y e =
     turn_done m b c (noted m c.note (known_by m switches before)) (length before) x.a (last_reacted m switches c before) t turns v heard x.turned y e
 
 connected_done : (setups : List Setup) (stage : Stage) (done : List Cmd) → is_connected stage ≡ true → Conf setups stage done → done ≡ map setup_command setups
-connected_done setups (Identify offset) done h c = cc
-connected_done setups Uptime done h c = cc
-connected_done setups (Configure n) done h c = cc
-connected_done setups Config done h c = cc
 connected_done setups Connected done h c = c
+connected_done setups m done h c = cc
 
 first_done : (setups : List Setup) (stage : Stage) (done : List Cmd) → Conf setups stage done → (rest : List Cmd) × (done ++ rest ≡ map setup_command setups)
-first_done setups (Identify offset) done c = (map setup_command setups, ap (λ (l : List Cmd). l ++ map setup_command setups) c)
-first_done setups Uptime done c = (map setup_command setups, ap (λ (l : List Cmd). l ++ map setup_command setups) c)
 first_done setups (Configure n) done c =
     let rest = map setup_command (drop n setups) in
     (rest, ap (λ (l : List Cmd). l ++ rest) c.1 ∙ sym (map-append setup_command (take n setups) (drop n setups)) ∙ ap (λ (l : List Setup). map setup_command l) (take-append-drop n setups))
 first_done setups Config done c = ([], append-nil done ∙ c)
 first_done setups Connected done c = ([], append-nil done ∙ c)
+first_done setups m done c = (map setup_command setups, ap (λ (l : List Cmd). l ++ map setup_command setups) c)
 
 -- once connecting ended, the whole configuration was ordered; before, a front of it
 pub all_configured : (m : Machine) (switches : List Switch) (pins : List (List Level)) (entries : List Entry) (b : ℕ) (came : List Came) (turns : List BoardTurn) → IsValidMachine m

@@ -36,21 +36,16 @@ may_if h k false xs a = tt
 -- connecting
 may_setup : (h : Option Homing) (k : ℕ) (s : Setup) → MayOrder h k (setup_command s)
 may_setup h k (Oids count) = tt
-may_setup h k (Stepper oid step dir) = tt
-may_setup h k (Trsync oid) = tt
-may_setup h k (Endstop oid pin) = tt
-may_setup h k Finish = tt
+may_setup h k c = tt
 
 may_setups : (h : Option Homing) (k : ℕ) (ss : List Setup) → EachMay h k (map setup_command ss)
 may_setups h k [] = tt
 may_setups h k (s ∷ ss) = (may_setup h k s, may_setups h k ss)
 
 pub may_ask : (h : Option Homing) (k turn : ℕ) (setups : List Setup) (a : Asking) (stage : Stage) → EachMay h k (asks setups turn a stage)
-may_ask h k turn setups a (Identify offset) = may_if h k (is_question_due turn a.since) (question (Identify offset)) (tt, tt)
-may_ask h k turn setups a Uptime = may_if h k (is_question_due turn a.since) (question Uptime) (tt, tt)
 may_ask h k turn setups a (Configure n) = may_setups h k (fitting control_bytes (drop n setups))
-may_ask h k turn setups a Config = may_if h k (is_question_due turn a.since) (question Config) (tt, tt)
 may_ask h k turn setups a Connected = may_if h k (is_question_due turn a.since) (question Connected) tt
+may_ask h k turn setups a c = may_if h k (is_question_due turn a.since) (question c) (tt, tt)
 
 -- homing
 abbrev Clocked : ℕ → ℕ → Type 0
@@ -144,10 +139,7 @@ states_start = starts.states_start
 ctl_may : (h : Option Homing) (m : Machine) (clocks : Clocks) (b start k : ℕ) (axis : AxisDef) (what : Order) (at : ℕ) → IsHoming h → (Clocked at k → SetsClocks h k) → CtlMay at k what → MayOrder h k (order_command m clocks b start axis what)
 ctl_may h m clocks b start k axis (order.Reset i) at o f a = f a
 ctl_may h m clocks b start k axis (order.Stop i) at o f a = o
-ctl_may h m clocks b start k axis order.Start at o f a = tt
-ctl_may h m clocks b start k axis (order.Timeout turn) at o f a = tt
-ctl_may h m clocks b start k axis order.Home at o f a = tt
-ctl_may h m clocks b start k axis order.Trigger at o f a = tt
+ctl_may h m clocks b start k axis c at o f a = tt
 
 ctls_may : (h : Option Homing) (m : Machine) (clocks : Clocks) (b start k : ℕ) (axis : AxisDef) (ctls : List Ctl) (at : ℕ) → IsHoming h → (Clocked at k → SetsClocks h k) → CtlsMay at k ctls → EachMay h k (commands_to m clocks b start axis ctls)
 ctls_may h m clocks b start k axis [] at o f a = tt

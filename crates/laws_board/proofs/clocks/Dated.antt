@@ -62,10 +62,7 @@ sent_sent l (c ∷ cs) =
     elim (leb_tells (suc (sent l - l.acked)) 12) [ inl p ↦ rw p.0 (omega (arith, more)) | inr p ↦ rw p.0 (omega arith) ]
 
 sent_by : (h : Core) (e : Event) → sent h.link ≤ sent (after_event h e).link
-sent_by h (event.Put b) = omega arith
-sent_by h (event.Control c) = omega arith
 sent_by h event.Send = sent_sent h.link h.link.waiting
-sent_by h event.Resend = omega arith
 sent_by h event.Arrive =
     let answers = map wire_text (does h event.Arrive).answers in
     omega (arith, lost (link.repeat h.link h.link.down answers) h.link.down, repeated h.link h.link.down answers)
@@ -74,7 +71,7 @@ sent_by h event.Garble = omega (arith, garbled h.link h.link.down h.spoilt)
 sent_by h event.Repeat = omega (arith, repeated h.link h.link.down (map wire_text (does h event.Repeat).answers))
 sent_by h event.Reply = omega (arith, replied h.link h.link.up)
 sent_by h event.LoseReply = omega (arith, reply_lost h.link h.link.up)
-sent_by h (event.Pass t) = omega arith
+sent_by h c = omega arith
 
 pub sent_grows : (steps : List Step) (h : Core) → sent h.link ≤ sent (run_world steps h).link
 sent_grows [] h = omega arith
@@ -111,10 +108,7 @@ accepted_sent l [] = refl
 accepted_sent l (c ∷ cs) = elim (leb_tells (suc (sent l - l.acked)) 12) [ inl p ↦ rw p.0 refl | inr p ↦ rw p.0 refl ]
 
 accepted_by : (h : Core) (e : Event) → h.link.accepted ≤ (after_event h e).link.accepted
-accepted_by h (event.Put b) = omega arith
-accepted_by h (event.Control c) = omega arith
 accepted_by h event.Send = omega (arith, accepted_sent h.link h.link.waiting)
-accepted_by h event.Resend = omega arith
 accepted_by h event.Arrive =
     let answers = map wire_text (does h event.Arrive).answers in
     omega (arith, accepted_lost (link.repeat h.link h.link.down answers) h.link.down, accepted_repeated h.link h.link.down answers)
@@ -123,7 +117,7 @@ accepted_by h event.Garble = omega (arith, accepted_garbled h.link h.link.down h
 accepted_by h event.Repeat = accepted_repeated h.link h.link.down (map wire_text (does h event.Repeat).answers)
 accepted_by h event.Reply = omega (arith, accepted_replied h.link h.link.up)
 accepted_by h event.LoseReply = omega (arith, accepted_unreplied h.link h.link.up)
-accepted_by h (event.Pass t) = omega arith
+accepted_by h c = omega arith
 
 pub accepted_grows : (steps : List Step) (h : Core) → h.link.accepted ≤ (run_world steps h).link.accepted
 accepted_grows [] h = omega arith

@@ -103,10 +103,8 @@ at_first clocks b board from line = either (nat_lt board (length clocks))
     either false = refl
 
 told_keeps : (m : Machine) (r : Known) (n : NoteNews) → Same (known_behind m r n) r
-told_keeps m r (news.Start section kind turn last moving) = record { phase = refl; askings = refl; lines = λ b. refl }
-told_keeps m r (news.Done section turn) = record { phase = refl; askings = refl; lines = λ b. refl }
-told_keeps m r (news.Read x sections) = record { phase = refl; askings = refl; lines = λ b. refl }
 told_keeps m r (news.Line board line from) = record { phase = refl; askings = refl; lines = λ b. at_first r.clocks b board from line }
+told_keeps m r c = record { phase = refl; askings = refl; lines = λ b. refl }
 
 all_keep : (m : Machine) (ns : List NoteNews) (r : Known) → Same (told_all m ns r) r
 all_keep m [] r = record { phase = refl; askings = refl; lines = λ b. refl }

@@ -75,10 +75,7 @@ up_repeated P l (n ∷ ns) answers empty a k = elim (eqb_tells n l.accepted) [
 
 -- where empty replies and the answers of an event are so, each reply is behind it
 pub up_by : (P : Reply → Type 0) (h : Core) (e : Event) → IsEmptySo P → ((n : ℕ) → IsNumber h e n → AllUp P (numbered n (map wire_text (does h e).answers))) → AllUp P h.link.up → AllUp P (after_event h e).link.up
-up_by P h (event.Put b) empty a k = k
-up_by P h (event.Control c) empty a k = k
 up_by P h event.Send empty a k = up_sent P h.link h.link.waiting k
-up_by P h event.Resend empty a k = k
 up_by P h event.Arrive empty a k =
     let answers = map wire_text (does h event.Arrive).answers in
     up_arrived P (link.repeat h.link h.link.down answers) h.link.down (up_repeated P h.link h.link.down answers empty a k)
@@ -88,6 +85,7 @@ up_by P h event.Repeat empty a k = up_repeated P h.link h.link.down (map wire_te
 up_by P h event.Reply empty a k = up_heard P h.link h.link.up k
 up_by P h event.LoseReply empty a k = up_lost P h.link h.link.up refl k
 up_by P h (event.Pass t) empty a k = up_both P h.link.up _ k (a h.link.accepted refl)
+up_by P h c empty a k = k
 
 -- the replies that come in some steps, and those left behind them
 abbrev IsReply : Step → Type 0
@@ -104,10 +102,9 @@ up_along P (Do event.LoseReply ∷ steps) h are k = up_along P steps (after_even
 up_along P (s ∷ steps) h are k = absurd are.0
 
 comes_reply : (fate : Fate) → AllOf IsReply (comes Up fate)
-comes_reply Lost = (tt, tt)
 comes_reply Last = (tt, (tt, tt))
 comes_reply Stays = (tt, (tt, (tt, tt)))
-comes_reply Garbled = (tt, tt)
+comes_reply c = (tt, tt)
 
 -- the replies that come in a turn are so, and those under way behind it
 pub up_come : (P : Reply → Type 0) (turn : ℕ) (copies : List Copy) (h : Core) → AllUp P h.link.up → AllUp P (heard_in (come Up turn copies) h) × AllUp P (run_world (come Up turn copies) h).link.up

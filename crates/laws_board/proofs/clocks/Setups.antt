@@ -16,11 +16,10 @@ use Rattle.laws_board.proofs.clocks.Turning.{heard_now}
 
 -- how far a board's configuration has come, by what was ordered of it
 abbrev pub Conf : List Setup → Stage → List Cmd → Type 0
-Conf setups (Identify offset) done = done ≡ []
-Conf setups Uptime done = done ≡ []
 Conf setups (Configure n) done = (n ≤ length setups) × (done ≡ map setup_command (take n setups))
 Conf setups Config done = done ≡ map setup_command setups
 Conf setups Connected done = done ≡ map setup_command setups
+Conf setups c done = done ≡ []
 
 abbrev MayConf : List Setup → List Cmd → Option Asking → Type 0
 MayConf setups done None = Unit {0}
@@ -81,11 +80,8 @@ conf_over setups n done true e k =
     k.1 ∙ ap (λ (x : List Setup). map setup_command x) whole
 
 pub conf_ready : (setups : List Setup) (stage : Stage) (done : List Cmd) → Conf setups stage done → Conf setups (ready_stage setups stage) done
-conf_ready setups (Identify offset) done k = k
-conf_ready setups Uptime done k = k
 conf_ready setups (Configure n) done k = conf_over setups n done (is_over (drop n setups)) refl k
-conf_ready setups Config done k = k
-conf_ready setups Connected done k = k
+conf_ready setups c done k = k
 
 -- what is ordered in a turn
 pub filter_both : (xs ys : List Cmd) → filter configures (xs ++ ys) ≡ filter configures xs ++ filter configures ys
@@ -127,7 +123,6 @@ pub conf_asks : (setups : List Setup) (k : ℕ) (a : Asking) (stage : Stage) (do
     → Conf setups (after_asks setups k a stage).stage (done ++ filter configures (asks setups k a stage))
 conf_asks setups k a (Identify offset) done few e c =
     still_stage setups (is_question_due k a.since) k a (Identify offset) _ e (none_more done setups (Identify offset) (is_question_due k a.since) (question (Identify offset)) refl c)
-conf_asks setups k a Uptime done few e c = still_stage setups (is_question_due k a.since) k a Uptime _ e (none_more done setups Uptime (is_question_due k a.since) (question Uptime) refl c)
 conf_asks setups k a (Configure n) done few e c =
     let f = fitting control_bytes (drop n setups) in
     let q = length f in
@@ -142,7 +137,6 @@ conf_asks setups k a (Configure n) done few e c =
     ap (λ (x : List Cmd). x ++ filter configures (map setup_command f)) c.1 ∙ ap (λ (x : List Cmd). map setup_command (take n setups) ++ x) (filter_setups f)
     ∙ sym (map-append setup_command (take n setups) f) ∙ ap (λ (x : List Setup). map setup_command x) front in
     subst (λ (i : ℕ). Conf setups (Configure i) (done ++ filter configures (map setup_command f))) (sym next) (reach, whole)
-conf_asks setups k a Config done few e c = still_stage setups (is_question_due k a.since) k a Config _ e (none_more done setups Config (is_question_due k a.since) (question Config) refl c)
 conf_asks setups k a Connected done few e c =
     let none : filter configures (cond (is_question_due k a.since) [] []) ≡ [] = no_question (is_question_due k a.since) in
     subst (λ (g : Stage). Conf setups g (done ++ filter configures (cond (is_question_due k a.since) [] []))) (sym e)
@@ -151,3 +145,4 @@ conf_asks setups k a Connected done few e c =
     no_question : (b : Bool) → filter configures (cond b [] []) ≡ []
     no_question true = refl
     no_question false = refl
+conf_asks setups k a m done few e c = still_stage setups (is_question_due k a.since) k a m _ e (none_more done setups m (is_question_due k a.since) (question m) refl c)

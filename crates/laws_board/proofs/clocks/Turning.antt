@@ -53,8 +53,7 @@ Carried m r k states askings turn x = (lines : List ReportLine) × (stop : Optio
 finished_on : (how : ReadStop) (m : Machine) (r : Known) (k : ℕ) (states : List State) (lines : List ReportLine) (askings : List Asking) (turn : HomingTurn)
     → end_of (finishes how m (after_homing r k states) k lines askings turn) ≡ None → Carried m r k states askings turn (finishes how m (after_homing r k states) k lines askings turn)
 finished_on (read.Stop line) m r k states lines askings turn h = (lines, Some line, refl)
-finished_on read.End m r k states lines askings turn h = cc
-finished_on (read.Refused line kind) m r k states lines askings turn h = cc
+finished_on c m r k states lines askings turn h = cc
 
 either_on : (b : Bool) (m : Machine) (r : Known) (k : ℕ) (states : List State) (askings : List Asking) (turn : HomingTurn) (x y : Reacted) → end_of (cond b x y) ≡ None
     → (end_of x ≡ None → Carried m r k states askings turn x) → Carried m r k states askings turn y → Carried m r k states askings turn (cond b x y)

@@ -24,28 +24,7 @@ small r = omega (arith, own_small r)
 
 pub row_back : (r : Row) (ps : List Param) → row_of (command r ps) ≡ r
 row_back row.IdentifyResponse ps = refl
-row_back row.Identify ps = refl
-row_back row.AllocateOids ps = refl
-row_back row.GetConfig ps = refl
-row_back row.FinalizeConfig ps = refl
-row_back row.GetUptime ps = refl
-row_back row.EmergencyStop ps = refl
-row_back row.ConfigStepper ps = refl
-row_back row.QueueStep ps = refl
-row_back row.SetNextStepDir ps = refl
-row_back row.ResetStepClock ps = refl
-row_back row.ConfigTrsync ps = refl
-row_back row.TrsyncStart ps = refl
-row_back row.TrsyncSetTimeout ps = refl
-row_back row.TrsyncTrigger ps = refl
-row_back row.StepperStopOnTrigger ps = refl
-row_back row.ConfigEndstop ps = refl
-row_back row.EndstopHome ps = refl
-row_back row.Config ps = refl
-row_back row.Uptime ps = refl
-row_back row.TrsyncState ps = refl
-row_back row.Shutdown ps = refl
-row_back row.IsShutdown ps = refl
+row_back c ps = refl
 
 pub own_row : (r : Row) → row_at own_formats (own_id r) ≡ Some (Some r)
 own_row r = known own_formats r (own_id r) differ (own_number r)

@@ -146,10 +146,9 @@ rests_timed C r i j most t b = record {
 }
 
 happened_later : (C : Type 0) (happening : Happening) (levels : List Level) (until most : ℕ) (t : Trigger) → Later C most t (trig.happened levels until happening t).trigger
-happened_later C Nothing levels until most t = ((λ told. told), λ can. (can, λ x l. l))
 happened_later C (Expires tick) levels until most t = ((λ told. told), λ can. absurd (cc))
 happened_later C (Switches tick) levels until most t = ((λ told. told), λ can. absurd (cc))
-happened_later C (Reports tick) levels until most t = ((λ told. told), λ can. (can, λ x l. l))
+happened_later C c levels until most t = ((λ told. told), λ can. (can, λ x l. l))
 
 tells_later : (C : Type 0) (o : Option ℕ) (levels : List Level) (until most : ℕ) (t : Trigger) → t.untold ≡ o → Later C most t (trig.tells o levels until t).trigger
 tells_later C None levels until most t e = happened_later C (trig.next_happening levels until t) levels until most t

@@ -55,13 +55,11 @@ ready_early m switches (c ∷ before) = one (is_connecting (known_by m switches 
 
 connecting_is : (p : Phase) → is_connecting p ≡ true → p ≡ Connecting
 connecting_is Connecting e = refl
-connecting_is Running e = cc
-connecting_is (Stopping line) e = cc
+connecting_is c e = cc
 
 not_connecting : (p : Phase) → is_connecting p ≡ false → p ≡ Connecting → ⊥
 not_connecting Connecting e f = cc
-not_connecting Running e f = cc
-not_connecting (Stopping line) e f = cc
+not_connecting c e f = cc
 
 front_same : (turns : List BoardTurn) (t : BoardTurn) (n : ℕ) → n ≤ length turns → take n (orders_in (t ∷ turns)) ≡ take n (orders_in turns)
 front_same turns t n l =

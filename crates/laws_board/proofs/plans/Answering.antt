@@ -106,9 +106,8 @@ homing_ends m k next begun g false h = h
 homing_by : (m : Machine) (k next : ℕ) (begun : List Started) (going : Option Going) (tells : Bool) → Homing k begun going
     → Homing k (begun_with begun (if tells then hears_answer m next going else None)) (going_with going (if tells then hears_answer m next going else None))
 homing_by m k next begun None true h = h
-homing_by m k next begun None false h = h
 homing_by m k next begun (Some g) true h = homing_ends m k next begun g (is_home g.kind && nat_le g.start next) h
-homing_by m k next begun (Some g) false h = h
+homing_by m k next begun c false h = h
 
 pub homing_word : (m : Machine) (seen : Seen) (k : ℕ) (w : WordMsg) → Homing k seen.begun seen.going → Homing k (with_word m seen w).begun (with_word m seen w).going
 homing_word m seen k w h = homing_by m k seen.next seen.begun seen.going (tells_homed w.news) h

@@ -165,11 +165,10 @@ untold m c None begun going h e = refl
 untold m c (Some t) begun going h e = absurd (true_false (sym h.connected ∙ e))
 
 waiting : (m : Machine) (o : Open) (c : Course) (told : Option Told) (begun : List Started) (going : Option Going) (k : ℕ) → IsGoing m o c told begun going → waits_by o c.start k ≡ true → Homing k begun going
-waiting m opens.Nothing c told begun going k h e = absurd (true_false (sym e))
 waiting m (opens.Goes s true) c told begun going k h e =
     let start = h.start_is in
     elim (leb_tells c.start k) [ inl p ↦ (let late = p.1 in subst (Homing k begun) (sym h.is) (sym h.homes_is, omega (arith, start, late))) | inr p ↦ absurd (true_false (sym e ∙ p.0)) ]
-waiting m (opens.Goes s false) c told begun going k h e = absurd (true_false (sym e))
+waiting m x c told begun going k h e = absurd (true_false (sym e))
 
 wanted : {M : Type 0} (g : Motion M) (view : M → Planner) (m : Machine) (k : ℕ) (done : List MotionTurn) (words : List WordMsg) (puts : List Put) (text : TextSofar) (told : Option Told) (fresh : List BoardLine) (x : Seat M) → IsPlanning g view → (l : Live view m k done words puts text told fresh x)
     → needs g.wants k x ≡ true → (x.heard ≤ k) × (x.heard ≡ k → (told ≡ None) ⊎ Homing k l.seen.begun l.seen.going)

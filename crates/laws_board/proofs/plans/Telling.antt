@@ -27,9 +27,7 @@ plain_pulses place (l ∷ lines) p = ap (λ x. x ++ pulses_of place lines) (one_
 
 drift_plain : (n : NoteNews) → ArePlain (drift_line n)
 drift_plain (news.Line board line from) = (tt, tt)
-drift_plain (news.Start section kind turn last moving) = tt
-drift_plain (news.Done section turn) = tt
-drift_plain (news.Read end sections) = tt
+drift_plain c = tt
 
 plain_both : (xs ys : List ReportLine) → ArePlain xs → ArePlain ys → ArePlain (xs ++ ys)
 plain_both [] ys a b = b

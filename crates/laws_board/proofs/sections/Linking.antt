@@ -30,14 +30,11 @@ are_quiet [] a = tt
 are_quiet (s ∷ steps) a = (a.0, are_quiet steps a.1)
 
 comes_quiet : (way : Way) (fate : Fate) → AllOf QueuesNothing (comes way fate)
-comes_quiet Down Lost = (tt, tt)
-comes_quiet Down Last = (tt, tt)
 comes_quiet Down Stays = (tt, (tt, tt))
-comes_quiet Down Garbled = (tt, tt)
-comes_quiet Up Lost = (tt, tt)
 comes_quiet Up Last = (tt, (tt, tt))
 comes_quiet Up Stays = (tt, (tt, (tt, tt)))
-comes_quiet Up Garbled = (tt, tt)
+comes_quiet Down c = (tt, tt)
+comes_quiet Up c = (tt, tt)
 
 come_quiet : (way : Way) (turn : ℕ) (copies : List Copy) → AllOf QueuesNothing (come way turn copies)
 come_quiet way turn copies = all_come QueuesNothing way (λ fate. comes_quiet way fate) turn copies
@@ -168,10 +165,9 @@ abbrev LeavesBoard : Step → Type 0
 LeavesBoard s = (h : Core) → (world_after h s).board ≡ h.board
 
 comes_leave : (fate : Fate) → AllOf LeavesBoard (comes Up fate)
-comes_leave Lost = (λ h. refl, tt)
 comes_leave Last = (λ h. refl, (λ h. refl, tt))
 comes_leave Stays = (λ h. refl, (λ h. refl, (λ h. refl, tt)))
-comes_leave Garbled = (λ h. refl, tt)
+comes_leave c = (λ h. refl, tt)
 
 run_leaves : (steps : List Step) (h : Core) → AllOf LeavesBoard steps → (run_world steps h).board ≡ h.board
 run_leaves [] h a = refl

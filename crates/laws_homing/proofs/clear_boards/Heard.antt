@@ -108,9 +108,8 @@ group_either true b P x g k l = k
 group_either false b P x g k l = l
 
 group_in : (p : Phase) (b turn : ℕ) (P : ℕ → Type 0) (g : GroupState) → GroupSo b P g → GroupSo b P (after_in p g turn)
-group_in (Sends round) b turn P g k = k
 group_in Goes b turn P g k = group_either (all_fired g.members) b P g _ k k
-group_in Rests b turn P g k = k
+group_in c b turn P g k = k
 
 module _ (m : Machine) (switches : List Switch) (b : ℕ) where
   -- the homing section that is known
@@ -135,9 +134,7 @@ module _ (m : Machine) (switches : List Switch) (b : ℕ) where
 
   told_so : (came : List Came) (r : Known) (n : NoteNews) → HomingSo came r.homing → HomingSo came (known_behind m r n).homing
   told_so came r (news.Start section kind turn last moving) k = begun_so section kind turn last moving came
-  told_so came r (news.Done section turn) k = k
-  told_so came r (news.Read x sections) k = k
-  told_so came r (news.Line board line from) k = k
+  told_so came r c k = k
 
   all_told_so : (came : List Came) (ns : List NoteNews) (r : Known) → HomingSo came r.homing → HomingSo came (told_all m ns r).homing
   all_told_so came [] r k = k

@@ -80,10 +80,9 @@ follows_limit oid limit = record {
 
 happened_limit : (levels : List Level) (until limit : ℕ) (e : Happening) (t : Trigger) → t.timeout ≡ limit_of t.can limit
     → (trig.happened levels until e t).trigger.timeout ≡ limit_of (trig.happened levels until e t).trigger.can limit
-happened_limit levels until limit Nothing t k = k
 happened_limit levels until limit (Expires at) t k = refl
 happened_limit levels until limit (Switches at) t k = refl
-happened_limit levels until limit (Reports at) t k = k
+happened_limit levels until limit c t k = k
 
 lasts_limit : (oid limit until : ℕ) → Lasts (Limit oid limit) until
 lasts_limit oid limit until = record { comes = λ pins i s e next k. (k.0, happened_limit _ until limit e s.trigger k.1); says = λ pins i s n e k. k }

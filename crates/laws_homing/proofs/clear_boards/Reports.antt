@@ -37,8 +37,6 @@ record Stepped (oid until report : ℕ) (s : Slot) (a : trig.Advanced) : Type 0 
 
 happened_step : (oid until report : ℕ) (levels : List Level) (e : Happening) (s : Slot) → IsNextOf levels until s.trigger e → s.trigger.report ≡ Some report → Stepped oid until report s (trig.happened levels until e s.trigger)
 happened_step oid until report levels Nothing s next is = record { every = refl; next = report; report_is = is; stays = λ e. e; tells = inl refl }
-happened_step oid until report levels (Expires at) s next is = record { every = refl; next = report; report_is = is; stays = λ e. absurd (cc); tells = inl refl }
-happened_step oid until report levels (Switches at) s next is = record { every = refl; next = report; report_is = is; stays = λ e. absurd (cc); tells = inl refl }
 happened_step oid until report levels (Reports at) s next is = record {
   every = refl;
   next = at + s.trigger.every;
@@ -46,6 +44,7 @@ happened_step oid until report levels (Reports at) s next is = record {
   stays = λ e. e;
   tells = inr (at, (let same : report ≡ at = same_when s.trigger.report report at is next.0 in omega (arith, same)), next.1, refl, λ e. inl (refl, ap bit e, ap (λ (b : Bool). (if b then at else s.trigger.tick) % 2 ^ 32) e));
 }
+happened_step oid until report levels c s next is = record { every = refl; next = report; report_is = is; stays = λ e. absurd (cc); tells = inl refl }
 
 tells_step : (o : Option ℕ) (oid until report : ℕ) (levels : List Level) (s : Slot) → s.trigger.untold ≡ o → IsRegular (Some s) → s.trigger.report ≡ Some report → Stepped oid until report s (trig.tells o levels until s.trigger)
 tells_step None oid until report levels s e h is = happened_step oid until report levels (trig.next_happening levels until s.trigger) s (is_next levels until s.trigger h.1) is
@@ -85,9 +84,7 @@ none_in r until p oid xs s e at = none_next r until p oid xs s at e
 
 pub none_left : (levels : List Level) (until report : ℕ) (t : Trigger) (e : Happening) → moment_of e ≡ None → IsNextOf levels until t e → ReportsAt t report → until ≤ report
 none_left levels until report t Nothing m next is = next.2 report is
-none_left levels until report t (Expires at) m next is = absurd (cc)
-none_left levels until report t (Switches at) m next is = absurd (cc)
-none_left levels until report t (Reports at) m next is = absurd (cc)
+none_left levels until report t c m next is = absurd (cc)
 
 pub regular_at : (i : ℕ) (xs : List (Option Slot)) → AreRegular xs → IsRegular (get_or xs i None)
 regular_at i [] h = tt

@@ -40,9 +40,7 @@ clock_small tick = omega arith
 -- where nothing happens before a tick, nothing happens to any trigger
 pub moment_none : (e : Happening) → moment_of e ≡ None → e ≡ Nothing
 moment_none Nothing m = refl
-moment_none (Expires t) m = absurd (cc)
-moment_none (Switches t) m = absurd (cc)
-moment_none (Reports t) m = absurd (cc)
+moment_none c m = absurd (cc)
 
 sooner_none : (oid : ℕ) (m : Option ℕ) (rest : Option (ℕ × ℕ)) → sooner oid m rest ≡ None → (m ≡ None) × (rest ≡ None)
 sooner_none oid None rest e = (refl, e)

@@ -85,16 +85,13 @@ host_quiet : (turn : ℕ) (o : Orders) (resent : Bool) → AllOf IsQuiet (host_s
 host_quiet turn o resent = (tt, (tt, (tt, all_append IsQuiet (resends resent) (sends 12) (all_resent IsQuiet tt resent) (all_sent IsQuiet tt 12))))
 
 pub down_coming : (fate : Fate) → AllOf IsComing (comes Down fate)
-down_coming Lost = (tt, tt)
-down_coming Last = (tt, tt)
 down_coming Stays = (tt, (tt, tt))
-down_coming Garbled = (tt, tt)
+down_coming c = (tt, tt)
 
 up_quiet : (fate : Fate) → AllOf IsQuiet (comes Up fate)
-up_quiet Lost = (tt, tt)
 up_quiet Last = (tt, (tt, tt))
 up_quiet Stays = (tt, (tt, (tt, tt)))
-up_quiet Garbled = (tt, tt)
+up_quiet c = (tt, tt)
 
 pub record Turned (clock : BoardClock) (turn : ℕ) (o : Orders) (resent : Bool) (l m : LinkState) : Type 0 where
   pub meant : List Meant

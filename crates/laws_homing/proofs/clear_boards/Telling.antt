@@ -26,9 +26,7 @@ use Rattle.laws_homing.proofs.clear_boards.Taking.{taking}
 
 first_heard : (fate : Fate) (r : Reply) (rs : List Reply) (h : Core) → fate ≡ Last → h.link.up ≡ r ∷ rs → IsAmong r (heard_in (comes Up fate) h)
 first_heard Last r rs h f e = subst (λ (us : List Reply). IsAmong r (take 1 us ++ [])) (sym e) (inl refl)
-first_heard Lost r rs h f e = cc
-first_heard Stays r rs h f e = cc
-first_heard Garbled r rs h f e = cc
+first_heard c r rs h f e = cc
 
 heard_here : (turn : ℕ) (ds : List Copy) (h : Core) (more : List Reply) (r : Reply) → h.link.up ≡ more → length more ≡ length ds → AllLast ds → still turn ds ≡ [] → IsAmong r more
     → IsAmong r (heard_in (come Up turn ds) h)

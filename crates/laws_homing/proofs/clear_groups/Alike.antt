@@ -82,13 +82,12 @@ homes_by most (x ∷ xs) =
 -- the commands of orders
 one_alike : (m : Machine) (known lines : Clocks) (b start most : ℕ) (axis : AxisDef) (what : Order) → IsAlike most known lines → start ≤ most → IsBy most what → order_command m known b start axis what ≡ order_command m lines b start axis what
 one_alike m known lines b start most axis (order.Reset i) a low_so by = ap (λ (n : ℕ). cmd.ResetStepClock (stepper_at m i).oid (low n)) (turn_alike known lines most start a low_so)
-one_alike m known lines b start most axis (order.Stop i) a low_so by = refl
 one_alike m known lines b start most axis order.Start a low_so by = ap (λ (n : ℕ). cmd.TrsyncStart (trigger_of m b) (low n) ((board_at m b).freq * 5 / 1_000) 2) (turn_alike known lines most start a low_so)
 one_alike m known lines b start most axis (order.Timeout turn) a low_so by = ap (λ (n : ℕ). cmd.TrsyncSetTimeout (trigger_of m b) (low n)) (turn_alike known lines most turn a by)
 one_alike m known lines b start most axis order.Home a low_so by =
     ap (λ (n : ℕ). cmd.EndstopHome (place_from (trigger_of m b + 1) axis.pin (endstop_pins m b)) (low n) ((board_at m b).freq * 15 / 1_000_000) 4 ((board_at m b).freq / 10_000) (bit axis.pressed) (trigger_of m b) 1)
     (turn_alike known lines most start a low_so)
-one_alike m known lines b start most axis order.Trigger a low_so by = refl
+one_alike m known lines b start most axis c a low_so by = refl
 
 commands_alike : (m : Machine) (known lines : Clocks) (b start most : ℕ) (axis : AxisDef) (ctls : List Ctl) → IsAlike most known lines → start ≤ most → AreBy most ctls → commands_to m known b start axis ctls ≡ commands_to m lines b start axis ctls
 commands_alike m known lines b start most axis [] a low_so by = refl

@@ -33,9 +33,8 @@ phase_not start last turn e l =
     omega (arith, none, l)
 
 relay_in_phase : (p : GroupPhase) (g : GroupState) (turn : ℕ) → (p ≡ Goes → ⊥) → (after_in p g turn).relay ≡ g.relay
-relay_in_phase (Sends r) g turn n = refl
-relay_in_phase Rests g turn n = refl
 relay_in_phase Goes g turn n = absurd (n refl)
+relay_in_phase c g turn n = refl
 
 -- a group is new from its note until its boards are started
 module _ (m : Machine) (switches : List Switch) (from start last : ℕ) (members : List Member) (set_up : from + 251 ≤ start) where

@@ -14,10 +14,9 @@ abbrev pub Tame : ℕ → Cmd → Type 0
 Tame now c = IsTame c
 
 happened_off : (levels : List Level) (until : ℕ) (e : Happening) (t : Trigger) → t.can ≡ false → (trig.happened levels until e t).trigger.can ≡ false
-happened_off levels until Nothing t k = k
 happened_off levels until (Expires at) t k = refl
 happened_off levels until (Switches at) t k = refl
-happened_off levels until (Reports at) t k = k
+happened_off levels until c t k = k
 
 lasts_off : (until : ℕ) → Lasts Off_one until
 lasts_off until = record { comes = λ pins oid s e next k. happened_off _ until e s.trigger k; says = λ pins oid s n e k. k }

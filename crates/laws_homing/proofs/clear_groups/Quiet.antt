@@ -20,9 +20,8 @@ none_read (Some s) levels until e = cc
 
 happened_quiet : (levels : List Level) (until : ℕ) (e : Happening) (t : Trigger) → Blank t → Blank (trig.happened levels until e t).trigger
 happened_quiet levels until Nothing t k = λ off. none_read t.sampling levels until (k off)
-happened_quiet levels until (Expires at) t k = λ off. refl
-happened_quiet levels until (Switches at) t k = λ off. refl
 happened_quiet levels until (Reports at) t k = k
+happened_quiet levels until c t k = λ off. refl
 
 lasts_quiet : (until : ℕ) → Lasts Quiet_one until
 lasts_quiet until = record { comes = λ pins oid s e next k. happened_quiet _ until e s.trigger k; says = λ pins oid s n e k. k }

@@ -251,10 +251,7 @@ module _ (m : Machine) (clocks : Clocks) (b start : ℕ) (axis : AxisDef) (base 
   setting_one : (what : Order) (r : Rig) (l : Option ℕ) → IsSetting what → r.controller.tick ≡ now → Ready l r → Ready l (acts r (order_command m clocks b start axis what)).rig
   setting_one (order.Stop i) r l k at h = binds (trigger_of m b) base every r (machine.stepper_at m i).oid l h
   setting_one order.Home r l k at h = reads (trigger_of m b) base every r _ (low (turn_tick clocks start)) _ _ _ _ l h (ap (λ (n : ℕ). nearest n (low (turn_tick clocks start))) at ∙ at_base)
-  setting_one (order.Reset i) r l k at h = absurd k
-  setting_one order.Start r l k at h = absurd k
-  setting_one (order.Timeout turn) r l k at h = absurd k
-  setting_one order.Trigger r l k at h = absurd k
+  setting_one c r l k at h = absurd k
 
   -- one order, to this board or another
   setting_to : (here : Bool) (what : Order) (rest : List Cmd) (r : Rig) (l : Option ℕ) → IsSetting what → r.controller.tick ≡ now → (takes_all r ((if here then order_command m clocks b start axis what ∷ [] else []) ++ rest)).rig.controller.state ≡ Running

@@ -33,21 +33,16 @@ each_if false xs a = tt
 -- connecting
 setup_tame : (s : Setup) → IsTame (setup_command s)
 setup_tame (Oids count) = tt
-setup_tame (Stepper oid step dir) = tt
-setup_tame (Trsync oid) = tt
-setup_tame (Endstop oid pin) = tt
-setup_tame Finish = tt
+setup_tame c = tt
 
 setups_tame : (ss : List Setup) → EachTame (map setup_command ss)
 setups_tame [] = tt
 setups_tame (s ∷ ss) = (setup_tame s, setups_tame ss)
 
 asks_tame : (turn : ℕ) (setups : List Setup) (a : Asking) (stage : Stage) → EachTame (asks setups turn a stage)
-asks_tame turn setups a (Identify offset) = each_if (is_question_due turn a.since) (question (Identify offset)) (tt, tt)
-asks_tame turn setups a Uptime = each_if (is_question_due turn a.since) (question Uptime) (tt, tt)
 asks_tame turn setups a (Configure n) = setups_tame (fitting control_bytes (drop n setups))
-asks_tame turn setups a Config = each_if (is_question_due turn a.since) (question Config) (tt, tt)
 asks_tame turn setups a Connected = each_if (is_question_due turn a.since) (question Connected) tt
+asks_tame turn setups a c = each_if (is_question_due turn a.since) (question c) (tt, tt)
 
 stop_tame : (s : Bool) → EachTame (stop_command s)
 stop_tame true = (tt, tt)
@@ -141,12 +136,8 @@ phase_tame start last k second =
 
 -- their commands
 order_tame : (m : Machine) (clocks : Clocks) (b start : ℕ) (axis : AxisDef) (what : Order) → OrderTame what → IsTame (order_command m clocks b start axis what)
-order_tame m clocks b start axis (order.Reset s) a = tt
-order_tame m clocks b start axis (order.Stop s) a = tt
 order_tame m clocks b start axis order.Start a = absurd a
-order_tame m clocks b start axis (order.Timeout turn) a = tt
-order_tame m clocks b start axis order.Home a = tt
-order_tame m clocks b start axis order.Trigger a = tt
+order_tame m clocks b start axis c a = tt
 
 pub ctls_tame : (m : Machine) (clocks : Clocks) (b start : ℕ) (axis : AxisDef) (ctls : List Ctl) → CtlsTame b ctls → EachTame (commands_to m clocks b start axis ctls)
 ctls_tame m clocks b start axis [] a = tt

@@ -126,10 +126,9 @@ TakesNone (Do event.Repeat) = ⊥
 TakesNone step = Unit {0}
 
 up_takes_none : (fate : Fate) → AllOf TakesNone (comes Up fate)
-up_takes_none Lost = (tt, tt)
 up_takes_none Last = (tt, (tt, tt))
 up_takes_none Stays = (tt, (tt, (tt, tt)))
-up_takes_none Garbled = (tt, tt)
+up_takes_none c = (tt, tt)
 
 -- A board that reads nothing, and one that reads what is complete at ticks in G alone, where a command that it takes at a tick has it read what is complete at
 -- ticks in F.
@@ -220,14 +219,7 @@ module _ (Z : Type 0) (E F : ℕ → (ℕ → Type 0)) (G : ℕ → Type 0) (n :
   stage_by h (event.Pass t) more to fit k = ((time_true E AnyTick AnyTick pins h.board t (λ x early any. tt) k.0).0, time_stage h.board t more k.1)
   stage_by h event.Arrive more to fit k = took_stage h.board (takes_in h event.Arrive) more to fit k
   stage_by h event.Repeat more to fit k = took_stage h.board (takes_in h event.Repeat) more to fit k
-  stage_by h (event.Put c) more to fit k = k
-  stage_by h (event.Control c) more to fit k = k
-  stage_by h event.Send more to fit k = k
-  stage_by h event.Resend more to fit k = k
-  stage_by h event.Lose more to fit k = k
-  stage_by h event.Garble more to fit k = k
-  stage_by h event.Reply more to fit k = k
-  stage_by h event.LoseReply more to fit k = k
+  stage_by h c more to fit k = k
 
   -- over steps: what is taken in each begins no readings, or may be taken at the board's tick
   abbrev Times : Core → List Step → Type 0

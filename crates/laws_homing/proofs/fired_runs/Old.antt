@@ -22,10 +22,9 @@ abbrev pub OldAt : ℕ → ℕ → Rig → Type 0
 OldAt j most r = (oid : ℕ) (s : Slot) → oid ≡ j → slot_at r oid ≡ Some s → Old most s.trigger
 
 pub happened_old : (most : ℕ) (levels : List Level) (until : ℕ) (e : Happening) (t : Trigger) → Next levels until t e → Old most t → Old most (trig.happened levels until e t).trigger
-happened_old most levels until Nothing t next k = record { off = k.off; idle = k.idle; before = k.before }
 happened_old most levels until (Expires at) t next k = absurd (let bad : None ≡ Some at = sym k.idle ∙ next.comes.0 in cc)
 happened_old most levels until (Switches at) t next k = absurd (no_both t.can next.comes.0.1 k.off)
-happened_old most levels until (Reports at) t next k = record { off = k.off; idle = k.idle; before = k.before }
+happened_old most levels until c t next k = record { off = k.off; idle = k.idle; before = k.before }
 
 abbrev One : ℕ → ℕ → (List (List Level) → ℕ → Slot → Type 0)
 One j most pins oid s = oid ≡ j → Old most s.trigger
@@ -74,14 +73,7 @@ old_by : (j most : ℕ) (h : Core) (e : Event) → 0 < most → EachTame (comman
 old_by j most h (event.Pass t) some k all = passes_old j most h.board t all
 old_by j most h event.Arrive some k all = takes_old j most h.board (commands_of (takes_in h event.Arrive)) some k all
 old_by j most h event.Repeat some k all = takes_old j most h.board (commands_of (takes_in h event.Repeat)) some k all
-old_by j most h (event.Put c) some k all = all
-old_by j most h (event.Control c) some k all = all
-old_by j most h event.Send some k all = all
-old_by j most h event.Resend some k all = all
-old_by j most h event.Lose some k all = all
-old_by j most h event.Garble some k all = all
-old_by j most h event.Reply some k all = all
-old_by j most h event.LoseReply some k all = all
+old_by j most h c some k all = all
 
 steps_old : (j most : ℕ) (steps : List Step) (h : Core) (ms : List Meant) → 0 < most → (run_world steps h).taken ≡ h.taken ++ ms → EachTame (commands_of ms) → OldAt j most h.board → OldAt j most (run_world steps h).board
 steps_old j most [] h ms some e k all = all

@@ -193,9 +193,7 @@ begun_knows m switches came section (Home axis) turn last moving =
 
 told_knows : (m : Machine) (switches : List Switch) (came : List Came) (r : Known) (n : NoteNews) → Knows m switches came r.homing → Knows m switches came (known_behind m r n).homing
 told_knows m switches came r (news.Start section kind turn last moving) k = begun_knows m switches came section kind turn last moving
-told_knows m switches came r (news.Done section turn) k = k
-told_knows m switches came r (news.Read x sections) k = k
-told_knows m switches came r (news.Line board line from) k = k
+told_knows m switches came r c k = k
 
 all_knows : (m : Machine) (switches : List Switch) (came : List Came) (ns : List NoteNews) (r : Known) → Knows m switches came r.homing → Knows m switches came (told_all m ns r).homing
 all_knows m switches came [] r k = k
@@ -211,9 +209,8 @@ members_if true x g e = refl
 members_if false x g e = e
 
 members_on : (p : Phase) (g : GroupState) (turn : ℕ) → (after_in p g turn).members ≡ g.members
-members_on (Sends round) g turn = refl
 members_on Goes g turn = members_if (all_fired g.members) _ g refl
-members_on Rests g turn = refl
+members_on c g turn = refl
 
 goes_knows : (m : Machine) (switches : List Switch) (came : List Came) (k : ℕ) (h : Homing) (o : Option End) → Knows m switches came (Some h) → Knows m switches came (goes_on_homing k h o)
 goes_knows m switches came k h None a =

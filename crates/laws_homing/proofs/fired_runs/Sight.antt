@@ -64,21 +64,16 @@ once_behind (x ∷ xs) ys blind k = inr (blind.0, once_behind xs ys blind.1 k)
 -- connecting
 setup_blind : (s : Setup) → IsBlind (setup_command s)
 setup_blind (Oids count) = tt
-setup_blind (Stepper oid step dir) = tt
-setup_blind (Trsync oid) = tt
-setup_blind (Endstop oid pin) = tt
-setup_blind Finish = tt
+setup_blind c = tt
 
 setups_blind : (ss : List Setup) → Each IsBlind (map setup_command ss)
 setups_blind [] = tt
 setups_blind (s ∷ ss) = (setup_blind s, setups_blind ss)
 
 asks_blind : (turn : ℕ) (setups : List Setup) (a : Asking) (stage : Stage) → Each IsBlind (asks setups turn a stage)
-asks_blind turn setups a (Identify offset) = each_if (is_question_due turn a.since) (question (Identify offset)) (tt, tt)
-asks_blind turn setups a Uptime = each_if (is_question_due turn a.since) (question Uptime) (tt, tt)
 asks_blind turn setups a (Configure n) = setups_blind (fitting control_bytes (drop n setups))
-asks_blind turn setups a Config = each_if (is_question_due turn a.since) (question Config) (tt, tt)
 asks_blind turn setups a Connected = each_if (is_question_due turn a.since) (question Connected) tt
+asks_blind turn setups a c = each_if (is_question_due turn a.since) (question c) (tt, tt)
 
 stop_blind : (s : Bool) → Each IsBlind (stop_command s)
 stop_blind true = (tt, tt)
@@ -168,12 +163,8 @@ phase_blind start last k second =
 
 -- their commands
 order_blind : (m : Machine) (clocks : Clocks) (b start : ℕ) (axis : AxisDef) (what : Order) → OrderBlind what → IsBlind (order_command m clocks b start axis what)
-order_blind m clocks b start axis (order.Reset s) a = tt
-order_blind m clocks b start axis (order.Stop s) a = tt
-order_blind m clocks b start axis order.Start a = tt
-order_blind m clocks b start axis (order.Timeout turn) a = tt
 order_blind m clocks b start axis order.Home a = absurd a
-order_blind m clocks b start axis order.Trigger a = tt
+order_blind m clocks b start axis c a = tt
 
 ctls_blind : (m : Machine) (clocks : Clocks) (b start : ℕ) (axis : AxisDef) (ctls : List Ctl) → CtlsBlind b ctls → Each IsBlind (commands_to m clocks b start axis ctls)
 ctls_blind m clocks b start axis [] a = tt

@@ -23,10 +23,9 @@ abbrev Under : ℕ → (List (List Level) → ℕ → Slot → Type 0)
 Under most pins oid s = s.trigger.tick ≤ most
 
 happened_under : (most : ℕ) (levels : List Level) (until : ℕ) (e : Happening) (t : Trigger) → Next levels until t e → until ≤ most → t.tick ≤ most → (trig.happened levels until e t).trigger.tick ≤ most
-happened_under most levels until Nothing t next l k = k
 happened_under most levels until (Expires at) t next l k = let early = next.comes.1 in omega (arith, early, l)
 happened_under most levels until (Switches at) t next l k = let early = next.comes.1 in omega (arith, early, l)
-happened_under most levels until (Reports at) t next l k = k
+happened_under most levels until c t next l k = k
 
 lasts_under : (most until : ℕ) → until ≤ most → Lasts (Under most) until
 lasts_under most until l = record { comes = λ pins oid s e next k. happened_under most _ until e s.trigger next l k; says = λ pins oid s n e k. k }
@@ -65,14 +64,7 @@ under_by most h (event.Pass t) soon k =
     passed (suc n) soon = let l = soon n (omega arith) tt in omega (arith, l)
 under_by most h event.Arrive soon k = took_under most h.board (commands_of (takes_in h event.Arrive)) k
 under_by most h event.Repeat soon k = took_under most h.board (commands_of (takes_in h event.Repeat)) k
-under_by most h (event.Put c) soon k = k
-under_by most h (event.Control c) soon k = k
-under_by most h event.Send soon k = k
-under_by most h event.Resend soon k = k
-under_by most h event.Lose soon k = k
-under_by most h event.Garble soon k = k
-under_by most h event.Reply soon k = k
-under_by most h event.LoseReply soon k = k
+under_by most h c soon k = k
 
 under_step : (E : ℕ → (ℕ → Type 0)) (pins : List (List Level)) (most : ℕ) (h : Core) (s : Step) → Brings E (λ x. x < most) (λ x. Unit {0}) pins s → IsUnder most h → IsUnder most (world_after h s)
 under_step E pins most h (Do e) b k = under_by most h e b.1 k

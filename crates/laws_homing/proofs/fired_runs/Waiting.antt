@@ -132,14 +132,7 @@ event_settles : (i j : ℕ) (h : Core) (e : Event) (left : List Meant) → Settl
 event_settles i j h (event.Pass t) left s = (tt, λ sets. time_settles i j h.board t left s)
 event_settles i j h event.Arrive left s = all_settle i j h.board (takes_in h event.Arrive) left s
 event_settles i j h event.Repeat left s = all_settle i j h.board (takes_in h event.Repeat) left s
-event_settles i j h (event.Put c) left s = (tt, λ sets. s)
-event_settles i j h (event.Control c) left s = (tt, λ sets. s)
-event_settles i j h event.Send left s = (tt, λ sets. s)
-event_settles i j h event.Resend left s = (tt, λ sets. s)
-event_settles i j h event.Lose left s = (tt, λ sets. s)
-event_settles i j h event.Garble left s = (tt, λ sets. s)
-event_settles i j h event.Reply left s = (tt, λ sets. s)
-event_settles i j h event.LoseReply left s = (tt, λ sets. s)
+event_settles i j h c left s = (tt, λ sets. s)
 
 -- and some steps
 pub steps_settle : (i j : ℕ) (steps : List Step) (h : Core) (left : List Meant) → IsOrdered h → h.taken ++ left ≡ h.queued → Settles i j left h.board → StepsFindHalted i h steps

@@ -48,12 +48,10 @@ Aims start most order.Trigger = ⊥
 Aims start most what = Unit {0}
 
 order_aims : (m : Machine) (known lines : Clocks) (b near most start at : ℕ) (axis : AxisDef) (what : Order) → near ≤ most → IsAlike near known lines → start ≤ near → at ≡ start → Aims start near what → IsAimed lines start most (order_command m known b at axis what)
-order_aims m known lines b near most start at axis (order.Reset i) far alike up e a = tt
-order_aims m known lines b near most start at axis (order.Stop i) far alike up e a = tt
-order_aims m known lines b near most start at axis order.Start far alike up e a = tt
 order_aims m known lines b near most start at axis (order.Timeout turn) far alike up e a = let to = a.1 in (turn, a.0, omega (arith, to, far), ap low (turn_alike known lines near turn alike to))
 order_aims m known lines b near most start at axis order.Home far alike up e a = (start, omega arith, omega (arith, up, far), ap (λ (n : ℕ). low (turn_tick known n)) e ∙ ap low (turn_alike known lines near start alike up))
 order_aims m known lines b near most start at axis order.Trigger far alike up e a = absurd a
+order_aims m known lines b near most start at axis c far alike up e a = tt
 
 none_relays : (turn : ℕ) (o : Option ℕ) → o ≡ None → relays_in o turn ≡ true → ⊥
 none_relays turn None e f = cc

@@ -115,10 +115,9 @@ follows_limits j = record {
 }
 
 comes_limits : (levels : List Level) (until : ℕ) (t : Trigger) (e : Happening) → Limits t → Limits (trig.happened levels until e t).trigger
-comes_limits levels until t happening.Nothing k = λ can. k can
 comes_limits levels until t (happening.Expires at) k = λ can. absurd (not_can false refl can)
 comes_limits levels until t (happening.Switches at) k = λ can. absurd (not_can false refl can)
-comes_limits levels until t (happening.Reports at) k = λ can. k can
+comes_limits levels until t c k = λ can. k can
 
 module _ (j : ℕ) where
   pub takes_due : (every next : ℕ) (r : Rig) (cs : List Cmd) → EachTame cs → Holds j (Due every next) r → Holds j (Due every next) (takes_all r cs).rig

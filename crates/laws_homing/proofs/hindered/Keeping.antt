@@ -19,9 +19,8 @@ none_read y e = cc
 
 comes_it : (levels : List Level) (until : ℕ) (t : Trigger) (e : Happening) → Timed t → Timed (trig.happened levels until e t).trigger
 comes_it levels until t Nothing k = (k.0, λ y is two. (let x = read_true t.sampling levels until y is in k.1 x.0 x.1 (sym x.2 ∙ two)))
-comes_it levels until t (Expires at) k = (λ can. absurd (false_true can), λ y is. absurd (none_read y is))
-comes_it levels until t (Switches at) k = (λ can. absurd (false_true can), λ y is. absurd (none_read y is))
 comes_it levels until t (Reports at) k = (k.0, k.1)
+comes_it levels until t c k = (λ can. absurd (false_true can), λ y is. absurd (none_read y is))
 
 -- of the trigger with this object id
 abbrev pub AllTimed : ℕ → Rig → Type 0

@@ -50,12 +50,11 @@ by_one : (m : Machine) (dwell : ℕ) (moves : List Move) (s : State) (a : Action
 by_one m dwell moves s actions.None rest r = r dwell moves
 by_one m dwell moves s (actions.Move one) rest r = r dwell (moves ++ one ∷ [])
 by_one m dwell moves s (actions.Dwell ms) rest r = ones_both (closed dwell moves) (rest (dwell_left dwell moves + ms) []) (closed_one dwell moves) (r (dwell_left dwell moves + ms) [])
-by_one m dwell moves s actions.Wait rest r = ones_both (closed dwell moves) (rest (dwell_left dwell moves) []) (closed_one dwell moves) (r (dwell_left dwell moves) [])
-by_one m dwell moves s actions.Stop rest r = ones_both (closed dwell moves) (rest (dwell_left dwell moves) []) (closed_one dwell moves) (r (dwell_left dwell moves) [])
 by_one m dwell moves s (actions.Home axes) rest r =
     let own = homes m (coordinates_of s) s.acceleration (dwell_left dwell moves) axes in
     let more = rest (left_by_homes (dwell_left dwell moves) axes) [] in
     ones_both (closed dwell moves) (own ++ more) (closed_one dwell moves) (ones_both own more (homes_one m (coordinates_of s) s.acceleration (dwell_left dwell moves) axes) (r (left_by_homes (dwell_left dwell moves) axes) []))
+by_one m dwell moves s c rest r = ones_both (closed dwell moves) (rest (dwell_left dwell moves) []) (closed_one dwell moves) (r (dwell_left dwell moves) [])
 
 sections_one : (m : Machine) (dwell : ℕ) (moves : List Move) (deeds : List Deed) → AllOne (sections_of m dwell moves deeds)
 sections_one m dwell moves [] = closed_one dwell moves

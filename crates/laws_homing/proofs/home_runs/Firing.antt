@@ -58,27 +58,13 @@ pub next_by : (i j : ℕ) (h : Core) (e : Event) → EachCalm i j (commands_of (
 next_by i j h (event.Pass t) b = passes_next i j h.board t
 next_by i j h event.Arrive b = all_next i j h.board (commands_of (takes_in h event.Arrive)) b
 next_by i j h event.Repeat b = all_next i j h.board (commands_of (takes_in h event.Repeat)) b
-next_by i j h (event.Put c) b = next_same i j h.board
-next_by i j h (event.Control c) b = next_same i j h.board
-next_by i j h event.Send b = next_same i j h.board
-next_by i j h event.Resend b = next_same i j h.board
-next_by i j h event.Lose b = next_same i j h.board
-next_by i j h event.Garble b = next_same i j h.board
-next_by i j h event.Reply b = next_same i j h.board
-next_by i j h event.LoseReply b = next_same i j h.board
+next_by i j h c b = next_same i j h.board
 
 pub says_by : (i j : ℕ) (h : Core) (e : Event) → EachCalm i j (commands_of (takes_in h e)) → length h.board.triggers ≤ 256 → IsSole j h.board → Each (Says (HasNoTimeout j h.board) j (does h e).board) (does h e).answers
 says_by i j h (event.Pass t) b few sole = time_says (HasNoTimeout j h.board) i j h.board t few sole (λ quiet. quiet)
 says_by i j h event.Arrive b few sole = all_say (HasNoTimeout j h.board) i j h.board (commands_of (takes_in h event.Arrive)) few sole (λ quiet. quiet) b
 says_by i j h event.Repeat b few sole = all_say (HasNoTimeout j h.board) i j h.board (commands_of (takes_in h event.Repeat)) few sole (λ quiet. quiet) b
-says_by i j h (event.Put c) b few sole = tt
-says_by i j h (event.Control c) b few sole = tt
-says_by i j h event.Send b few sole = tt
-says_by i j h event.Resend b few sole = tt
-says_by i j h event.Lose b few sole = tt
-says_by i j h event.Garble b few sole = tt
-says_by i j h event.Reply b few sole = tt
-says_by i j h event.LoseReply b few sole = tt
+says_by i j h c b few sole = tt
 
 -- commands that are calm
 pub calm_both : (i j : ℕ) (xs ys : List Meant) → AreCalm i j xs → AreCalm i j ys → AreCalm i j (xs ++ ys)

@@ -30,9 +30,7 @@ begun_formed m section (HomeKind axis) turn last moving =
 
 told_formed : (m : Machine) (r : Known) (n : NoteNews) → IsFormed m r.homing → IsFormed m (known_behind m r n).homing
 told_formed m r (news.Start section kind turn last moving) h = begun_formed m section kind turn last moving
-told_formed m r (news.Done section turn) h = h
-told_formed m r (news.Read x sections) h = h
-told_formed m r (news.Line board line from) h = h
+told_formed m r c h = h
 
 all_formed : (m : Machine) (ns : List NoteNews) (r : Known) → IsFormed m r.homing → IsFormed m (told_all m ns r).homing
 all_formed m [] r h = h

@@ -105,9 +105,8 @@ group_either true b P x g k l = k
 group_either false b P x g k l = l
 
 group_in : (p : Phase) (b turn : ℕ) (P : Type 0) (g : GroupState) → GroupSo b P g → GroupSo b P (after_in p g turn)
-group_in (Sends round) b turn P g k = k
 group_in Goes b turn P g k = group_either (all_fired g.members) b P g _ k k
-group_in Rests b turn P g k = k
+group_in c b turn P g k = k
 
 -- the homing section that is known
 abbrev pub HomingSo : ℕ → List BoardTurn → Option Homing → Type 0
@@ -131,9 +130,7 @@ begun_so m b section (Home axis) turn last moving turns =
 
 told_so : (m : Machine) (b : ℕ) (turns : List BoardTurn) (r : Known) (n : NoteNews) → HomingSo b turns r.homing → HomingSo b turns (known_behind m r n).homing
 told_so m b turns r (news.Start section kind turn last moving) k = begun_so m b section kind turn last moving turns
-told_so m b turns r (news.Done section turn) k = k
-told_so m b turns r (news.Read x sections) k = k
-told_so m b turns r (news.Line board line from) k = k
+told_so m b turns r c k = k
 
 all_told_so : (m : Machine) (b : ℕ) (turns : List BoardTurn) (ns : List NoteNews) (r : Known) → HomingSo b turns r.homing → HomingSo b turns (told_all m ns r).homing
 all_told_so m b turns [] r k = k

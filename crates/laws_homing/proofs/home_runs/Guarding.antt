@@ -283,22 +283,7 @@ acts_next i j r (cmd.StepperStopOnTrigger oid other) behind = bind_next i j oid 
 acts_next i j r (cmd.ConfigEndstop oid pin pull) behind = endstop_next i j oid pin r (slice_index_or r.endstops oid None)
 acts_next i j r (cmd.EndstopHome oid clock sample count rest value other reason) behind =
     home_next i j other r (slice_index_or r.endstops oid None) (slot_at r other) (record { clock = clock; sample_ticks = sample; sample_count = count; rest_ticks = rest; pin_value = value; reason = reason }) refl
-acts_next i j r (cmd.Identify offset count) behind = board_next i j r (cmd.Identify offset count) behind
-acts_next i j r (cmd.IdentifyResponse offset bytes) behind = board_next i j r (cmd.IdentifyResponse offset bytes) behind
-acts_next i j r (cmd.AllocateOids count) behind = board_next i j r (cmd.AllocateOids count) behind
-acts_next i j r cmd.GetConfig behind = board_next i j r cmd.GetConfig behind
-acts_next i j r (cmd.FinalizeConfig crc) behind = board_next i j r (cmd.FinalizeConfig crc) behind
-acts_next i j r cmd.GetUptime behind = board_next i j r cmd.GetUptime behind
-acts_next i j r cmd.EmergencyStop behind = board_next i j r cmd.EmergencyStop behind
-acts_next i j r (cmd.ConfigStepper oid step dir invert width) behind = board_next i j r (cmd.ConfigStepper oid step dir invert width) behind
-acts_next i j r (cmd.QueueStep oid interval count add) behind = board_next i j r (cmd.QueueStep oid interval count add) behind
-acts_next i j r (cmd.SetNextStepDir oid dir) behind = board_next i j r (cmd.SetNextStepDir oid dir) behind
-acts_next i j r (cmd.ResetStepClock oid clock) behind = board_next i j r (cmd.ResetStepClock oid clock) behind
-acts_next i j r (cmd.Config given crc shut count) behind = board_next i j r (cmd.Config given crc shut count) behind
-acts_next i j r (cmd.Uptime high clock) behind = board_next i j r (cmd.Uptime high clock) behind
-acts_next i j r (cmd.TrsyncState oid can reason clock) behind = board_next i j r (cmd.TrsyncState oid can reason clock) behind
-acts_next i j r (cmd.Shutdown clock reason) behind = board_next i j r (cmd.Shutdown clock reason) behind
-acts_next i j r (cmd.IsShutdown reason) behind = board_next i j r (cmd.IsShutdown reason) behind
+acts_next i j r c behind = board_next i j r c behind
 
 running_next : (o : BoardState) (i j : ℕ) (r : Rig) (c : Cmd) → IsCalm i j c → Next i j r (acts_running o r c).rig
 running_next Running i j r c behind = acts_next i j r c behind

@@ -56,9 +56,7 @@ module _ (m : Machine) (switches : List Switch) (b start u : ℕ) (late : start 
 
   told_so : (r : Known) (n : NoteNews) → HeardSo r.homing → HeardSo (known_behind m r n).homing
   told_so r (news.Start section kind turn last moving) k = begun_so section kind turn last moving
-  told_so r (news.Done section turn) k = k
-  told_so r (news.Read x sections) k = k
-  told_so r (news.Line board line from) k = k
+  told_so r c k = k
 
   all_told_so : (ns : List NoteNews) (r : Known) → HeardSo r.homing → HeardSo (told_all m ns r).homing
   all_told_so [] r k = k

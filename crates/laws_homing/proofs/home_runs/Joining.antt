@@ -229,9 +229,7 @@ members_halt m switches pins entries b c before window late past h e s from more
 -- the members of a section stand in the order of their boards
 told_rises : (m : Machine) (r : Known) (n : NoteNews) → HomingRises r.homing → HomingRises (known_behind m r n).homing
 told_rises m r (news.Start section kind turn last moving) h = started-rises m section kind turn last moving
-told_rises m r (news.Done section turn) h = h
-told_rises m r (news.Read x sections) h = h
-told_rises m r (news.Line board line from) h = h
+told_rises m r c h = h
 
 all_rise : (m : Machine) (ns : List NoteNews) (r : Known) → HomingRises r.homing → HomingRises (told_all m ns r).homing
 all_rise m [] r h = h

@@ -35,9 +35,8 @@ stale_end None m switches r k states lines askings h =
     no_end turn.end m (after_homing r k states) k states lines (cut_line m switches turn.section (axis_at m turn.axis) turn.cut) askings turn h
 
 phase_end : (p : Phase) (m : Machine) (switches : List Switch) (r : Known) (k : ℕ) (states : List State) (lines : List ReportLine) → p ≡ Running → end_of (by_phase p m switches r k states lines) ≡ None → (homing_turn r.clocks k states r.homing).end ≡ None
-phase_end Connecting m switches r k states lines e h = cc
 phase_end Running m switches r k states lines e h = let askings = listen_all r.askings.items states in stale_end (stale k 0 askings) m switches r k states lines askings h
-phase_end (Stopping line) m switches r k states lines e h = cc
+phase_end c m switches r k states lines e h = cc
 
 ended_end : (o : Option Cause) (m : Machine) (switches : List Switch) (r : Known) (k : ℕ) (states : List State) (lines : List ReportLine) → r.phase ≡ Running → end_of (unless_ended o m switches r k states lines) ≡ None
     → (homing_turn r.clocks k states r.homing).end ≡ None
@@ -124,15 +123,11 @@ running_now m r k states x (inr (inr g)) n = g
 -- the note
 told_none : (m : Machine) (r : Known) (n : NoteNews) → BeginsNone (n ∷ []) → (known_behind m r n).homing ≡ r.homing
 told_none m r (news.Start section kind turn last moving) b = absurd b
-told_none m r (news.Done section turn) b = refl
-told_none m r (news.Read x sections) b = refl
-told_none m r (news.Line board line from) b = refl
+told_none m r c b = refl
 
 first_none : (n : NoteNews) (ns : List NoteNews) → BeginsNone (n ∷ ns) → BeginsNone (n ∷ []) × BeginsNone ns
 first_none (news.Start section kind turn last moving) ns b = absurd b
-first_none (news.Done section turn) ns b = (tt, b)
-first_none (news.Read x sections) ns b = (tt, b)
-first_none (news.Line board line from) ns b = (tt, b)
+first_none c ns b = (tt, b)
 
 pub all_none : (m : Machine) (ns : List NoteNews) (r : Known) → BeginsNone ns → (told_all m ns r).homing ≡ r.homing
 all_none m [] r b = refl

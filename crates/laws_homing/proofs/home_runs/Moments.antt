@@ -101,8 +101,6 @@ happened_says : (oid low until : ℕ) (pins : List (List Level)) (e : Happening)
     → Each (IsMoment (SaidThen oid low until pins (then_of s pins until e)))
     (trigger_answers oid (trig.happened (slice_index_or pins s.pin []) until e s.trigger).event)
 happened_says oid low until pins Nothing s next k = tt
-happened_says oid low until pins (Expires at) s next k = ((λ no. absurd (no refl)), tt)
-happened_says oid low until pins (Switches at) s next k = ((λ no. absurd (no refl)), tt)
 happened_says oid low until pins (Reports at) s next k = (
   λ able. (
       let can = bit_one s.trigger.can able in
@@ -117,6 +115,7 @@ happened_says oid low until pins (Reports at) s next k = (
       } in (at, (refl, from, next.1, now), clock_there s.trigger.can at s.trigger.tick can)),
   tt,
 )
+happened_says oid low until pins c s next k = ((λ no. absurd (no refl)), tt)
 
 -- all that is told is told at once
 abbrev next_of : Slot → List (List Level) → ℕ → Slot

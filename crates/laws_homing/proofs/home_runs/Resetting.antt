@@ -141,11 +141,7 @@ one_of m clocks b start axis ms c same r = by_what c.what refl
   where
     by_what : (what : Order) → c.what ≡ what → SetsOf (MovesAs m b ms) (order_command m clocks b start axis what)
     by_what (order.Reset s) e = (s, subst (λ (n : ℕ). Moves n s ms) same (r s e), refl)
-    by_what (order.Stop s) e = tt
-    by_what order.Start e = tt
-    by_what (order.Timeout turn) e = tt
-    by_what order.Home e = tt
-    by_what order.Trigger e = tt
+    by_what c e = tt
 
 ctl_of : (t : Bool) (m : Machine) (clocks : Clocks) (b start : ℕ) (axis : AxisDef) (ms : List Member) (c : Ctl) → (c.board == b) ≡ t → Resets_in ms c → AllSetOf (MovesAs m b ms) (cond t (order_command m clocks b start axis c.what ∷ []) [])
 ctl_of true m clocks b start axis ms c e r = (one_of m clocks b start axis ms c (eqb-true c.board b e) r, tt)

@@ -185,9 +185,7 @@ IsEventOf t (Some e) = e.state ≡ trig.state_at e.tick t
 
 happened_tells : (h : Happening) (levels : List Level) (until : ℕ) (t : Trigger) → IsEventOf (trig.happened levels until h t).trigger (trig.happened levels until h t).event
 happened_tells Nothing levels until t = tt
-happened_tells (Expires tick) levels until t = refl
-happened_tells (Switches tick) levels until t = refl
-happened_tells (Reports tick) levels until t = refl
+happened_tells c levels until t = refl
 
 advanced_tells : (o : Option ℕ) (levels : List Level) (until : ℕ) (t : Trigger) → IsEventOf (trig.tells o levels until t).trigger (trig.tells o levels until t).event
 advanced_tells None levels until t = happened_tells (trig.next_happening levels until t) levels until t

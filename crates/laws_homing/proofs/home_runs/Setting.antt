@@ -76,11 +76,10 @@ IsLate (Starts timeout) = ⊥
 IsLate round = Unit {0}
 
 to_later : (round : Round) (x : Seen) → IsLate round → AllLater (orders_to round x)
-to_later (Resets row) x a = absurd a
-to_later (Starts timeout) x a = absurd a
 to_later Homes x a = later_both (map (stop x) (drop 8 (steppers x))) (cond x.member.endstop (to_board x order.Home ∷ []) []) (stops_later x (drop 8 (steppers x))) (later_if x.member.endstop (to_board x order.Home ∷ []) (tt, tt))
 to_later (Timeouts turn) x a = (tt, tt)
 to_later Relays x a = fired_later x.fired (to_board x order.Trigger ∷ []) (tt, tt)
+to_later c x a = absurd a
 
 round_later : (round : Round) (xs : List Seen) → IsLate round → AllLater (round_of round xs)
 round_later round [] a = tt
@@ -123,11 +122,8 @@ by_later k h (Some (end.Expired b turn)) a = tt
 -- their commands
 later_calm : (i j : ℕ) (m : Machine) (clocks : Clocks) (b start : ℕ) (axis : AxisDef) (what : Order) → IsLater what → IsCalm i j (order_command m clocks b start axis what)
 later_calm i j m clocks b start axis (order.Reset s) a = absurd a
-later_calm i j m clocks b start axis (order.Stop s) a = tt
 later_calm i j m clocks b start axis order.Start a = absurd a
-later_calm i j m clocks b start axis (order.Timeout turn) a = tt
-later_calm i j m clocks b start axis order.Home a = tt
-later_calm i j m clocks b start axis order.Trigger a = tt
+later_calm i j m clocks b start axis c a = tt
 
 pub ctls_calm : (i j : ℕ) (m : Machine) (clocks : Clocks) (b start : ℕ) (axis : AxisDef) (ctls : List Ctl) → AllLater ctls → EachCalm i j (commands_to m clocks b start axis ctls)
 ctls_calm i j m clocks b start axis [] a = tt
@@ -233,9 +229,6 @@ IsIn s round x = ⊥
 
 one_binds : (m : Machine) (clocks : Clocks) (b start : ℕ) (axis : AxisDef) (round : Round) (x : Seen) (s : ℕ) → x.member.board ≡ b → IsIn s round x
     → Binds (stepper_at m s).oid (trigger_of m b) (commands_to m clocks b start axis (orders_to round x))
-one_binds m clocks b start axis (Resets row) x s same is = absurd is
-one_binds m clocks b start axis (Timeouts turn) x s same is = absurd is
-one_binds m clocks b start axis Relays x s same is = absurd is
 one_binds m clocks b start axis (Starts timeout) x s same is =
     let i = (stepper_at m s).oid in
     let j = trigger_of m b in
@@ -250,6 +243,7 @@ one_binds m clocks b start axis Homes x s same is =
     subst (λ (l : List Cmd). Binds i j l) (sym (commands_both m clocks b start axis stops end_of))
     (binds_front i j (commands_to m clocks b start axis stops) (commands_to m clocks b start axis end_of) (stops_bind m clocks b start axis x s (drop 8 (steppers x)) same is)
     (ctls_calm i j m clocks b start axis end_of (later_if x.member.endstop (to_board x order.Home ∷ []) (tt, tt))))
+one_binds m clocks b start axis c x s same is = absurd is
 
 -- a stepper of a board is in a round
 abbrev pub InRound : ℕ → ℕ → Round → List Seen → Type 0

@@ -242,8 +242,6 @@ acts_places b (cmd.ConfigStepper oid step dir invert width) = make_places b oid 
 acts_places b (cmd.QueueStep oid interval count add) = queue_places b oid (stepper_at b oid) (record { interval = interval; count = count; add = add })
 acts_places b (cmd.SetNextStepDir oid dir) = dir_places b oid (stepper_at b oid) dir
 acts_places b (cmd.ResetStepClock oid clock) = reset_places b oid (stepper_at b oid) clock
-acts_places b (cmd.AllocateOids count) = refl
-acts_places b (cmd.FinalizeConfig crc) = refl
 acts_places b c = refl
 
 running_places : (o : BoardState) (b : Controller) (c : Cmd) → AsMany b (board.acts_running o b c).board
@@ -398,14 +396,7 @@ staged_by : (i j : ℕ) (h : Core) (e : Event) → i < 256 → j < 256 → Stage
 staged_by i j h (event.Pass t) li lj k = subst (λ (ms : List Meant). StagedBy i j (commands_of ms) (passes h.board t).rig) (sym (append-nil h.taken)) (time_staged i j (commands_of h.taken) h.board t k)
 staged_by i j h event.Arrive li lj k = took_in i j h (takes_in h event.Arrive) li lj k
 staged_by i j h event.Repeat li lj k = took_in i j h (takes_in h event.Repeat) li lj k
-staged_by i j h (event.Put c) li lj k = none_in i j h k
-staged_by i j h (event.Control c) li lj k = none_in i j h k
-staged_by i j h event.Send li lj k = none_in i j h k
-staged_by i j h event.Resend li lj k = none_in i j h k
-staged_by i j h event.Lose li lj k = none_in i j h k
-staged_by i j h event.Garble li lj k = none_in i j h k
-staged_by i j h event.Reply li lj k = none_in i j h k
-staged_by i j h event.LoseReply li lj k = none_in i j h k
+staged_by i j h c li lj k = none_in i j h k
 
 pub staged_along : (i j : ℕ) (steps : List Step) (h : Core) → i < 256 → j < 256 → StagedIn i j h → StagedIn i j (run_world steps h)
 staged_along i j [] h li lj k = k
@@ -441,14 +432,7 @@ ran_event : (h : Core) (e : Event) → (after_event h e).board.controller.state 
 ran_event h (event.Pass t) runs = sym (passes_state h.board t) ∙ runs
 ran_event h event.Arrive runs = ran_before h.board (commands_of (takes_in h event.Arrive)) runs
 ran_event h event.Repeat runs = ran_before h.board (commands_of (takes_in h event.Repeat)) runs
-ran_event h (event.Put c) runs = runs
-ran_event h (event.Control c) runs = runs
-ran_event h event.Send runs = runs
-ran_event h event.Resend runs = runs
-ran_event h event.Lose runs = runs
-ran_event h event.Garble runs = runs
-ran_event h event.Reply runs = runs
-ran_event h event.LoseReply runs = runs
+ran_event h c runs = runs
 
 pub ran_steps : (steps : List Step) (h : Core) → (run_world steps h).board.controller.state ≡ Running → h.board.controller.state ≡ Running
 ran_steps [] h runs = runs

@@ -34,14 +34,7 @@ stay_by : (i : ℕ) (h : Core) (e : Event) → AllSetNot i (takes_in h e) → Is
 stay_by i h (event.Pass t) n is = (passes_next i 0 h.board t).keep true is
 stay_by i h event.Arrive n is = all_stay i h.board (takes_in h event.Arrive) n is
 stay_by i h event.Repeat n is = all_stay i h.board (takes_in h event.Repeat) n is
-stay_by i h (event.Put c) n is = is
-stay_by i h (event.Control c) n is = is
-stay_by i h event.Send n is = is
-stay_by i h event.Resend n is = is
-stay_by i h event.Lose n is = is
-stay_by i h event.Garble n is = is
-stay_by i h event.Reply n is = is
-stay_by i h event.LoseReply n is = is
+stay_by i h c n is = is
 
 pub steps_stay : (i : ℕ) (steps : List Step) (h : Core) → AllSetNot i (taken_more steps h).0 → IsIn true i h.board.controller → IsIn true i (run_world steps h).board.controller
 unfolding taken_more

@@ -151,10 +151,9 @@ took_none (Do e ∷ steps) h k = ap (λ (ms : List Meant). ms ++ took steps (aft
 took_none (Turn turn ∷ steps) h k = took_none steps (in_turn h turn) k.1
 
 replies_none : (fate : Fate) → AllOf TakesNone (comes Up fate)
-replies_none Lost = (λ h. refl, tt)
 replies_none Last = (λ h. refl, (λ h. refl, tt))
 replies_none Stays = (λ h. refl, (λ h. refl, (λ h. refl, tt)))
-replies_none Garbled = (λ h. refl, tt)
+replies_none c = (λ h. refl, tt)
 
 -- a turn: what the board does while it stands, and the rest, in which it takes nothing
 pub record TurnParts (l m : LinkState) : Type 0 where

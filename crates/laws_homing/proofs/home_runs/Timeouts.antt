@@ -92,12 +92,8 @@ timeout_to b turn = record { board = b; what = order.Timeout turn }
 order_sent : (m : Machine) (clocks : Clocks) (b start : ℕ) (axis : AxisDef) (what : Order) (P : ℕ → Type 0)
     → ((turn : ℕ) → what ≡ order.Timeout turn → P (turn_tick clocks turn))
     → IsSent (trigger_of m b) P (order_command m clocks b start axis what)
-order_sent m clocks b start axis (order.Reset i) P f = tt
-order_sent m clocks b start axis (order.Stop i) P f = tt
-order_sent m clocks b start axis order.Start P f = tt
 order_sent m clocks b start axis (order.Timeout turn) P f = λ e. (turn_tick clocks turn, f turn refl, refl)
-order_sent m clocks b start axis order.Home P f = tt
-order_sent m clocks b start axis order.Trigger P f = tt
+order_sent m clocks b start axis c P f = tt
 
 ctl_sent : (m : Machine) (clocks : Clocks) (b start : ℕ) (axis : AxisDef) (c : Ctl) (P : ℕ → Type 0) (here : Bool)
     → (c.board == b) ≡ here → ((turn : ℕ) → c ≡ timeout_to b turn → P (turn_tick clocks turn))

@@ -83,16 +83,13 @@ host_calm i j turn o resent calm =
     (tt, (both.0, (both.1, all_append P (resends resent) (sends 12) (all_resent P tt resent) (all_sent P tt 12))))
 
 down_calm : (i j : ℕ) (fate : Fate) → AllOf (BringsCalm i j) (comes Down fate)
-down_calm i j Lost = (tt, tt)
-down_calm i j Last = (tt, tt)
 down_calm i j Stays = (tt, (tt, tt))
-down_calm i j Garbled = (tt, tt)
+down_calm i j c = (tt, tt)
 
 up_calm : (i j : ℕ) (fate : Fate) → AllOf (BringsCalm i j) (comes Up fate)
-up_calm i j Lost = (tt, tt)
 up_calm i j Last = (tt, (tt, tt))
 up_calm i j Stays = (tt, (tt, (tt, tt)))
-up_calm i j Garbled = (tt, tt)
+up_calm i j c = (tt, tt)
 
 -- a turn
 record Turned (i j turn : ℕ) (l l2 l3 : LinkState) : Type 0 where

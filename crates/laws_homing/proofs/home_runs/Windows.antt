@@ -24,14 +24,7 @@ does_places : (h : Core) (e : Event) → length (does h e).board.triggers ≡ le
 does_places h (event.Pass t) = (passes_beside t h.board).1
 does_places h event.Arrive = all_places h.board (commands_of (takes_in h event.Arrive))
 does_places h event.Repeat = all_places h.board (commands_of (takes_in h event.Repeat))
-does_places h (event.Put c) = refl
-does_places h (event.Control c) = refl
-does_places h event.Send = refl
-does_places h event.Resend = refl
-does_places h event.Lose = refl
-does_places h event.Garble = refl
-does_places h event.Reply = refl
-does_places h event.LoseReply = refl
+does_places h c = refl
 
 run_places : (steps : List Step) (h : Core) → length (run_world steps h).board.triggers ≡ length h.board.triggers
 run_places [] h = refl

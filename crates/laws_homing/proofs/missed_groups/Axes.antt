@@ -84,9 +84,7 @@ begun_of m section (Home axis) turn last moving =
 
 told_of : (m : Machine) (r : Known) (n : NoteNews) → OfAxis m r.homing → OfAxis m (known_behind m r n).homing
 told_of m r (news.Start section kind turn last moving) k = begun_of m section kind turn last moving
-told_of m r (news.Done section turn) k = k
-told_of m r (news.Read x sections) k = k
-told_of m r (news.Line board line from) k = k
+told_of m r c k = k
 
 all_of : (m : Machine) (ns : List NoteNews) (r : Known) → OfAxis m r.homing → OfAxis m (told_all m ns r).homing
 all_of m [] r k = k

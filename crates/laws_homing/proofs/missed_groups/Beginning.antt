@@ -191,9 +191,7 @@ module _ (m : Machine) (clocks : Clocks) (b start : ℕ) (axis : AxisDef) (Q : T
   first_one (order.Stop i) r k (inr h) = inr (binds_minded (trigger_of m b) Q Never r (machine.stepper_at m i).oid h)
   first_one order.Start r k h = starts (trigger_of m b) Q r (low (turn_tick clocks start)) ((board_at m b).freq * 5 / 1_000) h
   first_one (order.Timeout turn) r k h = times (trigger_of m b) Q r (low (turn_tick clocks turn)) h
-  first_one order.Home r k h = absurd k
-  first_one (order.Reset i) r k h = absurd k
-  first_one order.Trigger r k h = absurd k
+  first_one c r k h = absurd k
 
   first_to : (here : Bool) (what : Order) (rest : List Cmd) (r : Rig) → IsFirst what → ((q : Rig) → BlankAt q → BlankAt (takes_all q rest).rig) → BlankAt r → BlankAt (takes_all r ((if here then order_command m clocks b start axis what ∷ [] else []) ++ rest)).rig
   first_to true what rest r k more h =

@@ -163,10 +163,7 @@ module _ (m : Machine) (clocks : Clocks) (b start : ℕ) (axis : AxisDef) (Q : T
   setting_stands order.Home r k st =
       let c = order_command m clocks b start axis order.Home in
       (ap (λ (xs : List (Option ℕ)). slice_index_or xs (endstop_of m b axis) None) (acts_ends r c tt) ∙ st.0, home_pins r (slice_index_or r.endstops (endstop_of m b axis) None) (slot_at r Oid) G ∙ st.1, acts_rig_tick r c ∙ st.2)
-  setting_stands (order.Reset i) r k st = absurd k
-  setting_stands order.Start r k st = absurd k
-  setting_stands (order.Timeout turn) r k st = absurd k
-  setting_stands order.Trigger r k st = absurd k
+  setting_stands c r k st = absurd k
 
   -- the reading is among some orders to the board
   abbrev HasReading : List Ctl → Type 0
@@ -183,10 +180,7 @@ module _ (m : Machine) (clocks : Clocks) (b start : ℕ) (axis : AxisDef) (Q : T
   is_home : (what : Order) → IsSetting what → (what ≡ order.Home) ⊎ ((what ≡ order.Home → ⊥) × ((U : ℕ → Type 0) (r : Rig) → AbleOf U r → AbleOf U (acts r (order_command m clocks b start axis what)).rig))
   is_home (order.Stop i) k = inr ((λ e. cc), λ U r h. binds U r (machine.stepper_at m i).oid h)
   is_home order.Home k = inl refl
-  is_home (order.Reset i) k = absurd k
-  is_home order.Start k = absurd k
-  is_home (order.Timeout turn) k = absurd k
-  is_home order.Trigger k = absurd k
+  is_home c k = absurd k
 
   setting_runs : (P : Rig → Type 0) (r : Rig) (what : Order) (rest : List Cmd) → (takes_all r (order_command m clocks b start axis what ∷ rest)).rig.controller.state ≡ Running → P (acts r (order_command m clocks b start axis what)).rig
       → P (takes r (order_command m clocks b start axis what)).rig

@@ -80,9 +80,8 @@ relay_of_if true g x = refl
 relay_of_if false g x = refl
 
 pub relay_after : (p : Phase) (g : GroupState) (turn k : ℕ) → (after_in p g turn).relay ≡ Some k → (g.relay ≡ Some k) ⊎ ((k ≡ turn) × (relay_begins g turn ≡ true))
-relay_after (Sends round) g turn k e = inl e
-relay_after Rests g turn k e = inl e
 relay_after Goes g turn k e = relay_goes (all_fired g.members) g turn k (sym (relay_of_if (all_fired g.members) g _) ∙ e)
+relay_after c g turn k e = inl e
 
 pub calm_meant : (i oid clock : ℕ) (ms : List Meant) → above (commands_of ms) ≤ i → AreSentBehind oid clock (commands_of ms) → AreCalm i oid ms
 calm_meant i oid clock [] less k = tt

@@ -14,16 +14,7 @@ use Rattle.laws_board.proofs.sections.Naming.{taken_more}
 -- while no time passes a board is as the commands that it takes make it
 held_one : (h : Core) (e : Event) → IsHeld e → (does h e).board ≡ (takes_all h.board (commands_of (takes_in h e))).rig
 held_one h (event.Pass t) k = absurd k
-held_one h (event.Put b) k = refl
-held_one h (event.Control c) k = refl
-held_one h event.Send k = refl
-held_one h event.Resend k = refl
-held_one h event.Arrive k = refl
-held_one h event.Lose k = refl
-held_one h event.Garble k = refl
-held_one h event.Repeat k = refl
-held_one h event.Reply k = refl
-held_one h event.LoseReply k = refl
+held_one h c k = refl
 
 held_board : (steps : List Step) (h : Core) → AllHold steps → (run_world steps h).board ≡ (takes_all h.board (commands_of (taken_more steps h).0)).rig
 unfolding taken_more
@@ -42,10 +33,9 @@ Replies (Do event.LoseReply) = Unit {0}
 Replies step = ⊥
 
 up_replies : (fate : Fate) → AllOf Replies (comes Up fate)
-up_replies Lost = (tt, tt)
 up_replies Last = (tt, (tt, tt))
 up_replies Stays = (tt, (tt, (tt, tt)))
-up_replies Garbled = (tt, tt)
+up_replies c = (tt, tt)
 
 replied : (steps : List Step) (h : Core) → AllOf Replies steps → ((run_world steps h).board ≡ h.board) × ((run_world steps h).taken ≡ h.taken)
 replied [] h k = (refl, refl)

@@ -29,12 +29,8 @@ each_so home [] k = tt
 each_so home (c ∷ cs) k = (inl k.0, each_so home cs k.1)
 
 order_is : (m : Machine) (b : ℕ) (own : Clocks) (start axis : ℕ) (o : Order) → Is (HomeOf m b own start axis) (order_command m own b start (axis_at m axis) o)
-order_is m b own start axis (order.Reset i) = inl tt
-order_is m b own start axis (order.Stop i) = inl tt
-order_is m b own start axis order.Start = inl tt
-order_is m b own start axis (order.Timeout turn) = inl tt
 order_is m b own start axis order.Home = inr refl
-order_is m b own start axis order.Trigger = inl tt
+order_is m b own start axis c = inl tt
 
 ctls_are : (m : Machine) (b : ℕ) (own : Clocks) (start axis : ℕ) (ctls : List Ctl) → Each (Is (HomeOf m b own start axis)) (commands_to m own b start (axis_at m axis) ctls)
 ctls_are m b own start axis [] = tt

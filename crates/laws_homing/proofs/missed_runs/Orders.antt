@@ -206,12 +206,10 @@ module _ (Z R : Type 0) (b : ℕ) where
   free_of c k = tt
 
   order_is : (m : Machine) (clocks : Clocks) (start : ℕ) (axis : AxisDef) (what : Order) → OrderOf what → IsOf Z R (order_command m clocks b start axis what)
-  order_is m clocks start axis (order.Reset s) a = tt
-  order_is m clocks start axis (order.Stop s) a = tt
   order_is m clocks start axis order.Start a = refl
-  order_is m clocks start axis (order.Timeout turn) a = tt
   order_is m clocks start axis order.Home a = (a, refl)
   order_is m clocks start axis order.Trigger a = a
+  order_is m clocks start axis c a = tt
 
   pub turn_is : (m : Machine) (switches : List Switch) (pins : List (List Level)) (entries : List Entry) (c : Came) (before : List Came) (t : BoardTurn) (turns : List BoardTurn) (h : Homing) → IsInRun m switches pins entries b (c ∷ before) (t ∷ turns)
       → ((known_by m switches before).phase ≡ Connecting → ⊥) → (noted m c.note (known_by m switches before)).homing ≡ Some h → (IsReader b (members_of h.group) → Z)

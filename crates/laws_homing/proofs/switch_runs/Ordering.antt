@@ -103,11 +103,8 @@ fitting_pinned E room (s ∷ ss) a = one (nat_le (command_bytes (setup_command s
     one false k = tt
 
 setup_fit : (E : ℕ → (ℕ → Type 0)) (F : ℕ → (ℕ → Type 0)) (pins : List (List Level)) (s : Setup) → Pinned E s → IsFitReading E F pins (setup_command s)
-setup_fit E F pins (Oids count) a = tt
-setup_fit E F pins (Stepper oid step dir) a = tt
-setup_fit E F pins (Trsync oid) a = tt
 setup_fit E F pins (Endstop oid pin) a = a
-setup_fit E F pins Finish a = tt
+setup_fit E F pins c a = tt
 
 setups_fit : (E : ℕ → (ℕ → Type 0)) (F : ℕ → (ℕ → Type 0)) (pins : List (List Level)) (ss : List Setup) → AllPinned E ss → Each (IsFitReading E F pins) (map setup_command ss)
 setups_fit E F pins [] a = tt
@@ -118,24 +115,20 @@ fit_if P true cs a = a
 fit_if P false cs a = tt
 
 asks_fit : (E : ℕ → (ℕ → Type 0)) (F : ℕ → (ℕ → Type 0)) (pins : List (List Level)) (setups : List Setup) (k : ℕ) (a : Asking) (stage : Stage) → AllPinned E setups → Each (IsFitReading E F pins) (asks setups k a stage)
-asks_fit E F pins setups k a (Identify offset) p = fit_if (IsFitReading E F pins) (is_question_due k a.since) (question (Identify offset)) (tt, tt)
-asks_fit E F pins setups k a Uptime p = fit_if (IsFitReading E F pins) (is_question_due k a.since) (question Uptime) (tt, tt)
 asks_fit E F pins setups k a (Configure n) p = setups_fit E F pins (fitting control_bytes (drop n setups)) (fitting_pinned E control_bytes (drop n setups) (dropped_pinned E n setups p))
-asks_fit E F pins setups k a Config p = fit_if (IsFitReading E F pins) (is_question_due k a.since) (question Config) (tt, tt)
 asks_fit E F pins setups k a Connected p = fit_if (IsFitReading E F pins) (is_question_due k a.since) (question Connected) tt
+asks_fit E F pins setups k a c p = fit_if (IsFitReading E F pins) (is_question_due k a.since) (question c) (tt, tt)
 
 -- what homing orders
 abbrev pub Reads : Machine → List (List Level) → ℕ → (ℕ → (ℕ → Type 0)) → Clocks → ℕ → AxisDef → Type 0
 Reads m pins b F own start axis = (now tick : ℕ) → IsComplete (slice_index_or pins axis.pin []) (readings m b axis (low (turn_tick own start))) now tick → F now tick
 
 order_fit : (m : Machine) (pins : List (List Level)) (b : ℕ) (F : ℕ → (ℕ → Type 0)) (own : Clocks) (start : ℕ) (axis : AxisDef) (o : Order) → Reads m pins b F own start axis → IsFitReading (IsEndstop m b) F pins (order_command m own b start axis o)
-order_fit m pins b F own start axis (order.Reset i) f = tt
-order_fit m pins b F own start axis (order.Stop i) f = tt
 order_fit m pins b F own start axis order.Start f = (omega arith, λ e. absurd (omega (arith, e)))
-order_fit m pins b F own start axis (order.Timeout turn) f = tt
 order_fit m pins b F own start axis order.Home f =
     (omega arith, λ e pin now tick at complete. f now tick (subst (λ (n : ℕ). IsComplete (slice_index_or pins n []) (readings m b axis (low (turn_tick own start))) now tick) (pin_of (trigger_of m b + 1) axis.pin pin (endstop_pins m b) at) complete))
 order_fit m pins b F own start axis order.Trigger f = (omega arith, λ e. absurd (omega (arith, e)))
+order_fit m pins b F own start axis c f = tt
 
 ctls_fit : (m : Machine) (pins : List (List Level)) (b : ℕ) (F : ℕ → (ℕ → Type 0)) (own : Clocks) (start : ℕ) (axis : AxisDef) (ctls : List Ctl) → Reads m pins b F own start axis
     → Each (IsFitReading (IsEndstop m b) F pins) (commands_to m own b start axis ctls)

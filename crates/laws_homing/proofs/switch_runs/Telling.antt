@@ -71,14 +71,7 @@ board_by : (E : ℕ → (ℕ → Type 0)) (F G : ℕ → Type 0) (pins : List (L
 board_by E F G pins h (event.Pass t) soon fit k = time_true E F G pins h.board t soon k
 board_by E F G pins h event.Arrive soon fit k = takes_true E F G (λ n. G) pins h.board (commands_of (takes_in h event.Arrive)) (λ x y. y) fit k
 board_by E F G pins h event.Repeat soon fit k = takes_true E F G (λ n. G) pins h.board (commands_of (takes_in h event.Repeat)) (λ x y. y) fit k
-board_by E F G pins h (event.Put b) soon fit k = (k, tt)
-board_by E F G pins h (event.Control c) soon fit k = (k, tt)
-board_by E F G pins h event.Send soon fit k = (k, tt)
-board_by E F G pins h event.Resend soon fit k = (k, tt)
-board_by E F G pins h event.Lose soon fit k = (k, tt)
-board_by E F G pins h event.Garble soon fit k = (k, tt)
-board_by E F G pins h event.Reply soon fit k = (k, tt)
-board_by E F G pins h event.LoseReply soon fit k = (k, tt)
+board_by E F G pins h c soon fit k = (k, tt)
 
 -- a link on which this goes well: the board's triggers are true, and what is queued and not taken is fit
 pub record Keeps (E : ℕ → (ℕ → Type 0)) (F G : ℕ → Type 0) (pins : List (List Level)) (h : Core) : Type 0 where
@@ -132,16 +125,13 @@ host_brings E F G pins turn o resent fit =
     (tt, ((both.0, tt), ((both.1, tt), all_append P (resends resent) (sends 12) (all_resent P (tt, tt) resent) (all_sent P (tt, tt) 12))))
 
 down_brings : (E : ℕ → (ℕ → Type 0)) (F G : ℕ → Type 0) (pins : List (List Level)) (fate : Fate) → AllOf (Brings E F G pins) (comes Down fate)
-down_brings E F G pins Lost = ((tt, tt), tt)
-down_brings E F G pins Last = ((tt, tt), tt)
 down_brings E F G pins Stays = ((tt, tt), ((tt, tt), tt))
-down_brings E F G pins Garbled = ((tt, tt), tt)
+down_brings E F G pins c = ((tt, tt), tt)
 
 up_brings : (E : ℕ → (ℕ → Type 0)) (F G : ℕ → Type 0) (pins : List (List Level)) (fate : Fate) → AllOf (Brings E F G pins) (comes Up fate)
-up_brings E F G pins Lost = ((tt, tt), tt)
 up_brings E F G pins Last = ((tt, tt), ((tt, tt), tt))
 up_brings E F G pins Stays = ((tt, tt), ((tt, tt), ((tt, tt), tt)))
-up_brings E F G pins Garbled = ((tt, tt), tt)
+up_brings E F G pins c = ((tt, tt), tt)
 
 -- what each step keeps, a turn keeps, up to its replies and behind them
 turn_parts : (E : ℕ → (ℕ → Type 0)) (F G : ℕ → Type 0) (pins : List (List Level)) (Q : Core → Type 0) → ((h : Core) (s : Step) → Brings E F G pins s → Q h → Q (world_after h s))

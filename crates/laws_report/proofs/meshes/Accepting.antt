@@ -115,8 +115,6 @@ goes_so w all tail deeds size stop told so last few =
     }
 
 told_so : (stop : ReadStop) (w : State) (all tail : List (List ℕ)) (deeds : List Deed) (size : ℕ) → AreTold stop w all deeds → IsTail tail → size ≤ most → IsReadSo stop (outcome size w 1 0 (all ++ tail)) all tail deeds
-told_so End w all tail deeds size told last few = goes_so w all tail deeds size End told refl last few
-told_so (Refused n kind) w all tail deeds size told last few = goes_so w all tail deeds size (Refused n kind) told refl last few
 told_so (Stop n) w all tail deeds size told last few =
     let e = told.0 size 0 0 tail few in
     let k : 0 + length all ≡ length all = omega arith in
@@ -126,6 +124,7 @@ told_so (Stop n) w all tail deeds size told last few =
       deeds_are = ap (λ (o : Outcome). o.deeds) e ∙ sym (append-nil deeds);
       end_is = ap end_of e ∙ ap (λ (i : ℕ). end_with i (Stop (0 + length all))) told.1 ∙ ap (λ (i : ℕ). end_with (length all) (Stop i)) k;
     }
+told_so c w all tail deeds size told last few = goes_so w all tail deeds size c told refl last few
 
 -- the code alone
 head_goes : (m : Machine) → accepted_state 0 (initial m) head_lines ≡ Ok (begun m)

@@ -125,9 +125,8 @@ command_does s names.M221 letters = e_does s letters
 command_does s names.M400 letters = record { top = refl; done = refl }
 
 word_does : (s : State) (word : Word) → Does s (applied s word)
-word_does s words.Blank = record { top = refl; done = refl }
-word_does s words.Passed = record { top = refl; done = refl }
 word_does s (words.Command name letters) = command_does s name letters
+word_does s c = record { top = refl; done = refl }
 
 from_kind : (s t : State) (a : Action) (r : Result (State × Action) StateFault) → Does s r → as_kind r ≡ Ok (t, a) → IsDeed s t a
 from_kind s t a (Ok next) h e = (let f : next.0 ≡ t = cc in let g : next.1 ≡ a = cc in subst (λ (b : Action). IsDeed s t b) g (subst (λ (u : State). IsDeed s u next.1) f h))

@@ -66,11 +66,10 @@ deed_on : (m : Machine) (s t : State) (action : Action) (rest : List Deed) → I
 deed_on m s t actions.None rest does h from dwell moves g = h from dwell moves (subst (λ (e : ℤ). Extrude from moves e) (sym does.done) g)
 deed_on m s t (actions.Move mv) rest does h from dwell moves g = h from dwell (moves ++ mv ∷ []) (goes_more from s.e_at t.e_at moves mv g does.done.from does.done.to)
 deed_on m s t (actions.Dwell ms) rest does h from dwell moves g = goes_closed from s.e_at dwell moves _ g (subst (λ (e : ℤ). ExtrudeThrough e (sections_of m (dwell_left dwell moves + ms) [] rest)) does.done (h t.e_at (dwell_left dwell moves + ms) [] refl))
-deed_on m s t actions.Wait rest does h from dwell moves g = goes_closed from s.e_at dwell moves _ g (subst (λ (e : ℤ). ExtrudeThrough e (sections_of m (dwell_left dwell moves) [] rest)) does.done (h t.e_at (dwell_left dwell moves) [] refl))
-deed_on m s t actions.Stop rest does h from dwell moves g = goes_closed from s.e_at dwell moves _ g (subst (λ (e : ℤ). ExtrudeThrough e (sections_of m (dwell_left dwell moves) [] rest)) does.done (h t.e_at (dwell_left dwell moves) [] refl))
 deed_on m s t (actions.Home axes) rest does h from dwell moves g =
     let behind = left_by_homes (dwell_left dwell moves) axes in
     goes_closed from s.e_at dwell moves _ g (homes_go m (coordinates_of s) s.acceleration (dwell_left dwell moves) axes (sections_of m behind [] rest) (subst (λ (e : ℤ). ExtrudeThrough e (sections_of m behind [] rest)) does.done.1 (h t.e_at behind [] refl)))
+deed_on m s t c rest does h from dwell moves g = goes_closed from s.e_at dwell moves _ g (subst (λ (e : ℤ). ExtrudeThrough e (sections_of m (dwell_left dwell moves) [] rest)) does.done (h t.e_at (dwell_left dwell moves) [] refl))
 
 -- the first deeds of an action and what follows
 action_on : (m : Machine) (number count : ℕ) (passed : Bool) (s t : State) (action : Action) (o : Outcome) → IsDeed s t action → ((n : ℕ) → AreOn m t.e_at (take n o.deeds)) → AreOn m s.e_at (take (suc count) (behind_action number passed s action o).deeds)
@@ -78,11 +77,7 @@ action_on m number count passed s t actions.Stop o does h = deed_on m s t action
   nothing : (n : ℕ) → AreOn m t.e_at (take n [])
   nothing zero = none_on m t.e_at
   nothing (suc n) = none_on m t.e_at
-action_on m number count passed s t actions.None o does h = deed_on m s t actions.None (take count o.deeds) does (h count)
-action_on m number count passed s t (actions.Move mv) o does h = deed_on m s t (actions.Move mv) (take count o.deeds) does (h count)
-action_on m number count passed s t (actions.Dwell ms) o does h = deed_on m s t (actions.Dwell ms) (take count o.deeds) does (h count)
-action_on m number count passed s t actions.Wait o does h = deed_on m s t actions.Wait (take count o.deeds) does (h count)
-action_on m number count passed s t (actions.Home axes) o does h = deed_on m s t (actions.Home axes) (take count o.deeds) does (h count)
+action_on m number count passed s t c o does h = deed_on m s t c (take count o.deeds) does (h count)
 
 outcome_on : (m : Machine) (size : ℕ) (s : State) (number start : ℕ) (lines : List (List ℕ)) (count : ℕ) → AreOn m s.e_at (take count (outcome size s number start lines).deeds)
 outcome_on m size s number start lines zero = none_on m s.e_at

@@ -136,16 +136,8 @@ action_told : (m : Machine) (t : Mesh) (s v w u : State) (start last number : �
     → (IsTied m v u (last_by last action) → Told m t (start + length (joined_lines (lines_by t last action))) u (last_by last action) (number + 1) rest o)
     → Told m t start w last number (behind_action number passed (joined_lines (lines_by t last action)) action rest) (readings.behind_action number passed s action o)
 action_told m t s v w u start last number passed actions.Stop rest o tie does h later = stop_told_last m t s w u start last number (one_if passed) h
-action_told m t s v w u start last number passed actions.None rest o tie does h later =
-    let is = action_written m t s v w u start last actions.None refl tie does h in front_told m t s v w u start last number (one_if passed) actions.None rest o h is (later is.tied)
-action_told m t s v w u start last number passed (actions.Move mv) rest o tie does h later =
-    let is = action_written m t s v w u start last (actions.Move mv) refl tie does h in front_told m t s v w u start last number (one_if passed) (actions.Move mv) rest o h is (later is.tied)
-action_told m t s v w u start last number passed (actions.Dwell ms) rest o tie does h later =
-    let is = action_written m t s v w u start last (actions.Dwell ms) refl tie does h in front_told m t s v w u start last number (one_if passed) (actions.Dwell ms) rest o h is (later is.tied)
-action_told m t s v w u start last number passed actions.Wait rest o tie does h later =
-    let is = action_written m t s v w u start last actions.Wait refl tie does h in front_told m t s v w u start last number (one_if passed) actions.Wait rest o h is (later is.tied)
-action_told m t s v w u start last number passed (actions.Home axes) rest o tie does h later =
-    let is = action_written m t s v w u start last (actions.Home axes) refl tie does h in front_told m t s v w u start last number (one_if passed) (actions.Home axes) rest o h is (later is.tied)
+action_told m t s v w u start last number passed c rest o tie does h later =
+    let is = action_written m t s v w u start last c refl tie does h in front_told m t s v w u start last number (one_if passed) c rest o h is (later is.tied)
 
 pub line_applied : (size start : ℕ) (s : State) (line : List ℕ) (next : State × Action) → line_result size start s line ≡ Ok next → applied_line s line ≡ Ok (next.0, next.1)
 unfolding line_result
@@ -158,11 +150,7 @@ line_applied size start s line next h = go (is_large size start line) (applied_l
 -- the first deed of an outcome
 some_deed : (number : ℕ) (passed : Bool) (s : State) (action : Action) (o : Outcome) → (behind : List Deed) × ((readings.behind_action number passed s action o).deeds ≡ deed_of s action ∷ behind)
 some_deed number passed s actions.Stop o = ([], refl)
-some_deed number passed s actions.None o = (o.deeds, refl)
-some_deed number passed s (actions.Move mv) o = (o.deeds, refl)
-some_deed number passed s (actions.Dwell ms) o = (o.deeds, refl)
-some_deed number passed s actions.Wait o = (o.deeds, refl)
-some_deed number passed s (actions.Home axes) o = (o.deeds, refl)
+some_deed number passed s c o = (o.deeds, refl)
 
 -- the lines for an action are refused
 refused_told : (m : Machine) (t : Mesh) (s w : State) (start last number : ℕ) (passed : Bool) (action : Action) (o : Outcome) (kind : LineKind) → w.acceleration ≡ last → accepted_state start w (lines_by t last action) ≡ Err kind

@@ -36,15 +36,7 @@ IsShort word = (list_all is_plain word ≡ true) × (length word ≤ 100)
 
 short_kind : (kind : LineKind) → IsShort (line_word kind)
 short_kind kinds.BadNumber = (refl, lit≤ tt)
-short_kind kinds.BadLetter = (refl, lit≤ tt)
-short_kind kinds.TooLongLine = (refl, lit≤ tt)
-short_kind kinds.Unsupported = (refl, lit≤ tt)
-short_kind kinds.TooLarge = (refl, lit≤ tt)
-short_kind kinds.OutOfRange = (refl, lit≤ tt)
-short_kind kinds.NotHomed = (refl, lit≤ tt)
-short_kind kinds.BadSpeed = (refl, lit≤ tt)
-short_kind kinds.MoveTooLong = (refl, lit≤ tt)
-short_kind kinds.TooMany = (refl, lit≤ tt)
+short_kind c = (refl, lit≤ tt)
 
 pub line_marked : (names : Machine) (line : ℕ) (kind : LineKind) → IsEnding (codes "; " ++ end_text names (cause.Line line kind))
 line_marked names line kind =

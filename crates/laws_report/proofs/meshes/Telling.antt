@@ -114,8 +114,6 @@ AreTold (Stop n) w lines deeds =
 AreTold other w lines deeds = (u : State) × AreRead w lines u deeds
 
 pub read_told : (stop : ReadStop) (w u : State) (a b : List (List ℕ)) (ds es : List Deed) → AreRead w a u ds → AreTold stop u b es → AreTold stop w (a ++ b) (ds ++ es)
-read_told End w u a b ds es one two = (two.0, both_read w u two.0 a b ds es one two.1)
-read_told (Refused n kind) w u a b ds es one two = (two.0, both_read w u two.0 a b ds es one two.1)
 read_told (Stop n) w u a b ds es one two = (
   (λ size number start more few. (
       let k : number + length a + length b ≡ number + length (a ++ b) = (let l = length-append a b in omega arith) in
@@ -125,6 +123,7 @@ read_told (Stop n) w u a b ds es one two = (
       ∙ ap (λ (i : ℕ). outcome_with (ds ++ es) (Stop i)) k)),
   (let x = one.count in let y = two.1 in let l = length-append ds es in let k = length-append a b in omega arith),
 )
+read_told c w u a b ds es one two = (two.0, both_read w u two.0 a b ds es one two.1)
 
 -- a line that asks for a stop
 pub stop_told : (n : ℕ) (w u : State) (line : List ℕ) → applied_line w line ≡ Ok (u, actions.Stop) → is_passed line ≡ false → AreTold (Stop n) w (line ∷ []) (deed_of w actions.Stop ∷ [])

@@ -37,17 +37,7 @@ told-more s (line.End ∷ xs) l = told-more s xs l
 
 told-one : (s : ℕ) (l : ReportLine) → told s (logged l ∷ []) ≡ (if is_pulse_of s l then 1 else 0)
 told-one s (report.Pulse board stepper tick up) = omega arith
-told-one s (report.Machine corexy boards steppers) = refl
-told-one s (report.Board board freq turn tick) = refl
-told-one s (report.Section i turn kind) = refl
-told-one s (report.Cut i board pin tick from) = refl
-told-one s (report.Drift board sent clock from) = refl
-told-one s (report.Lines accepted passed) = refl
-told-one s (report.Out board pin tick on) = refl
-told-one s (report.Fit section stepper made planned early late) = refl
-told-one s (report.Made seed moves) = refl
-told-one s (report.Count stepper made) = refl
-told-one s (report.End c) = refl
+told-one s c = refl
 
 -- they are those of the report's lines
 told-shown : (s : ℕ) (said : List ReportLine) → told s (log_of said) ≡ pulses_shown s said

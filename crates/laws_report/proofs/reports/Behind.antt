@@ -12,17 +12,7 @@ use Rattle.laws_report.proofs.reports.Followed.{Starts, lines_of, no_head, no_ma
 -- a line that begins no section begins none of a number
 no_begin : (i : ℕ) (l : ReportLine) → head_in l ≡ [] → begins i l ≡ false
 no_begin i (report.Section section turn kind) e = absurd (let f : report.Section section turn kind ∷ [] ≡ [] = e in cc)
-no_begin i (report.Pulse board stepper tick up) e = refl
-no_begin i (report.Machine corexy boards steppers) e = refl
-no_begin i (report.Board board freq turn tick) e = refl
-no_begin i (report.Cut section board pin tick from) e = refl
-no_begin i (report.Drift board sent clock from) e = refl
-no_begin i (report.Lines accepted passed) e = refl
-no_begin i (report.Out board pin tick on) e = refl
-no_begin i (report.Fit section stepper pulses planned early late) e = refl
-no_begin i (report.Made seed moves) e = refl
-no_begin i (report.Count stepper pulses) e = refl
-no_begin i (report.End cause) e = refl
+no_begin i c e = refl
 
 pub behind_past : (i : ℕ) (xs ls : List ReportLine) → heads_of xs ≡ [] → lines_behind i (xs ++ ls) ≡ lines_behind i ls
 behind_past i [] ls e = refl

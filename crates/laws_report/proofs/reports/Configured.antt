@@ -209,32 +209,21 @@ good-key section value (Some key) = good-value section key (judged key value) (g
 good-option : (section : Section) (name value : List ℕ) → IsGood (option_in section name value)
 good-option sections.Before name value = tt
 good-option sections.Unknown name value = tt
-good-option sections.Printer name value = good-key sections.Printer value (key_named sections.Printer name)
-good-option (sections.Board b) name value = good-key (sections.Board b) value (key_named (sections.Board b) name)
-good-option (sections.Simulated b) name value = good-key (sections.Simulated b) value (key_named (sections.Simulated b) name)
-good-option sections.Simulation name value = good-key sections.Simulation value (key_named sections.Simulation name)
-good-option (sections.Stepper m) name value = good-key (sections.Stepper m) value (key_named (sections.Stepper m) name)
-good-option sections.Fan name value = good-key sections.Fan value (key_named sections.Fan name)
+good-option c name value = good-key c value (key_named c name)
 
 good-opened : (section : Section) → IsGoodSection section → IsGood (opened section)
-good-opened sections.Before good = tt
-good-opened sections.Unknown good = tt
-good-opened sections.Printer good = tt
 good-opened (sections.Board b) good = good
-good-opened (sections.Simulated b) good = tt
-good-opened sections.Simulation good = tt
 good-opened (sections.Stepper m) good = good
-good-opened sections.Fan good = tt
+good-opened c good = tt
 
 good-meant : (place : Place) (s : ConfigurationLine) → IsGood (meant place s)
-good-meant place Nothing = tt
 good-meant place (Begins name) = good-opened (section_of name) (good-section name)
 good-meant place Continues = by place.lenient where
   by : (b : Bool) → IsGood (if b then Skipped else Wrong BadLine)
   by true = tt
   by false = tt
 good-meant place (Sets name value) = good-option place.section name value
-good-meant place Neither = tt
+good-meant place c = tt
 
 abbrev AreGood : List Item → Type 0
 AreGood [] = Unit {0}

@@ -14,46 +14,16 @@ use Rattle.laws_run.proofs.run_headline.Facts.{none_at}
 -- lines that begin no section
 pub no_head : (l : ReportLine) (ls : List ReportLine) → heads_of (l ∷ ls) ≡ [] → (head_in l ≡ []) × (heads_of ls ≡ [])
 no_head (report.Section section turn kind) ls e = absurd (let f : report.Section section turn kind ∷ heads_of ls ≡ [] = e in cc)
-no_head (report.Pulse board stepper tick up) ls e = (refl, e)
-no_head (report.Machine corexy boards steppers) ls e = (refl, e)
-no_head (report.Board board freq turn tick) ls e = (refl, e)
-no_head (report.Cut section board pin tick from) ls e = (refl, e)
-no_head (report.Drift board sent clock from) ls e = (refl, e)
-no_head (report.Lines accepted passed) ls e = (refl, e)
-no_head (report.Out board pin tick on) ls e = (refl, e)
-no_head (report.Fit section stepper pulses planned early late) ls e = (refl, e)
-no_head (report.Made seed moves) ls e = (refl, e)
-no_head (report.Count stepper pulses) ls e = (refl, e)
-no_head (report.End cause) ls e = (refl, e)
+no_head c ls e = (refl, e)
 
 -- one such line in front of others
 turn_one : (i : ℕ) (l : ReportLine) (ls : List ReportLine) → head_in l ≡ [] → section_turn i (l ∷ ls) ≡ section_turn i ls
 turn_one i (report.Section section turn kind) ls e = absurd (let f : report.Section section turn kind ∷ [] ≡ [] = e in cc)
-turn_one i (report.Pulse board stepper tick up) ls e = refl
-turn_one i (report.Machine corexy boards steppers) ls e = refl
-turn_one i (report.Board board freq turn tick) ls e = refl
-turn_one i (report.Cut section board pin tick from) ls e = refl
-turn_one i (report.Drift board sent clock from) ls e = refl
-turn_one i (report.Lines accepted passed) ls e = refl
-turn_one i (report.Out board pin tick on) ls e = refl
-turn_one i (report.Fit section stepper pulses planned early late) ls e = refl
-turn_one i (report.Made seed moves) ls e = refl
-turn_one i (report.Count stepper pulses) ls e = refl
-turn_one i (report.End cause) ls e = refl
+turn_one i c ls e = refl
 
 in_one : (i s : ℕ) (l : ReportLine) (ls : List ReportLine) → head_in l ≡ [] → pulses_in i s (l ∷ ls) ≡ pulses_in i s ls
 in_one i s (report.Section section turn kind) ls e = absurd (let f : report.Section section turn kind ∷ [] ≡ [] = e in cc)
-in_one i s (report.Pulse board stepper tick up) ls e = refl
-in_one i s (report.Machine corexy boards steppers) ls e = refl
-in_one i s (report.Board board freq turn tick) ls e = refl
-in_one i s (report.Cut section board pin tick from) ls e = refl
-in_one i s (report.Drift board sent clock from) ls e = refl
-in_one i s (report.Lines accepted passed) ls e = refl
-in_one i s (report.Out board pin tick on) ls e = refl
-in_one i s (report.Fit section stepper pulses planned early late) ls e = refl
-in_one i s (report.Made seed moves) ls e = refl
-in_one i s (report.Count stepper pulses) ls e = refl
-in_one i s (report.End cause) ls e = refl
+in_one i s c ls e = refl
 
 own_pulse : (s stepper tick : ℕ) (up b : Bool) (ps : List Pulse) → (stepper == s) ≡ b
     → (let here : Pulse = record { tick = tick; stepper = stepper; up = up } in if b then here ∷ ps else ps) ≡ (if b then record { tick = tick; stepper = s; up = up } ∷ [] else []) ++ ps
@@ -63,16 +33,7 @@ own_pulse s stepper tick up false ps e = refl
 before_one : (s : ℕ) (l : ReportLine) (ls : List ReportLine) → head_in l ≡ [] → pulses_before s (l ∷ ls) ≡ pulse_in s l ++ pulses_before s ls
 before_one s (report.Section section turn kind) ls e = absurd (let f : report.Section section turn kind ∷ [] ≡ [] = e in cc)
 before_one s (report.Pulse board stepper tick up) ls e = own_pulse s stepper tick up (stepper == s) (pulses_before s ls) refl
-before_one s (report.Machine corexy boards steppers) ls e = refl
-before_one s (report.Board board freq turn tick) ls e = refl
-before_one s (report.Cut section board pin tick from) ls e = refl
-before_one s (report.Drift board sent clock from) ls e = refl
-before_one s (report.Lines accepted passed) ls e = refl
-before_one s (report.Out board pin tick on) ls e = refl
-before_one s (report.Fit section stepper pulses planned early late) ls e = refl
-before_one s (report.Made seed moves) ls e = refl
-before_one s (report.Count stepper pulses) ls e = refl
-before_one s (report.End cause) ls e = refl
+before_one s c ls e = refl
 
 -- and some
 turn_past : (i : ℕ) (xs ls : List ReportLine) → heads_of xs ≡ [] → section_turn i (xs ++ ls) ≡ section_turn i ls

@@ -225,11 +225,7 @@ is_pulse m (report.Section i turn kind) lines s tick up told e = absurd (let f :
 is_pulse m (report.Cut i board pin at from) lines s tick up told e = absurd (let f : line.Cut i ≡ line.Pulse s tick up = e in cc)
 is_pulse m (report.Drift board sent clock from) lines s tick up told e = absurd (let f : line.Line board sent clock from ≡ line.Pulse s tick up = e in cc)
 is_pulse m (report.Lines accepted passed) lines s tick up told e = absurd (let f : line.Note ≡ line.Pulse s tick up = e in cc)
-is_pulse m (report.Out board pin at on) lines s tick up told e = absurd told.0
-is_pulse m (report.Made seed many) lines s tick up told e = absurd told.0
-is_pulse m (report.Count stepper many) lines s tick up told e = absurd told.0
-is_pulse m (report.Fit section stepper many planned early late) lines s tick up told e = absurd told.0
-is_pulse m (report.End c) lines s tick up told e = absurd told.0
+is_pulse m c lines s tick up told e = absurd told.0
 
 later_none : (xs ys : List Pulse) → xs ++ ys ≡ [] → ys ≡ []
 later_none [] ys e = e

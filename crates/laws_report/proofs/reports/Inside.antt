@@ -29,17 +29,7 @@ use Rattle.laws_run.proofs.run_headline.Facts.{none_at}
 -- a line that begins no section, before others
 before_step : (l : ReportLine) (ls : List ReportLine) → head_in l ≡ [] → lines_before (l ∷ ls) ≡ l ∷ lines_before ls
 before_step (report.Section section turn kind) ls e = absurd (let f : report.Section section turn kind ∷ [] ≡ [] = e in cc)
-before_step (report.Pulse board stepper tick up) ls e = refl
-before_step (report.Machine corexy boards steppers) ls e = refl
-before_step (report.Board board freq turn tick) ls e = refl
-before_step (report.Cut section board pin tick from) ls e = refl
-before_step (report.Drift board sent clock from) ls e = refl
-before_step (report.Lines accepted passed) ls e = refl
-before_step (report.Out board pin tick on) ls e = refl
-before_step (report.Fit section stepper pulses planned early late) ls e = refl
-before_step (report.Made seed moves) ls e = refl
-before_step (report.Count stepper pulses) ls e = refl
-before_step (report.End cause) ls e = refl
+before_step c ls e = refl
 
 upto_past : (xs ls : List ReportLine) → heads_of xs ≡ [] → lines_before (xs ++ ls) ≡ xs ++ lines_before ls
 upto_past [] ls e = refl

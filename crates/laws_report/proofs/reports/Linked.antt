@@ -319,8 +319,7 @@ first_counts a p rest (report.End c ∷ lines) e = first_counts a p rest lines e
 
 ends_as : (s : ReadStop) → text_end s ≡ cause_of s
 ends_as read.End = refl
-ends_as (read.Stop line) = refl
-ends_as (read.Refused line kind) = refl
+ends_as c = refl
 
 -- a run that went through was written whole
 through_whole : (c : Cause) → GoesThrough c → (c ≡ cause.Memory → ⊥) × (c ≡ cause.WriteFault → ⊥)

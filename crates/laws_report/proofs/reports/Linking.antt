@@ -19,8 +19,7 @@ written-whole c g = absurd g
 -- the line at which the reading of a text stopped has a number of 64 bits
 cause-small : (m : Machine) (stop : ReadStop) → stop_line stop ≤ 1 + 1_073_741_824 → IsCauseOn m (cause_of stop)
 cause-small m read.End few = tt
-cause-small m (read.Stop line) few = omega (arith, few)
-cause-small m (read.Refused line kind) few = omega (arith, few)
+cause-small m c few = omega (arith, few)
 
 pub text-cause : (m : Machine) (text : List ℕ) (c : Cause) → c ≡ cause_of (program_end m text).stop → IsCauseOn m c
 text-cause m text c is = subst (λ (x : Cause). IsCauseOn m x) (sym is) (cause-small m (program_end m text).stop (read_few m text).stop)

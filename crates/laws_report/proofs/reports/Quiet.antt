@@ -72,8 +72,7 @@ connecting None m r k lines askings none =
 
 finishing : (s : ReadStop) (m : Machine) (r : Known) (k : ℕ) (lines : List ReportLine) (askings : List Asking) (turn : HomingTurn) → NoneDrifts lines → Plain (finishes s m r k lines askings turn)
 finishing (read.Stop line) m r k lines askings turn none = none
-finishing read.End m r k lines askings turn none = drifts_both lines (count_lines r.reading) none (count_none r.reading)
-finishing (read.Refused line kind) m r k lines askings turn none = drifts_both lines (count_lines r.reading) none (count_none r.reading)
+finishing c m r k lines askings turn none = drifts_both lines (count_lines r.reading) none (count_none r.reading)
 
 homing : (o : Option Cause) (m : Machine) (r : Known) (k : ℕ) (states : List State) (lines cut : List ReportLine) (askings : List Asking) (turn : HomingTurn) → NoneDrifts lines → NoneDrifts cut → Plain (unless_homing_ends o m r k states lines cut askings turn)
 homing (Some cause) m r k states lines cut askings turn none more = none

@@ -17,17 +17,7 @@ use Rattle.laws_report.proofs.reports.Wording.{line-back, lines-back}
 -- each line has words
 some-words : (m : Machine) (l : ReportLine) → is_none_left (words_said m l) ≡ false
 some-words m (report.Machine corexy boards steppers) = refl
-some-words m (report.Board board freq turn tick) = refl
-some-words m (report.Section i turn kind) = refl
-some-words m (report.Pulse board stepper tick up) = refl
-some-words m (report.Cut i board pin tick from) = refl
-some-words m (report.Drift board sent clock from) = refl
-some-words m (report.Lines accepted passed) = refl
-some-words m (report.Out board pin tick on) = refl
-some-words m (report.Made seed moves) = refl
-some-words m (report.Count stepper pulses) = refl
-some-words m (report.Fit section stepper pulses planned early late) = refl
-some-words m (report.End c) = refl
+some-words m c = refl
 
 -- a line with words before others
 with-words : (n : ℕ) (line : Text) (words : List Text) (lines : List Text) → line_words 35 line ≡ words → is_none_left words ≡ false → worded_lines 35 n (line ∷ lines) ≡ (n, words) ∷ worded_lines 35 (n + 1) lines

@@ -83,13 +83,10 @@ IsInner i (line.Line b turn tick from) = Unit {0}
 IsInner i _ = ⊥
 
 inner-unbegun : (i : ℕ) (l : LogLine) (before : List LogLine) → IsInner i l → Unbegun before → Unbegun (l ∷ before)
-inner-unbegun i line.Note before inner un = un
-inner-unbegun i (line.Pulse s tick up) before inner un = un
 inner-unbegun i (line.Section j turn kind) before inner un = absurd inner
 inner-unbegun i (line.Board b turn tick) before inner un = absurd inner
-inner-unbegun i (line.Line b turn tick from) before inner un = un
-inner-unbegun i (line.Cut j) before inner un = un
 inner-unbegun i line.End before inner un = absurd inner
+inner-unbegun i c before inner un = un
 
 unbegun-append : (xs ys : List LogLine) → Unbegun xs → Unbegun ys → Unbegun (xs ++ ys)
 unbegun-append [] ys un and = and
@@ -104,17 +101,11 @@ unbegun-append (line.End ∷ xs) ys un and = unbegun-append xs ys un and
 -- the first line of those behind a section's, and the others
 first-inner : (i : ℕ) (l : ReportLine) (lines : List ReportLine) → AreInSection i (l ∷ lines) → IsInner i (logged l) × AreInSection i lines
 first-inner i (report.Machine corexy boards steppers) lines are = (tt, are)
-first-inner i (report.Board board freq turn tick) lines are = absurd are
-first-inner i (report.Section j turn kind) lines are = absurd are
 first-inner i (report.Pulse board stepper tick up) lines are = (tt, are)
 first-inner i (report.Cut j board pin tick from) lines are = are
 first-inner i (report.Drift board sent clock from) lines are = (tt, are)
 first-inner i (report.Lines accepted passed) lines are = (tt, are)
-first-inner i (report.Out board pin tick on) lines are = absurd are
-first-inner i (report.Made seed moves) lines are = absurd are
-first-inner i (report.Count stepper pulses) lines are = absurd are
-first-inner i (report.Fit section stepper pulses planned early late) lines are = absurd are
-first-inner i (report.End c) lines are = absurd are
+first-inner i c lines are = absurd are
 
 pulses-unbegun : (i : ℕ) (lines : List ReportLine) → AreInSection i lines → Unbegun (in_order (map logged lines))
 pulses-unbegun i [] are = tt
@@ -139,8 +130,6 @@ step-pulses s i l lines before are =
 -- whether one of the lines is a cut line, one line more
 step-cut : (l : ReportLine) (lines : List ReportLine) (before : List LogLine) (i : ℕ) → AreInSection i (l ∷ lines) → (if has_cut lines then true else is_cut (logged l ∷ before)) ≡ (if has_cut (l ∷ lines) then true else is_cut before)
 step-cut (report.Machine corexy boards steppers) lines before i are = refl
-step-cut (report.Board board freq turn tick) lines before i are = absurd are
-step-cut (report.Section j turn kind) lines before i are = absurd are
 step-cut (report.Pulse board stepper tick up) lines before i are = refl
 step-cut (report.Cut j board pin tick from) lines before i are = by (has_cut lines)
   where
@@ -149,25 +138,11 @@ step-cut (report.Cut j board pin tick from) lines before i are = by (has_cut lin
     by false = refl
 step-cut (report.Drift board sent clock from) lines before i are = refl
 step-cut (report.Lines accepted passed) lines before i are = refl
-step-cut (report.Out board pin tick on) lines before i are = absurd are
-step-cut (report.Made seed moves) lines before i are = absurd are
-step-cut (report.Count stepper pulses) lines before i are = absurd are
-step-cut (report.Fit section stepper pulses planned early late) lines before i are = absurd are
-step-cut (report.End c) lines before i are = absurd are
+step-cut c lines before i are = absurd are
 
 cut-later : (l : ReportLine) (lines : List ReportLine) → has_cut lines ≡ true → has_cut (l ∷ lines) ≡ true
 cut-later (report.Cut i board pin tick from) lines e = refl
-cut-later (report.Machine corexy boards steppers) lines e = e
-cut-later (report.Board board freq turn tick) lines e = e
-cut-later (report.Section i turn kind) lines e = e
-cut-later (report.Pulse board stepper tick up) lines e = e
-cut-later (report.Drift board sent clock from) lines e = e
-cut-later (report.Lines accepted passed) lines e = e
-cut-later (report.Out board pin tick on) lines e = e
-cut-later (report.Made seed moves) lines e = e
-cut-later (report.Count stepper pulses) lines e = e
-cut-later (report.Fit section stepper pulses planned early late) lines e = e
-cut-later (report.End c) lines e = e
+cut-later c lines e = e
 
 -- the first of some pulses that fit
 fits-front : (freq before : ℕ) (xs ys : List Pulse) (plan : List Planned) → Fits freq before (xs ++ ys) plan → Fits freq before xs plan
@@ -184,13 +159,10 @@ record IsOpen (m : Machine) (sections : List Section) (fs : List Further) (lines
   moves_are : (section_at sections i).moves ≡ moves
 
 open-more : (m : Machine) (sections : List Section) (fs : List Further) (lines : List Clocks) (i turn : ℕ) (moves : List Move) (before : List LogLine) (l : LogLine) → IsInner i l → IsOpen m sections fs lines i turn moves before → IsOpen m sections fs lines i turn moves (l ∷ before)
-open-more m sections fs lines i turn moves before line.Note inner o = record { going = o.going; begun_is = o.begun_is; start_is = o.start_is; lines_are = o.lines_are; moves_are = o.moves_are }
-open-more m sections fs lines i turn moves before (line.Pulse s tick up) inner o = record { going = o.going; begun_is = o.begun_is; start_is = o.start_is; lines_are = o.lines_are; moves_are = o.moves_are }
 open-more m sections fs lines i turn moves before (line.Section j t kind) inner o = absurd inner
 open-more m sections fs lines i turn moves before (line.Board b t tick) inner o = absurd inner
-open-more m sections fs lines i turn moves before (line.Line b t tick from) inner o = record { going = o.going; begun_is = o.begun_is; start_is = o.start_is; lines_are = o.lines_are; moves_are = o.moves_are }
-open-more m sections fs lines i turn moves before (line.Cut j) inner o = record { going = o.going; begun_is = o.begun_is; start_is = o.start_is; lines_are = o.lines_are; moves_are = o.moves_are }
 open-more m sections fs lines i turn moves before line.End inner o = absurd inner
+open-more m sections fs lines i turn moves before c inner o = record { going = o.going; begun_is = o.begun_is; start_is = o.start_is; lines_are = o.lines_are; moves_are = o.moves_are }
 
 -- its plan
 plan-open : (m : Machine) (sections : List Section) (fs : List Further) (lines : List Clocks) (i turn : ℕ) (moves : List Move) (before : List LogLine) (s : ℕ) → IsOpen m sections fs lines i turn moves before → s < length m.steppers → plan_at m sections fs before s ≡ stepper_plan m lines moves turn s
@@ -218,18 +190,8 @@ HasStepper m (line.Pulse s tick up) = s < length m.steppers
 HasStepper m _ = Unit {0}
 
 has-stepper : (m : Machine) (l : ReportLine) → IsOfRun m l → HasStepper m (logged l)
-has-stepper m (report.Machine corexy boards steppers) of = tt
-has-stepper m (report.Board board freq turn tick) of = tt
-has-stepper m (report.Section i turn kind) of = tt
 has-stepper m (report.Pulse board stepper tick up) of = of.0
-has-stepper m (report.Cut i board pin tick from) of = tt
-has-stepper m (report.Drift board sent clock from) of = tt
-has-stepper m (report.Lines accepted passed) of = tt
-has-stepper m (report.Out board pin tick on) of = tt
-has-stepper m (report.Made seed moves) of = tt
-has-stepper m (report.Count stepper pulses) of = tt
-has-stepper m (report.Fit section stepper pulses planned early late) of = tt
-has-stepper m (report.End c) of = tt
+has-stepper m c of = tt
 
 -- a cut line of the section that is open fits where this homes
 may-be-cut : (sections : List Section) (now i j : ℕ) → now ≡ suc i → j ≡ i → is_home (section_at sections i).kind ≡ true → may_cut sections now j ≡ true
@@ -250,26 +212,14 @@ inner-none : (m : Machine) (sections : List Section) (fs : List Further) (i : �
     → ((s : ℕ) → s < length m.steppers → FitsHere m sections fs (l ∷ before) s) → fault_at m sections (point m sections fs before) l ≡ None
 inner-none m sections fs i before line.Note stand inner going begins homes there fits = open-only m sections fs before line.Note going refl
 inner-none m sections fs i before (line.Pulse s tick up) stand inner going begins homes there fits = open-only m sections fs before (line.Pulse s tick up) going (pulse-none m sections fs before s tick up there (fits s there))
-inner-none m sections fs i before (line.Section j turn kind) stand inner going begins homes there fits = absurd inner
-inner-none m sections fs i before (line.Board b turn tick) stand inner going begins homes there fits = absurd inner
 inner-none m sections fs i before (line.Line b turn tick from) stand inner going begins homes there fits = further-none m sections fs before b turn tick from going stand
 inner-none m sections fs i before (line.Cut j) stand inner going begins homes there fits =
     open-only m sections fs before (line.Cut j) going (none-if (may_cut sections (begun before) j) (may-be-cut sections (begun before) i j begins inner (homes refl)))
-inner-none m sections fs i before line.End stand inner going begins homes there fits = absurd inner
+inner-none m sections fs i before c stand inner going begins homes there fits = absurd inner
 
 line-cuts : (l : ReportLine) (lines : List ReportLine) → cuts (logged l) ≡ true → has_cut (l ∷ lines) ≡ true
 line-cuts (report.Cut i board pin tick from) lines e = refl
-line-cuts (report.Machine corexy boards steppers) lines e = cc
-line-cuts (report.Board board freq turn tick) lines e = cc
-line-cuts (report.Section i turn kind) lines e = cc
-line-cuts (report.Pulse board stepper tick up) lines e = cc
-line-cuts (report.Drift board sent clock from) lines e = cc
-line-cuts (report.Lines accepted passed) lines e = cc
-line-cuts (report.Out board pin tick on) lines e = cc
-line-cuts (report.Made seed moves) lines e = cc
-line-cuts (report.Count stepper pulses) lines e = cc
-line-cuts (report.Fit section stepper pulses planned early late) lines e = cc
-line-cuts (report.End c) lines e = cc
+line-cuts c lines e = cc
 
 -- behind the lines of a section: each fits, the section is open, and these are its pulses
 record AreTold (m : Machine) (sections : List Section) (fs : List Further) (lines : List Clocks) (i turn : ℕ) (moves : List Move) (before behind : List LogLine) (block : List ReportLine) : Type 0 where

@@ -43,40 +43,14 @@ section-spelled i turn (Home axis) = refl
 
 end-spelled : (m : Machine) (c : Cause) → end_text m c ≡ spaced (codes "end" ∷ end_words m c) (10 ∷ [])
 end-spelled m cause.Done = refl
-end-spelled m cause.Memory = refl
-end-spelled m cause.Usage = refl
-end-spelled m cause.ReadFault = refl
-end-spelled m cause.WriteFault = refl
-end-spelled m (cause.Config line kind) = refl
-end-spelled m (cause.Scene line kind) = refl
-end-spelled m (cause.Line line kind) = refl
-end-spelled m (cause.Late board first arrival spoiled spill) = refl
-end-spelled m (cause.Asked line) = refl
-end-spelled m (cause.NoSwitch section) = refl
-end-spelled m (cause.Expired board turn) = refl
-end-spelled m (cause.Connect board turn) = refl
-end-spelled m (cause.Stale board turn) = refl
-end-spelled m (cause.Trace line kind) = refl
-end-spelled m cause.NoBoard = refl
-end-spelled m (cause.Mesh line kind) = refl
-end-spelled m cause.NoFan = refl
-end-spelled m (cause.Misfit line kind) = refl
+end-spelled m c = refl
 
 pub line-spelled : (m : Machine) (l : ReportLine) → line_text m l ≡ spaced (words_said m l) (10 ∷ [])
-line-spelled m (report.Machine corexy boards steppers) = refl
-line-spelled m (report.Board board freq turn tick) = refl
 line-spelled m (report.Section i turn kind) = section-spelled i turn kind
 line-spelled m (report.Pulse board stepper tick true) = refl
-line-spelled m (report.Pulse board stepper tick false) = refl
-line-spelled m (report.Cut i board pin tick from) = refl
-line-spelled m (report.Drift board sent clock from) = refl
-line-spelled m (report.Lines accepted passed) = refl
 line-spelled m (report.Out board pin tick true) = refl
-line-spelled m (report.Out board pin tick false) = refl
-line-spelled m (report.Made seed moves) = refl
-line-spelled m (report.Count stepper pulses) = refl
-line-spelled m (report.Fit section stepper pulses planned early late) = refl
 line-spelled m (report.End c) = end-spelled m c
+line-spelled m c = refl
 
 -- they are words
 
@@ -108,59 +82,29 @@ sign-word false = refl
 
 cfg-word : (kind : CfgKind) → is_word (cfg_word kind) ≡ true
 cfg-word cfg.BadLine = refl
-cfg-word cfg.Missing = refl
-cfg-word cfg.BadValue = refl
-cfg-word cfg.OutOfLimit = refl
-cfg-word cfg.UnknownBoard = refl
-cfg-word cfg.Twice = refl
-cfg-word cfg.TooLarge = refl
+cfg-word c = refl
 
 scene-word : (kind : SceneKind) → is_word (scene_word kind) ≡ true
 scene-word scene.BadLine = refl
-scene-word scene.UnknownBoard = refl
-scene-word scene.NotRising = refl
-scene-word scene.TooMany = refl
-scene-word scene.TooLarge = refl
+scene-word c = refl
 
 trace-word : (kind : TraceKind) → is_word (trace_word kind) ≡ true
 trace-word trace.BadLine = refl
-trace-word trace.NotRising = refl
-trace-word trace.TooLarge = refl
+trace-word c = refl
 
 mesh-word : (kind : MeshKind) → is_word (mesh_word kind) ≡ true
 mesh-word mesh.BadLine = refl
-mesh-word mesh.OutOfLimit = refl
-mesh-word mesh.Missing = refl
-mesh-word mesh.TooLarge = refl
+mesh-word c = refl
 
 misfit-word : (kind : MisfitKind) → is_word (misfit_word kind) ≡ true
 misfit-word misfit.BadLine = refl
-misfit-word misfit.Unknown = refl
-misfit-word misfit.Section = refl
-misfit-word misfit.Direction = refl
-misfit-word misfit.Early = refl
-misfit-word misfit.Late = refl
-misfit-word misfit.Extra = refl
-misfit-word misfit.Missing = refl
+misfit-word c = refl
 
 fault-word : (kind : LineKind) → is_word (line_word kind) ≡ true
 fault-word fault.BadNumber = refl
-fault-word fault.BadLetter = refl
-fault-word fault.TooLongLine = refl
-fault-word fault.Unsupported = refl
-fault-word fault.TooLarge = refl
-fault-word fault.OutOfRange = refl
-fault-word fault.NotHomed = refl
-fault-word fault.BadSpeed = refl
-fault-word fault.MoveTooLong = refl
-fault-word fault.TooMany = refl
+fault-word c = refl
 
 end-are-words : (m : Machine) (c : Cause) → HasNames m → IsCauseOn m c → AreWords (end_words m c)
-end-are-words m cause.Done names on = (refl, (refl, tt))
-end-are-words m cause.Memory names on = (refl, (refl, tt))
-end-are-words m cause.Usage names on = (refl, (refl, tt))
-end-are-words m cause.ReadFault names on = (refl, (refl, tt))
-end-are-words m cause.WriteFault names on = (refl, (refl, tt))
 end-are-words m (cause.Config line kind) names on = (refl, (refl, (decimal-word line on, (cfg-word kind, tt))))
 end-are-words m (cause.Scene line kind) names on = (refl, (refl, (decimal-word line on, (scene-word kind, tt))))
 end-are-words m (cause.Line line kind) names on = (refl, (refl, (decimal-word line on, (fault-word kind, tt))))
@@ -172,10 +116,9 @@ end-are-words m (cause.Expired board turn) names on = (refl, (refl, (board-word 
 end-are-words m (cause.Connect board turn) names on = (refl, (refl, (board-word m board names on.0, (decimal-word turn on.1, tt))))
 end-are-words m (cause.Stale board turn) names on = (refl, (refl, (board-word m board names on.0, (decimal-word turn on.1, tt))))
 end-are-words m (cause.Trace line kind) names on = (refl, (refl, (decimal-word line on, (trace-word kind, tt))))
-end-are-words m cause.NoBoard names on = (refl, (refl, tt))
 end-are-words m (cause.Mesh line kind) names on = (refl, (refl, (decimal-word line on, (mesh-word kind, tt))))
-end-are-words m cause.NoFan names on = (refl, (refl, tt))
 end-are-words m (cause.Misfit line kind) names on = (refl, (refl, (decimal-word line on, (misfit-word kind, tt))))
+end-are-words m c names on = (refl, (refl, tt))
 
 long-turn : (turn : ℕ) → turn < run_turns → turn < 2 ^ 64
 long-turn turn low = omega (arith, low)
@@ -207,11 +150,8 @@ are-words m (report.Cut i board pin tick from) valid names of =
 are-words m (report.Drift board sent clock from) valid names of =
     (refl, (board-word m board names of.0, (refl, (decimal-word sent of.1, (refl, (decimal-word clock of.2, (refl, (decimal-word from of.3, tt))))))))
 are-words m (report.Lines accepted passed) valid names of = (refl, (decimal-word accepted of.0, (refl, (decimal-word passed of.1, tt))))
-are-words m (report.Out board pin tick on) valid names of = absurd of
-are-words m (report.Made seed moves) valid names of = absurd of
-are-words m (report.Count stepper pulses) valid names of = absurd of
-are-words m (report.Fit section stepper pulses planned early late) valid names of = absurd of
 are-words m (report.End c) valid names of = (refl, end-are-words m c names of)
+are-words m c valid names of = absurd of
 
 -- they say what the line does
 
@@ -322,24 +262,7 @@ counts-said m accepted passed a b =
 end-said : (m : Machine) (c : Cause) → line_said m (words_said m (report.End c)) ≡ Ok line.End
 unfolding value_of
 end-said m cause.Done = refl
-end-said m cause.Memory = refl
-end-said m cause.Usage = refl
-end-said m cause.ReadFault = refl
-end-said m cause.WriteFault = refl
-end-said m (cause.Config line kind) = refl
-end-said m (cause.Scene line kind) = refl
-end-said m (cause.Line line kind) = refl
-end-said m (cause.Late board first arrival spoiled spill) = refl
-end-said m (cause.Asked line) = refl
-end-said m (cause.NoSwitch section) = refl
-end-said m (cause.Expired board turn) = refl
-end-said m (cause.Connect board turn) = refl
-end-said m (cause.Stale board turn) = refl
-end-said m (cause.Trace line kind) = refl
-end-said m cause.NoBoard = refl
-end-said m (cause.Mesh line kind) = refl
-end-said m cause.NoFan = refl
-end-said m (cause.Misfit line kind) = refl
+end-said m c = refl
 
 pub line-back-said : (m : Machine) (l : ReportLine) → IsValidMachine m → HasNames m → IsOfRun m l → line_said m (words_said m l) ≡ Ok (logged l)
 line-back-said m (report.Machine corexy boards steppers) valid names of = machine-said m corexy boards steppers valid of.0 of.1 of.2
@@ -349,8 +272,5 @@ line-back-said m (report.Pulse board stepper tick up) valid names of = pulse-sai
 line-back-said m (report.Cut i board pin tick from) valid names of = cut-said m i board pin tick from names of.0 of.1 of.3 of.4
 line-back-said m (report.Drift board sent clock from) valid names of = drift-said m board sent clock from names of.0 of.1 of.2 of.3
 line-back-said m (report.Lines accepted passed) valid names of = counts-said m accepted passed of.0 of.1
-line-back-said m (report.Out board pin tick on) valid names of = absurd of
-line-back-said m (report.Made seed moves) valid names of = absurd of
-line-back-said m (report.Count stepper pulses) valid names of = absurd of
-line-back-said m (report.Fit section stepper pulses planned early late) valid names of = absurd of
 line-back-said m (report.End c) valid names of = end-said m c
+line-back-said m c valid names of = absurd of

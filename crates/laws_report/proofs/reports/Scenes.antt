@@ -79,10 +79,8 @@ abbrev AreUnder : ℕ → List Switch → Type 0
 AreUnder n switches = All (λ w. w.line < n) switches
 
 item_under : (n limit : ℕ) (item : Item) (switches : List Switch) → n < limit → IsAt n item → AreUnder limit switches → AreUnder limit (switch_of item ++ switches)
-item_under n limit Nothing switches low at under = under
-item_under n limit (OnLine e) switches low at under = under
-item_under n limit (Wrong kind) switches low at under = under
 item_under n limit (AtPin s) switches low at under = All-cons (λ (w : Switch). w.line < limit) s switches (omega (arith, low, at)) under
+item_under n limit c switches low at under = under
 
 items_under : (boards : List BoardDef) (n limit : ℕ) (lines : List (List ℕ)) → n + length lines ≤ limit → AreUnder limit (switches_among (items boards n lines))
 items_under boards n limit [] low = All-nil (λ (w : Switch). w.line < limit)

@@ -292,8 +292,7 @@ pub record ShowsNone (m : Machine) (lines : List ReportLine) : Type 0 where
 -- how the reading of a text stopped
 stop_small : (m : Machine) (stop : ReadStop) → stop_line stop ≤ 1 + 1_073_741_824 → IsCauseOn m (text_end stop)
 stop_small m read.End few = tt
-stop_small m (read.Stop line) few = omega (arith, few)
-stop_small m (read.Refused line kind) few = omega (arith, few)
+stop_small m c few = omega (arith, few)
 
 module _ (m : Machine) (v : IsValidMachine m) (s : Scene) (ts : List MotionTurn) (p : Plans m (length m.boards) ts) (end : ReactorTurn) (c : Cause) (first : ReactorTurn) (rest : List ReactorTurn) (f : Facts m s ts (first ∷ rest) end c) where
   most : length (rest ++ end ∷ []) ≤ length p.made + 1

@@ -111,9 +111,7 @@ begun_small m section (Home axis) turn last moving =
 
 told_small : (m : Machine) (r : Known) (n : NoteNews) → IsSmallHoming r.homing → IsSmallHoming (known_behind m r n).homing
 told_small m r (news.Start section kind turn last moving) h = begun_small m section kind turn last moving
-told_small m r (news.Done section turn) h = h
-told_small m r (news.Read x sections) h = h
-told_small m r (news.Line board line from) h = h
+told_small m r c h = h
 
 all_small : (m : Machine) (ns : List NoteNews) (r : Known) → IsSmallHoming r.homing → IsSmallHoming (told_all m ns r).homing
 all_small m [] r h = h
@@ -128,9 +126,8 @@ group_either true x g a b = b
 group_either false x g a b = a
 
 in_small : (p : GroupPhase) (g : GroupState) (turn : ℕ) → AllSmall g.members → AllSmall (after_in p g turn).members
-in_small (Sends round) g turn h = h
 in_small Goes g turn h = group_either (all_fired g.members) _ g h h
-in_small Rests g turn h = h
+in_small c g turn h = h
 
 goes_small : (k : ℕ) (h : Homing) (o : Option End) → AllSmall h.group.members → IsSmallHoming (goes_on_homing k h o)
 goes_small k h None s = in_small (phase h.group.start h.group.last k) h.group k s
@@ -242,8 +239,7 @@ module _ (m : Machine) (switches : List Switch) (scene : All (λ w. w.line < 2 ^
 
   finishes_long : (o : ReadStop) (r : Known) (k : ℕ) (lines : List ReportLine) (askings : List Asking) (turn : HomingTurn) → HaveLongCuts lines → HaveLongCuts (finishes o m r k lines askings turn).ordered.lines
   finishes_long (read.Stop line) r k lines askings turn long = long
-  finishes_long read.End r k lines askings turn long = long_both lines (count_lines r.reading) long (long_counts r.reading)
-  finishes_long (read.Refused line kind) r k lines askings turn long = long_both lines (count_lines r.reading) long (long_counts r.reading)
+  finishes_long c r k lines askings turn long = long_both lines (count_lines r.reading) long (long_counts r.reading)
 
   homing_long : (o : Option Cause) (r : Known) (k : ℕ) (states : List State) (lines cut : List ReportLine) (askings : List Asking) (turn : HomingTurn) → HaveLongCuts lines → HaveLongCuts cut → HaveLongCuts (unless_homing_ends o m r k states lines cut askings turn).ordered.lines
   homing_long (Some cause) r k states lines cut askings turn long own = long

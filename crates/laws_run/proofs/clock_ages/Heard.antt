@@ -154,8 +154,7 @@ by_held m turn (word.Lines lines) clocks c e = by (are_fit m.boards turn lines) 
     by : (t : Bool) → (if t then Some (map one_line lines) else None) ≡ Some clocks → (clocks_at clocks c).held ≡ []
     by true e = let f : Some (map one_line lines) ≡ Some clocks = e in let same : map one_line lines ≡ clocks = cc in subst (λ (cs : List Clocks). (clocks_at cs c).held ≡ []) same (ones_held lines c)
     by false e = absurd (let f : None ≡ Some clocks = e in cc)
-by_held m turn (word.Line board line) clocks c e = absurd (let f : None ≡ Some clocks = e in cc)
-by_held m turn word.Homed clocks c e = absurd (let f : None ≡ Some clocks = e in cc)
+by_held m turn x clocks c e = absurd (let f : None ≡ Some clocks = e in cc)
 
 in_held : (m : Machine) (turn : ℕ) (ns : List WordNews) (clocks : List Clocks) (c : ℕ) → told_in m turn ns ≡ Some clocks → (clocks_at clocks c).held ≡ []
 in_held m turn [] clocks c e = absurd (let f : None ≡ Some clocks = e in cc)

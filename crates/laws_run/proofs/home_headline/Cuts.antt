@@ -70,8 +70,7 @@ finished : (o : ReadStop) (m : Machine) (switches : List Switch) (r : Known) (k 
     → IsCut m switches turn (finishes o m r k (lines ++ cut_line m switches turn.section (axis_at m turn.axis) turn.cut) askings turn)
     ⊎ IsUncut (finishes o m r k (lines ++ cut_line m switches turn.section (axis_at m turn.axis) turn.cut) askings turn)
 finished (read.Stop line) m switches r k lines askings turn none e = carried m switches r k lines r.askings.items askings turn (Some line) turn.cut refl none refl
-finished read.End m switches r k lines askings turn none e = cc
-finished (read.Refused line kind) m switches r k lines askings turn none e = cc
+finished c m switches r k lines askings turn none e = cc
 
 ends_or_on : (b : Bool) (m : Machine) (switches : List Switch) (r : Known) (k : ℕ) (lines : List ReportLine) (askings : List Asking) (turn : HomingTurn) → cuts_of lines ≡ []
     → end_of (cond b (finishes (stop_of r.reading) m r k (lines ++ cut_line m switches turn.section (axis_at m turn.axis) turn.cut) askings turn) (carries_on m r k (lines ++ cut_line m switches turn.section (axis_at m turn.axis) turn.cut) askings turn None)) ≡ None
@@ -135,8 +134,7 @@ carried_tells m r k lines askings turn stop tick e = let At : Option ℕ → Typ
 finished_tells : (o : ReadStop) (m : Machine) (r : Known) (k : ℕ) (lines : List ReportLine) (askings : List Asking) (turn : HomingTurn) (tick : ℕ) → end_of (finishes o m r k lines askings turn) ≡ None → turn.cut ≡ Some tick
     → TellsHomed (finishes o m r k lines askings turn).ordered.word.news
 finished_tells (read.Stop line) m r k lines askings turn tick e cut = carried_tells m r k lines askings turn (Some line) tick cut
-finished_tells read.End m r k lines askings turn tick e cut = cc
-finished_tells (read.Refused line kind) m r k lines askings turn tick e cut = cc
+finished_tells c m r k lines askings turn tick e cut = cc
 
 on_tells : (b : Bool) (m : Machine) (r : Known) (k : ℕ) (lines : List ReportLine) (askings : List Asking) (turn : HomingTurn) (tick : ℕ)
     → end_of (cond b (finishes (stop_of r.reading) m r k lines askings turn) (carries_on m r k lines askings turn None)) ≡ None → turn.cut ≡ Some tick
@@ -158,9 +156,8 @@ stale_tells None m switches r k states lines askings tick e cut =
 
 phase_tells : (p : Phase) (m : Machine) (switches : List Switch) (r : Known) (k : ℕ) (states : List State) (lines : List ReportLine) (tick : ℕ) → p ≡ Running → end_of (by_phase p m switches r k states lines) ≡ None
     → (homing_turn r.clocks k states r.homing).cut ≡ Some tick → TellsHomed (by_phase p m switches r k states lines).ordered.word.news
-phase_tells Connecting m switches r k states lines tick is e cut = cc
 phase_tells Running m switches r k states lines tick is e cut = let askings = listen_all r.askings.items states in stale_tells (stale k 0 askings) m switches r k states lines askings tick e cut
-phase_tells (Stopping line) m switches r k states lines tick is e cut = cc
+phase_tells c m switches r k states lines tick is e cut = cc
 
 ended_tells : (o : Option Cause) (m : Machine) (switches : List Switch) (r : Known) (k : ℕ) (states : List State) (lines : List ReportLine) (tick : ℕ) → r.phase ≡ Running → end_of (unless_ended o m switches r k states lines) ≡ None
     → (homing_turn r.clocks k states r.homing).cut ≡ Some tick → TellsHomed (unless_ended o m switches r k states lines).ordered.word.news

@@ -15,11 +15,7 @@ use Rattle.laws_run.proofs.run_ends.Unstopped.{NoStops, all_none, asks_none, non
 -- the orders of a homing group
 order_none : (m : Machine) (clocks : Clocks) (b start : ℕ) (axis : AxisDef) (what : Order) → IsNoStop (order_command m clocks b start axis what)
 order_none m clocks b start axis (order.Reset s) = tt
-order_none m clocks b start axis (order.Stop s) = tt
-order_none m clocks b start axis order.Start = tt
-order_none m clocks b start axis (order.Timeout turn) = tt
-order_none m clocks b start axis order.Home = tt
-order_none m clocks b start axis order.Trigger = tt
+order_none m clocks b start axis c = tt
 
 none_both : (xs ys : List Cmd) → NoStops xs → NoStops ys → NoStops (xs ++ ys)
 none_both [] ys a b = b

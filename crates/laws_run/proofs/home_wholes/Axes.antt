@@ -44,12 +44,11 @@ by_axes : (m : Machine) (dwell : ℕ) (moves : List Move) (s : State) (a : Actio
 by_axes m dwell moves s actions.None rest all = all dwell moves
 by_axes m dwell moves s (actions.Move one) rest all = all dwell (moves ++ one ∷ [])
 by_axes m dwell moves s (actions.Dwell ms) rest all = axes_both (closed dwell moves) (rest (dwell_left dwell moves + ms) []) (closed_axes dwell moves) (all (dwell_left dwell moves + ms) [])
-by_axes m dwell moves s actions.Wait rest all = axes_both (closed dwell moves) (rest (dwell_left dwell moves) []) (closed_axes dwell moves) (all (dwell_left dwell moves) [])
-by_axes m dwell moves s actions.Stop rest all = axes_both (closed dwell moves) (rest (dwell_left dwell moves) []) (closed_axes dwell moves) (all (dwell_left dwell moves) [])
 by_axes m dwell moves s (actions.Home axes) rest all =
     let own = homes m (coordinates_of s) s.acceleration (dwell_left dwell moves) axes in
     let more = rest (left_by_homes (dwell_left dwell moves) axes) [] in
     axes_both (closed dwell moves) (own ++ more) (closed_axes dwell moves) (axes_both own more (homes_axes m (coordinates_of s) s.acceleration (dwell_left dwell moves) axes) (all (left_by_homes (dwell_left dwell moves) axes) []))
+by_axes m dwell moves s c rest all = axes_both (closed dwell moves) (rest (dwell_left dwell moves) []) (closed_axes dwell moves) (all (dwell_left dwell moves) [])
 
 -- those that are cut from deeds
 pub have_axes : (m : Machine) (dwell : ℕ) (moves : List Move) (deeds : List Deed) → HaveAxes (sections_of m dwell moves deeds)

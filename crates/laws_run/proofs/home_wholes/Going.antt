@@ -80,14 +80,7 @@ shut_event : (h : Core) (e : Event) → is_shut h.board.controller.state ≡ tru
 shut_event h (event.Pass t) shut = passes_state h.board t
 shut_event h event.Arrive shut = ap (λ (x : Controller). x.state) (all_left_by h.board (commands_of (takes_in h event.Arrive)) shut)
 shut_event h event.Repeat shut = ap (λ (x : Controller). x.state) (all_left_by h.board (commands_of (takes_in h event.Repeat)) shut)
-shut_event h (event.Put c) shut = refl
-shut_event h (event.Control c) shut = refl
-shut_event h event.Send shut = refl
-shut_event h event.Resend shut = refl
-shut_event h event.Lose shut = refl
-shut_event h event.Garble shut = refl
-shut_event h event.Reply shut = refl
-shut_event h event.LoseReply shut = refl
+shut_event h c shut = refl
 
 shut_steps : (steps : List Step) (h : Core) → is_shut h.board.controller.state ≡ true → (run_world steps h).board.controller.state ≡ h.board.controller.state
 shut_steps [] h shut = refl

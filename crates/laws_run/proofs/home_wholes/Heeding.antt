@@ -57,14 +57,7 @@ event_free : (low : ℕ) (front : List Sent) (h : Core) (e : Event) → IsFreeAt
 event_free low front h (Pass t) free = pass_free low front h t free
 event_free low front h Arrive free = takes_free low front h (after_event h Arrive) (takes_in h Arrive) refl refl free
 event_free low front h Repeat free = takes_free low front h (after_event h Repeat) (takes_in h Repeat) refl refl free
-event_free low front h (Put c) free = takes_free low front h (after_event h (Put c)) [] refl refl free
-event_free low front h (Control c) free = takes_free low front h (after_event h (Control c)) [] refl refl free
-event_free low front h Send free = takes_free low front h (after_event h Send) [] refl refl free
-event_free low front h Resend free = takes_free low front h (after_event h Resend) [] refl refl free
-event_free low front h Lose free = takes_free low front h (after_event h Lose) [] refl refl free
-event_free low front h Garble free = takes_free low front h (after_event h Garble) [] refl refl free
-event_free low front h Reply free = takes_free low front h (after_event h Reply) [] refl refl free
-event_free low front h LoseReply free = takes_free low front h (after_event h LoseReply) [] refl refl free
+event_free low front h c free = takes_free low front h (after_event h c) [] refl refl free
 
 step_free : (low : ℕ) (front : List Sent) (h : Core) (s : Step) → IsFreeAt low front h → IsFreeAt low front (world_after h s)
 step_free low front h (Do e) free = event_free low front h e free

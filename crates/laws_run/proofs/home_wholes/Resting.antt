@@ -68,14 +68,7 @@ does_off : (h : Core) (e : Event) → MeanTame (takes_in h e) → AllFired h.boa
 does_off h (event.Pass t) a off = (time_passes h.board t off).off
 does_off h event.Arrive a off = all_off h.board (takes_in h event.Arrive) a off
 does_off h event.Repeat a off = all_off h.board (takes_in h event.Repeat) a off
-does_off h (event.Put c) a off = off
-does_off h (event.Control c) a off = off
-does_off h event.Send a off = off
-does_off h event.Resend a off = off
-does_off h event.Lose a off = off
-does_off h event.Garble a off = off
-does_off h event.Reply a off = off
-does_off h event.LoseReply a off = off
+does_off h c a off = off
 
 abbrev Rests : Core → Core → Type 0
 Rests h g = IsCalmQueue g × (AllFired h.board → AllFired g.board)

@@ -32,21 +32,16 @@ each_if false xs a = tt
 -- connecting
 setup_still : (s : Setup) → IsStill (setup_command s)
 setup_still (Oids count) = tt
-setup_still (Stepper oid step dir) = tt
-setup_still (Trsync oid) = tt
-setup_still (Endstop oid pin) = tt
-setup_still Finish = tt
+setup_still c = tt
 
 setups_still : (ss : List Setup) → EachStill (map setup_command ss)
 setups_still [] = tt
 setups_still (s ∷ ss) = (setup_still s, setups_still ss)
 
 asks_still : (turn : ℕ) (setups : List Setup) (a : Asking) (stage : Stage) → EachStill (asks setups turn a stage)
-asks_still turn setups a (Identify offset) = each_if (is_question_due turn a.since) (question (Identify offset)) (tt, tt)
-asks_still turn setups a Uptime = each_if (is_question_due turn a.since) (question Uptime) (tt, tt)
 asks_still turn setups a (Configure n) = setups_still (fitting control_bytes (drop n setups))
-asks_still turn setups a Config = each_if (is_question_due turn a.since) (question Config) (tt, tt)
 asks_still turn setups a Connected = each_if (is_question_due turn a.since) (question Connected) tt
+asks_still turn setups a c = each_if (is_question_due turn a.since) (question c) (tt, tt)
 
 stop_still : (s : Bool) → EachStill (stop_command s)
 stop_still true = (tt, tt)
@@ -142,12 +137,9 @@ phase_still start last k first second =
 
 -- their commands
 order_still : (m : Machine) (clocks : Clocks) (b start : ℕ) (axis : AxisDef) (what : Order) → OrderStill what → IsStill (order_command m clocks b start axis what)
-order_still m clocks b start axis (order.Reset s) a = tt
 order_still m clocks b start axis (order.Stop s) a = absurd a
 order_still m clocks b start axis order.Start a = absurd a
-order_still m clocks b start axis (order.Timeout turn) a = tt
-order_still m clocks b start axis order.Home a = tt
-order_still m clocks b start axis order.Trigger a = tt
+order_still m clocks b start axis c a = tt
 
 ctls_still : (m : Machine) (clocks : Clocks) (b start : ℕ) (axis : AxisDef) (ctls : List Ctl) → CtlsStill b ctls → EachStill (commands_to m clocks b start axis ctls)
 ctls_still m clocks b start axis [] a = tt

@@ -41,9 +41,7 @@ section_none k (Some s) = begun_none (s.turn == k) s
 
 one_drift : (n : NoteNews) → boards_of (drift_line n) ≡ []
 one_drift (news.Start section kind turn last moving) = refl
-one_drift (news.Done section turn) = refl
-one_drift (news.Read end sections) = refl
-one_drift (news.Line board line from) = refl
+one_drift c = refl
 
 drift_none : (ns : List NoteNews) → boards_of (drift_lines ns) ≡ []
 drift_none [] = refl
@@ -116,8 +114,7 @@ None_in x = boards_of x.ordered.lines ≡ []
 
 finishing : (s : ReadStop) (m : Machine) (q : Known) (k : ℕ) (lines : List ReportLine) (askings : List Asking) (turn : HomingTurn) → boards_of lines ≡ [] → None_in (finishes s m q k lines askings turn)
 finishing (read.Stop line) m q k lines askings turn n = n
-finishing read.End m q k lines askings turn n = both_none lines (count_lines q.reading) n (count_none q.reading)
-finishing (read.Refused line kind) m q k lines askings turn n = both_none lines (count_lines q.reading) n (count_none q.reading)
+finishing c m q k lines askings turn n = both_none lines (count_lines q.reading) n (count_none q.reading)
 
 either : (b : Bool) (x y : Reacted) → None_in x → None_in y → None_in (if b then x else y)
 either true x y a b = a

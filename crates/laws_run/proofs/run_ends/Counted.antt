@@ -39,9 +39,7 @@ section_none k (Some s) = begun_none (s.turn == k) s
 
 pub one_drift : (n : NoteNews) → counts_of (drift_line n) ≡ []
 one_drift (news.Start section kind turn last moving) = refl
-one_drift (news.Done section turn) = refl
-one_drift (news.Read end sections) = refl
-one_drift (news.Line board line from) = refl
+one_drift c = refl
 
 pub drift_none : (ns : List NoteNews) → counts_of (drift_lines ns) ≡ []
 drift_none [] = refl

@@ -24,8 +24,7 @@ connecting None m r k lines askings =
 
 finishing : (s : ReadStop) (m : Machine) (r : Known) (k : ℕ) (lines : List ReportLine) (askings : List Asking) (turn : HomingTurn) → Keeps r k (finishes s m r k lines askings turn)
 finishing (read.Stop line) m r k lines askings turn = record { done = refl; reading = refl; ended = inl refl }
-finishing read.End m r k lines askings turn = record { done = refl; reading = refl; ended = inl refl }
-finishing (read.Refused line kind) m r k lines askings turn = record { done = refl; reading = refl; ended = inl refl }
+finishing c m r k lines askings turn = record { done = refl; reading = refl; ended = inl refl }
 
 homing : (o : Option Cause) (m : Machine) (r : Known) (k : ℕ) (states : List State) (lines cut : List ReportLine) (askings : List Asking) (turn : HomingTurn) → Keeps r k (unless_homing_ends o m r k states lines cut askings turn)
 homing (Some c) m r k states lines cut askings turn = record { done = refl; reading = refl; ended = inl refl }

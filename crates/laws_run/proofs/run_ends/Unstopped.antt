@@ -29,21 +29,16 @@ none_if false cs n = tt
 
 pub one_setup : (s : Setup) → IsNoStop (setup_command s)
 one_setup (Oids count) = tt
-one_setup (Stepper oid step dir) = tt
-one_setup (Trsync oid) = tt
-one_setup (Endstop oid pin) = tt
-one_setup Finish = tt
+one_setup c = tt
 
 pub all_setups : (ss : List Setup) → NoStops (map setup_command ss)
 all_setups [] = tt
 all_setups (s ∷ ss) = (one_setup s, all_setups ss)
 
 pub asks_none : (turn : ℕ) (setups : List Setup) (a : Asking) (stage : Stage) → NoStops (asks setups turn a stage)
-asks_none turn setups a (Identify offset) = none_if (is_question_due turn a.since) (question (Identify offset)) (tt, tt)
-asks_none turn setups a Uptime = none_if (is_question_due turn a.since) (question Uptime) (tt, tt)
 asks_none turn setups a (Configure n) = all_setups (fitting control_bytes (drop n setups))
-asks_none turn setups a Config = none_if (is_question_due turn a.since) (question Config) (tt, tt)
 asks_none turn setups a Connected = none_if (is_question_due turn a.since) (question Connected) tt
+asks_none turn setups a c = none_if (is_question_due turn a.since) (question c) (tt, tt)
 
 -- a running turn in which no board homes, and which doesn't stop
 runs_none : (m : Machine) (k b : ℕ) (clocks : List Clocks) (states : List State) (own : Clocks) (a : Asking) (h : Option Homing) (stop : Option ℕ) → h ≡ None → ((line : ℕ) → phase_after stop ≡ Stopping line → ⊥)

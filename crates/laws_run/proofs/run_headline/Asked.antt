@@ -79,14 +79,10 @@ if_heard false a b e f = tt
 
 answer_heard : (turn : ℕ) (a : Asking) (stage : Stage) (number : ℕ) (c : Cmd) → IfHeard a (answered turn a stage number c)
 answer_heard turn a (Identify offset) number (cmd.IdentifyResponse of bytes) = if_heard (offset == of) a (after_piece a offset (length bytes.items)) refl refl
-answer_heard turn a (Identify offset) number c = tt
 answer_heard turn a Uptime number (cmd.Uptime high clock) = if_heard (tells_clock a number) a (after_clock a (sample_of a turn high clock)) refl refl
-answer_heard turn a Uptime number c = tt
-answer_heard turn a (Configure n) number c = tt
 answer_heard turn a Config number (cmd.Config is_config crc is_shutdown move_count) = if_heard (is_config == 1) a (settled a Connected) refl refl
-answer_heard turn a Config number c = tt
 answer_heard turn a Connected number (cmd.Uptime high clock) = if_heard (tells_clock a number) a (after_drift a (sample_of a turn high clock)) refl refl
-answer_heard turn a Connected number c = tt
+answer_heard turn a m number c = tt
 
 or_heard : (a : Asking) (o : Option Asking) (b : Asking) → IfHeard a o → IsHeard a b → IsHeard a (or_asking o b)
 or_heard a None b s i = i
@@ -107,15 +103,12 @@ state_heard a s =
     either_heard (is_in_time s.turn b.since) a (hears_first s.turn s.news b) b (heard_then a b (hears_first s.turn s.news b) put (news_heard s.turn s.news b)) put
 
 stage_ready : (setups : List Setup) (stage : Stage) → is_connected (ready_stage setups stage) ≡ is_connected stage
-stage_ready setups (Identify offset) = refl
-stage_ready setups Uptime = refl
 stage_ready setups (Configure n) = by (is_over (drop n setups))
   where
     by : (t : Bool) → is_connected (cond t Config (Configure n)) ≡ false
     by true = refl
     by false = refl
-stage_ready setups Config = refl
-stage_ready setups Connected = refl
+stage_ready setups c = refl
 
 ready_heard : (setups : List Setup) (a : Asking) → IsHeard a (ready setups a)
 ready_heard setups a = record { waits = refl; since = inr (refl, stage_ready setups a.stage) }
@@ -135,11 +128,9 @@ unless_due true k a n r = (r.0, λ c. cc)
 unless_due false k a n r = r
 
 asks_rest : (setups : List Setup) (k : ℕ) (a : Asking) (stage : Stage) → a.stage ≡ stage → Rests a → Rests (after_asks setups k a stage)
-asks_rest setups k a (Identify offset) e r = unless_due (is_question_due k a.since) k a (ap is_connected e) r
-asks_rest setups k a Uptime e r = unless_due (is_question_due k a.since) k a (ap is_connected e) r
 asks_rest setups k a (Configure n) e r = (r.0, λ c. cc)
-asks_rest setups k a Config e r = unless_due (is_question_due k a.since) k a (ap is_connected e) r
 asks_rest setups k a Connected e r = r
+asks_rest setups k a c e r = unless_due (is_question_due k a.since) k a (ap is_connected e) r
 
 all_asked : (m : Machine) (k b : ℕ) (askings : List Asking) → Each Rests askings → Each Rests (ask_all m k b askings)
 all_asked m k b [] e = tt

@@ -117,8 +117,7 @@ connecting None m r k lines askings =
 
 finishing : (s : ReadStop) (m : Machine) (r : Known) (k : ℕ) (lines : List ReportLine) (askings : List Asking) (turn : HomingTurn) → Same lines (finishes s m r k lines askings turn)
 finishing (read.Stop line) m r k lines askings turn = λ b. refl
-finishing read.End m r k lines askings turn = λ b. more_none b lines (count_lines r.reading) (count_none r.reading)
-finishing (read.Refused line kind) m r k lines askings turn = λ b. more_none b lines (count_lines r.reading) (count_none r.reading)
+finishing c m r k lines askings turn = λ b. more_none b lines (count_lines r.reading) (count_none r.reading)
 
 homing : (o : Option Cause) (m : Machine) (r : Known) (k : ℕ) (states : List State) (lines cut : List ReportLine) (askings : List Asking) (turn : HomingTurn) → NoneDrifts cut → Same lines (unless_homing_ends o m r k states lines cut askings turn)
 homing (Some cause) m r k states lines cut askings turn more = λ b. refl

@@ -121,8 +121,7 @@ connecting homes None m r k lines askings told =
 
 finishing : (homes : Bool) (s : ReadStop) (m : Machine) (r : Known) (k : ℕ) (lines : List ReportLine) (askings : List Asking) (turn : HomingTurn) → AreTold homes m lines → Tells homes m (finishes s m r k lines askings turn)
 finishing homes (read.Stop line) m r k lines askings turn told = told
-finishing homes read.End m r k lines askings turn told = told_append homes m lines (count_lines r.reading) told (count_told homes m r.reading)
-finishing homes (read.Refused line kind) m r k lines askings turn told = told_append homes m lines (count_lines r.reading) told (count_told homes m r.reading)
+finishing homes c m r k lines askings turn told = told_append homes m lines (count_lines r.reading) told (count_told homes m r.reading)
 
 homing : (homes : Bool) (o : Option Cause) (m : Machine) (r : Known) (k : ℕ) (states : List State) (lines cut : List ReportLine) (askings : List Asking) (turn : HomingTurn) → AreTold homes m lines → AreTold homes m cut → Tells homes m (unless_homing_ends o m r k states lines cut askings turn)
 homing homes (Some cause) m r k states lines cut askings turn told more = told

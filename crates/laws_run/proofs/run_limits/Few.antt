@@ -44,11 +44,7 @@ one_few false = omega arith
 
 action_few : (number : ℕ) (p : Bool) (s : State) (a : Action) (o : Outcome) (n : ℕ) → AreFew o (number + 1) n → AreFew (behind_action number p s a o) number (n + 1)
 action_few number p s actions.Stop o n few = (let one = one_few p in record { deeds = omega arith; passed = omega (arith, one); stop = omega arith })
-action_few number p s actions.None o n few = (let one = one_few p in let d = few.deeds in let q = few.passed in let z = few.stop in record { deeds = omega (arith, d); passed = omega (arith, one, q); stop = omega (arith, z) })
-action_few number p s (actions.Move move) o n few = (let one = one_few p in let d = few.deeds in let q = few.passed in let z = few.stop in record { deeds = omega (arith, d); passed = omega (arith, one, q); stop = omega (arith, z) })
-action_few number p s (actions.Dwell ms) o n few = (let one = one_few p in let d = few.deeds in let q = few.passed in let z = few.stop in record { deeds = omega (arith, d); passed = omega (arith, one, q); stop = omega (arith, z) })
-action_few number p s actions.Wait o n few = (let one = one_few p in let d = few.deeds in let q = few.passed in let z = few.stop in record { deeds = omega (arith, d); passed = omega (arith, one, q); stop = omega (arith, z) })
-action_few number p s (actions.Home axes) o n few = (let one = one_few p in let d = few.deeds in let q = few.passed in let z = few.stop in record { deeds = omega (arith, d); passed = omega (arith, one, q); stop = omega (arith, z) })
+action_few number p s c o n few = (let one = one_few p in let d = few.deeds in let q = few.passed in let z = few.stop in record { deeds = omega (arith, d); passed = omega (arith, one, q); stop = omega (arith, z) })
 
 more_few : (o : Outcome) (number n k : ℕ) → n ≤ k → AreFew o number n → AreFew o number k
 more_few o number n k low few = (let d = few.deeds in let q = few.passed in let z = few.stop in record { deeds = omega (arith, d, low); passed = omega (arith, q, low); stop = omega (arith, z, low) })

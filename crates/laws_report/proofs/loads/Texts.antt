@@ -1,5 +1,5 @@
 -- The text of a load, as it is read.
-use Rattle.std.proofs.Common.{◌≡◌, ◌∙◌, ℕ, zero, suc, ◌+◌, ◌*◌, ◌/◌, ◌%◌, ◌≤◌, Bool, true, false, codes, List, [], ◌∷◌, ◌++◌, length, refl, ap, sym, arith, append_assoc, append-nil, length-append, if◌then◌else◌}
+use Rattle.std.proofs.Common.{◌≡◌, ◌∙◌, ℕ, zero, suc, ◌+◌, ◌*◌, ◌/◌, ◌%◌, ◌≤◌, Bool, true, false, codes, List, [], ◌∷◌, ◌++◌, length, refl, ap, sym, arith, append_assoc, append-nil, length-append, if◌then◌else◌, rules}
 use Rattle.std.specs.Prelude.{Ok}
 use Rattle.text_core.specs.Lines.{lines_of}
 use Rattle.laws_board.proofs.Names.{Move}
@@ -32,10 +32,7 @@ load_lines zero state = []
 load_lines (suc n) state = line_at (upper (next_random state)) ∷ load_lines n (next_random state)
 
 ended : (p a q b rest : List ℕ) → (p ++ (a ++ (q ++ b))) ++ 10 ∷ rest ≡ (p ++ (a ++ (q ++ (b ++ 10 ∷ [])))) ++ rest
-ended p a q b rest =
-    let more : List ℕ = 10 ∷ rest in
-    let tail : List ℕ = b ++ 10 ∷ [] in
-    append_assoc p (a ++ (q ++ b)) more ∙ ap (λ (t : List ℕ). p ++ t) (append_assoc a (q ++ b) more ∙ ap (λ (t : List ℕ). a ++ t) (append_assoc q b more ∙ ap (λ (t : List ℕ). q ++ t) (sym (append_assoc b (10 ∷ []) rest)) ∙ sym (append_assoc q tail rest)) ∙ sym (append_assoc a (q ++ tail) rest)) ∙ sym (append_assoc p (a ++ (q ++ tail)) rest)
+ended p a q b rest = search (rules, append_assoc)
 
 lines_text : (n state : ℕ) → joined_lines (load_lines n state) ≡ load_moves n state
 lines_text zero state = refl

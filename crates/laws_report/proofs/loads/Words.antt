@@ -1,5 +1,5 @@
 -- The line of a move of a load, read word by word.
-use Rattle.std.proofs.Common.{◌≡◌, ◌∙◌, ℕ, ◌+◌, ◌*◌, ◌/◌, ◌%◌, ◌<◌, ◌≤◌, ◌==◌, Bool, true, false, cond, codes, List, [], ◌∷◌, ◌++◌, length, refl, ap, sym, subst, arith, append_assoc, append-nil, length-append, Ok}
+use Rattle.std.proofs.Common.{◌≡◌, ◌∙◌, ℕ, ◌+◌, ◌*◌, ◌/◌, ◌%◌, ◌<◌, ◌≤◌, ◌==◌, Bool, true, false, cond, codes, List, [], ◌∷◌, ◌++◌, length, refl, ap, sym, subst, arith, append_assoc, append-nil, length-append, Ok, rules}
 use Rattle.std.specs.Prelude.{◌&&◌, ◌||◌, nat_lt, decimal, ℤ, pos, Option, Some, None, Result, slice_set}
 use Rattle.laws_board.proofs.Names.{nat_tests}
 use Rattle.std.proofs.lemmas.Fmt.{length-decimal-le}
@@ -31,10 +31,7 @@ worth_three : (n : ℕ) → n / 1_000 * 1000000 + worth 100000 (three n) ≡ n *
 worth_three n = omega arith
 
 place_parts : (n : ℕ) (rest : List ℕ) → IsBehind rest → parts_of (millimetres n ++ rest) ≡ record { negative = false; whole = decimal (n / 1_000); decimals = three n; rest = rest }
-place_parts n rest r =
-    let ds = decimal_digits (n / 1_000) in
-    ap parts_of (append_assoc (decimal (n / 1_000)) (46 ∷ three n) rest)
-    ∙ parts_made _ (decimal (n / 1_000)) (three n) rest false (unsigned_same (decimal (n / 1_000)) (three n ++ rest) ds) (not_minus (decimal (n / 1_000)) (three n ++ rest) ds) ds (three_are_digits n) r
+place_parts n rest r = search (rules, decimal_digits, append_assoc, parts_made, unsigned_same, not_minus, three_are_digits)
 
 short : (n : ℕ) → n < 200_001 → nat_lt 9 (length (decimal (n / 1_000))) ≡ false
 short n few = let h = three_digits n few in grind (arith, nat_tests)
@@ -89,13 +86,7 @@ pub plain_line : (a b : ℕ) → ArePlain (place_line a b)
 plain_line a b = plain_both (codes "G1 X") _ (refl, (refl, (refl, (refl, tt)))) (plain_both (millimetres a) _ (plain_place a) (plain_both (codes " Y") (millimetres b) (refl, (refl, tt)) (plain_place b)))
 
 pub short_line : (a b : ℕ) → a < 200_001 → b < 200_001 → length (place_line a b) ≤ 20
-short_line a b few less =
-    let x = three_digits a few in
-    let y = three_digits b less in
-    let p = length-append (decimal (a / 1_000)) (46 ∷ three a) in
-    let q = length-append (decimal (b / 1_000)) (46 ∷ three b) in
-    let s = length-append (millimetres a) (codes " Y" ++ millimetres b) in
-    omega (arith, x, y, p, q, s)
+short_line a b few less = search (rules, three_digits, length-append)
 
 line_row : (a b : ℕ) → reading_of_text (behind is_blank (place_line a b)) ≡ ((given_at false (millimetres a ++ (codes " Y" ++ millimetres b)) >>= λ given. row false (slice_set no_words 23 (Some given)) (millimetres a ++ (codes " Y" ++ millimetres b))) >>= λ slots. Ok (words.Command names.G1 slots))
 unfolding head_of unnumbered table_entry given_words value_of

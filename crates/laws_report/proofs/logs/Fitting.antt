@@ -1,5 +1,5 @@
 -- Pulses that fit, one by one.
-use Rattle.std.proofs.Common.{◌≡◌, ◌∙◌, ℕ, zero, suc, ◌<◌, ◌≤◌, Bool, true, false, List, [], ◌∷◌, ◌++◌, length, ap, sym, refl, subst, arith, Option, Some, None, length-append}
+use Rattle.std.proofs.Common.{◌≡◌, ◌∙◌, ℕ, zero, suc, ◌<◌, ◌≤◌, Bool, true, false, List, [], ◌∷◌, ◌++◌, length, ap, sym, refl, subst, arith, Option, Some, None, length-append, rules}
 use Rattle.std.specs.Prelude.{nat_lt, if◌then◌else◌, slice_index_or}
 use Rattle.laws_board.proofs.Names.{nat_tests, Planned, Pulse, Fits}
 use Rattle.plan_types.specs.declared.cause.MisfitKind.{MisfitKind}
@@ -44,15 +44,7 @@ by-tests false false true e = cc
 by-tests false false false e = (refl, refl, refl)
 
 pub made-for : (freq before : ℕ) (step : Planned) (s tick : ℕ) (up : Bool) → step_fault freq before step tick up ≡ None → IsPulseOf freq before step (record { tick = tick; stepper = s; up = up })
-made-for freq before step s tick up fits =
-    let tests = by-tests (opposite step.up up) (nat_lt tick (window freq before step.tick)) (nat_lt step.tick tick) fits in
-    let early : nat_lt tick (window freq before step.tick) ≡ false = tests.1 in
-    let late : nat_lt step.tick tick ≡ false = tests.2 in
-    record {
-      direction = same-way step.up up tests.0;
-      not_early = grind (arith, nat_tests);
-      not_late = grind (arith, nat_tests);
-    }
+made-for freq before step s tick up fits = search (rules, by-tests, nat_lt, same-way, nat_tests)
 
 inside-by : (b : Bool) (x : Option MisfitKind) → (if b then x else Some misfit.Extra) ≡ None → (b ≡ true) × (x ≡ None)
 inside-by true x e = (refl, e)
@@ -60,10 +52,7 @@ inside-by false x e = cc
 
 -- what a pulse that fits shows
 pub pulse-fits : (freq base : ℕ) (plan : List Planned) (i s tick : ℕ) (up : Bool) → pulse_fault freq base plan i tick up ≡ None → (i < length plan) × IsPulseOf freq (tick_before base plan i) (slice_index_or plan i no_step) (record { tick = tick; stepper = s; up = up })
-pulse-fits freq base plan i s tick up fits =
-    let h = inside-by (nat_lt i (length plan)) (step_fault freq (tick_before base plan i) (slice_index_or plan i no_step) tick up) fits in
-    let low : nat_lt i (length plan) ≡ true = h.0 in
-    (grind (arith, nat_tests), made-for freq (tick_before base plan i) (slice_index_or plan i no_step) s tick up h.1)
+pulse-fits freq base plan i s tick up fits = search (rules, inside-by, nat_lt, slice_index_or, nat_tests, made-for)
 
 -- the last pulse of those that fit
 pub fits-last : (freq before : ℕ) (ps : List Pulse) (plan : List Planned) (i : ℕ) (p : Pulse) → i ≡ length ps → Fits freq before (ps ++ p ∷ []) plan → (i < length plan) × IsPulseOf freq (tick_before before plan i) (slice_index_or plan i no_step) p
@@ -89,16 +78,7 @@ from-tests : (a b c : Bool) → a ≡ false → b ≡ false → c ≡ false → 
 from-tests a b c e f g = rw (e, f, g) refl
 
 pub none-wrong : (freq before : ℕ) (step : Planned) (p : Pulse) → IsPulseOf freq before step p → step_fault freq before step p.tick p.up ≡ None
-none-wrong freq before step p is =
-    let low = is.not_early in
-    let high = is.not_late in
-    let early : nat_lt p.tick (window freq before step.tick) ≡ false = grind (arith, nat_tests) in
-    let late : nat_lt step.tick p.tick ≡ false = grind (arith, nat_tests) in
-    let way : opposite step.up p.up ≡ false = ap (opposite step.up) is.direction ∙ way-same step.up in
-    from-tests (opposite step.up p.up) (nat_lt p.tick (window freq before step.tick)) (nat_lt step.tick p.tick) way early late
+none-wrong freq before step p is = search (rules, nat_lt, nat_tests, way-same, from-tests)
 
 pub no-pulse-fault : (freq base : ℕ) (plan : List Planned) (i : ℕ) (p : Pulse) → i < length plan → IsPulseOf freq (tick_before base plan i) (slice_index_or plan i no_step) p → pulse_fault freq base plan i p.tick p.up ≡ None
-no-pulse-fault freq base plan i p inside is =
-    let low : nat_lt i (length plan) ≡ true = grind (arith, nat_tests) in
-    let here = none-wrong freq (tick_before base plan i) (slice_index_or plan i no_step) p is in
-    rw (low, here) refl
+no-pulse-fault freq base plan i p inside is = search (rules, nat_lt, nat_tests, none-wrong, slice_index_or)

@@ -1,5 +1,5 @@
 -- A log that checks follows the plan.
-use Rattle.std.proofs.Common.{◌≡◌, ◌∙◌, ℕ, zero, suc, ◌+◌, ◌<◌, ◌≤◌, Bool, true, false, List, [], ◌∷◌, ◌++◌, length, get_or, map, ap, sym, refl, subst, arith, Option, Some, None, append-nil}
+use Rattle.std.proofs.Common.{◌≡◌, ◌∙◌, ℕ, zero, suc, ◌+◌, ◌<◌, ◌≤◌, Bool, true, false, List, [], ◌∷◌, ◌++◌, length, get_or, map, ap, sym, refl, subst, arith, Option, Some, None, append-nil, rules}
 use Rattle.std.specs.Prelude.{◌==◌, ◌&&◌, ◌||◌, nat_le, nat_lt, slice_index_or, Ok, Err}
 use Rattle.laws_board.proofs.Names.{nat_tests, Machine, Planned, Pulse, Section, SectionKind, Moves, Home, Fits}
 use Rattle.std.proofs.lemmas.List.FromFn.{get_or-map-range_with_len, length-map-range_with_len}
@@ -42,12 +42,7 @@ tally-made m sections further before s inside =
 
 -- before the first section nothing is planned; in a section its base ticks are those of its start
 pub base-is : (m : Machine) (sections : List Section) (further : List Further) (before : List LogLine) (s : ℕ) (n : ℕ) → begun before ≡ n → s < length m.steppers → 0 < length (plan_at m sections further before s) → slice_index_or (point m sections further before).bases s 0 ≡ base_at m further before s
-base-is m sections further before s zero e inside some =
-    let none : plan_at m sections further before s ≡ [] = rw e refl in
-    absurd (let no = ap length none in omega (arith, some))
-base-is m sections further before s (suc n) e inside some =
-    let is : bases_by m (clocks m further before) (begun before) (section_start before) ≡ for_each_stepper m (base_tick m (clocks m further before) (section_start before)) = rw e refl in
-    ap (λ (l : List ℕ). slice_index_or l s 0) is ∙ get_or-map-range_with_len (base_tick m (clocks m further before) (section_start before)) 0 (length m.steppers) s s 0 inside (omega arith)
+base-is m sections further before s n p6 p7 p8 = search (rules, slice_index_or, get_or-map-range_with_len)
 
 -- a pulse of the stepper
 pulse-more : (m : Machine) (sections : List Section) (further : List Further) (before : List LogLine) (s tick : ℕ) (up : Bool) → s < length m.steppers → fault_at m sections (point m sections further before) (line.Pulse s tick up) ≡ None → FitsHere m sections further before s
@@ -131,39 +126,11 @@ section-parts false true e = (refl, refl)
 section-parts false false e = cc
 
 kinds-same : (a b : SectionKind) → same_kind a b ≡ true → a ≡ b
-kinds-same Moves Moves e = refl
-kinds-same Moves (Home b) e = cc
-kinds-same (Home a) Moves e = cc
-kinds-same (Home a) (Home b) e = (let same : a ≡ b = grind (arith, nat_tests) in ap (λ (n : ℕ). Home n) same)
+kinds-same a b p2 = search (rules, nat_tests)
 
 -- Sections
 next-here : (m : Machine) (sections : List Section) (further : List Further) (before : List LogLine) (i turn : ℕ) (kind : SectionKind) → may_start m sections (point m sections further before) i turn kind ≡ true → IsNextSection m sections further before i turn kind
-next-here m sections further before i turn kind may =
-    let p = point m sections further before in
-    let section = section_at sections p.begun in
-    let e = have_room p.clocks (length section.moves) turn in
-    let d = nat_le (ready p.cut p.begun p.start p.end + section.dwell) turn in
-    let c = length p.clocks == length m.boards in
-    let b = same_kind kind section.kind in
-    let a = nat_lt p.begun (length sections) in
-    let first : (i == p.begun) ≡ true = first_of_both (i == p.begun) (a && (b && (c && (d && e)))) may in
-    let one = second_of_both (i == p.begun) (a && (b && (c && (d && e)))) may in
-    let two = second_of_both a (b && (c && (d && e))) one in
-    let three = second_of_both b (c && (d && e)) two in
-    let four = second_of_both c (d && e) three in
-    let there : nat_lt p.begun (length sections) ≡ true = first_of_both a (b && (c && (d && e))) one in
-    let due : nat_le (ready p.cut p.begun p.start p.end + section.dwell) turn ≡ true = first_of_both d e four in
-    let at : i ≡ p.begun = grind (arith, nat_tests) in
-    let under : p.begun < length sections = grind (arith, nat_tests) in
-    let soon : ready p.cut p.begun p.start p.end + section.dwell ≤ turn = grind (arith, nat_tests) in
-    let same = kinds-same kind section.kind (first_of_both b (c && (d && e)) two) in
-    let Due : ℕ → Type 0 = λ n. ready p.cut p.begun p.start p.end + (section_at sections n).dwell ≤ turn in
-    record {
-      number = at;
-      there = omega (arith, at, under);
-      same = same ∙ ap (λ (n : ℕ). (section_at sections n).kind) (sym at);
-      due = subst Due (sym at) soon;
-    }
+next-here m sections further before i turn kind may = search (rules, nat_le, nat_lt, first_of_both, second_of_both, nat_tests, kinds-same)
 
 -- a line among those that fit
 line-fits : (m : Machine) (sections : List Section) (further : List Further) (lines later before : List LogLine) (l : LogLine) → Fine m sections further lines → lines ≡ later ++ l ∷ before → Fine m sections further (l ∷ before)
@@ -175,15 +142,7 @@ section-shows m sections further before i turn kind fits =
     section-parts (is_short (is_cut before) (plans m sections further before) (point m sections further before).tallies) (may_start m sections (point m sections further before) i turn kind) (fault-open m sections (point m sections further before) (line.Section i turn kind) fits)
 
 follows-own : (m : Machine) (sections : List Section) (lines : List LogLine) → Fine m sections (further_among lines) lines → is_short (is_cut lines) (plans m sections (further_among lines) lines) (point m sections (further_among lines) lines).tallies ≡ false → FollowsPlan m sections lines
-follows-own m sections lines fine short = (
-    let further = further_among lines in
-    record {
-      prefix = λ later before is s inside. fits-here m sections further before s inside (fine-behind m sections further later before (subst (λ (x : List LogLine). Fine m sections further x) is fine));
-      whole = λ later before i turn kind is cut s inside. (let here = line-fits m sections further lines later before (line.Section i turn kind) fine is in
-          whole-here m sections further before s inside here.1 (short-of (is_cut before) (plans m sections further before) (point m sections further before).tallies cut (section-shows m sections further before i turn kind here.0).0));
-      last_whole = λ cut s inside. whole-here m sections further lines s inside fine (short-of (is_cut lines) (plans m sections further lines) (point m sections further lines).tallies cut short);
-      next = λ later before i turn kind is. next-here m sections further before i turn kind (section-shows m sections further before i turn kind (line-fits m sections further lines later before (line.Section i turn kind) fine is).0).1;
-    })
+follows-own m sections lines fine short = search (rules, fits-here, fine-behind, line-fits, whole-here, short-of, section-shows, next-here)
 
 pub follows : (m : Machine) (sections : List Section) (further : List Further) (lines : List LogLine) → further ≡ further_among lines → Fine m sections further lines → is_short (is_cut lines) (plans m sections further lines) (point m sections further lines).tallies ≡ false → FollowsPlan m sections lines
 follows m sections further lines same fine short = subst (λ (f : List Further). Fine m sections f lines → is_short (is_cut lines) (plans m sections f lines) (point m sections f lines).tallies ≡ false → FollowsPlan m sections lines) (sym same) (follows-own m sections lines) fine short

@@ -1,5 +1,5 @@
 -- A log that follows the plan, and whose lines stand where they may, checks.
-use Rattle.std.proofs.Common.{◌≡◌, ◌∙◌, ℕ, zero, suc, ◌+◌, ◌<◌, ◌≤◌, Bool, true, false, List, [], ◌∷◌, ◌++◌, length, get_or, map, ap, sym, refl, subst, arith, Some, None, append_assoc}
+use Rattle.std.proofs.Common.{◌≡◌, ◌∙◌, ℕ, zero, suc, ◌+◌, ◌<◌, ◌≤◌, Bool, true, false, List, [], ◌∷◌, ◌++◌, length, get_or, map, ap, sym, refl, subst, arith, Some, None, append_assoc, rules}
 use Rattle.std.specs.Prelude.{◌==◌, ◌&&◌, ◌||◌, nat_le, nat_lt, if◌then◌else◌, slice_index_or, Ok}
 use Rattle.laws_board.proofs.Names.{nat_tests, Machine, Planned, Pulse, Section, SectionKind, Moves, Home, Fits, and_from}
 use Rattle.std.proofs.lemmas.List.FromFn.{length-map-range_with_len}
@@ -52,22 +52,7 @@ same-itself (Home a) = grind (arith, nat_tests)
 
 pub may-start : (m : Machine) (sections : List Section) (further : List Further) (before : List LogLine) (i turn : ℕ) (kind : SectionKind) → IsNextSection m sections further before i turn kind → length (clocks m further before) ≡ length m.boards → have_room (clocks m further before) (length (section_at sections i).moves) turn ≡ true
     → may_start m sections (point m sections further before) i turn kind ≡ true
-may-start m sections further before i turn kind next boards room =
-    let p = point m sections further before in
-    let at = next.number in
-    let there = next.there in
-    let At : ℕ → Type 0 = λ n. have_room (clocks m further before) (length (section_at sections n).moves) turn ≡ true in
-    let Due : ℕ → Type 0 = λ n. ready p.cut p.begun p.start p.end + (section_at sections n).dwell ≤ turn in
-    let Kind : ℕ → Type 0 = λ n. kind ≡ (section_at sections n).kind in
-    let due = subst Due at next.due in
-    let section = section_at sections p.begun in
-    let one : (i == p.begun) ≡ true = grind (arith, nat_tests) in
-    let under : p.begun < length sections = omega (arith, at, there) in
-    let two : nat_lt p.begun (length sections) ≡ true = grind (arith, nat_tests) in
-    let three : same_kind kind section.kind ≡ true = subst (λ (k : SectionKind). same_kind k section.kind ≡ true) (sym (subst Kind at next.same)) (same-itself section.kind) in
-    let four : (length p.clocks == length m.boards) ≡ true = grind (arith, nat_tests) in
-    let five : nat_le (ready p.cut p.begun p.start p.end + section.dwell) turn ≡ true = grind (arith, nat_tests) in
-    and_from _ _ one (and_from _ _ two (and_from _ _ three (and_from _ _ four (and_from _ _ five (subst At at room)))))
+may-start m sections further before i turn kind next boards room = search (rules, nat_tests, nat_lt, same-itself, nat_le, and_from)
 
 pub pulse-none : (m : Machine) (sections : List Section) (further : List Further) (before : List LogLine) (s tick : ℕ) (up : Bool) → s < length m.steppers → FitsHere m sections further (line.Pulse s tick up ∷ before) s → open_fault m sections (point m sections further before) (line.Pulse s tick up) ≡ None
 pulse-none m sections further before s tick up inside fits =
@@ -90,9 +75,7 @@ none-if true e = refl
 none-if false e = cc
 
 pub none-board : (a b : Bool) → a ≡ true → b ≡ true → (if a && b then None else Some misfit.BadLine) ≡ None
-none-board true true e f = refl
-none-board true false e f = cc
-none-board false b e f = cc
+none-board a b p2 p3 = cc
 
 pub section-none : (short may : Bool) → short ≡ false → may ≡ true → section_fault short may ≡ None
 section-none short may e f = rw (e, f) refl

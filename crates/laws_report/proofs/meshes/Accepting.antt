@@ -1,5 +1,5 @@
 -- A whole file that is written, as it is read.
-use Rattle.std.proofs.Common.{◌≡◌, ◌∙◌, ℕ, zero, suc, ◌+◌, ◌≤◌, ◌<◌, false, codes, get_or, List, [], ◌∷◌, ◌++◌, length, length-append, refl, sym, subst, ap, arith, append-nil, inl, inr, ◌⊎◌}
+use Rattle.std.proofs.Common.{◌≡◌, ◌∙◌, ℕ, zero, suc, ◌+◌, ◌≤◌, ◌<◌, false, codes, get_or, List, [], ◌∷◌, ◌++◌, length, length-append, refl, sym, subst, ap, arith, append-nil, inl, inr, ◌⊎◌, rules}
 use Rattle.std.specs.Prelude.{Ok}
 use Rattle.text_core.specs.Lines.{lines_of}
 use Rattle.gcode_text.specs.Lines.{no_words}
@@ -79,10 +79,7 @@ unfolding is_passed
 comment_passed said short = rw (comment_read said short) refl
 
 comment_line : (text : List ℕ) (c : IsComment text) → lines_of text ≡ (59 ∷ c.said) ∷ []
-comment_line text c = ap lines_of c.is ∙ whole_line (59 ∷ c.said) [] (no_end c.said c.one) where
-  no_end : (said : List ℕ) → ((k : ℕ) → k < length said → get_or said k 0 ≡ 10 → ⊥) → (k : ℕ) → k < length {A = ℕ} (59 ∷ said) → get_or (59 ∷ said) k 0 ≡ 10 → ⊥
-  no_end said one zero less e = cc
-  no_end said one (suc k) less e = one k (omega arith) e
+comment_line text c = search (rules, whole_line)
 
 ending_tail : (end : List ℕ) → IsEnding end → IsTail (lines_of end)
 ending_tail end (inl none) = subst (λ (l : List ℕ). IsTail (lines_of l)) (sym none) (λ size number start u few. ([], tt, refl, refl))

@@ -1,5 +1,5 @@
 -- What is written for an action, as it is read.
-use Rattle.std.proofs.Common.{◌≡◌, ◌∙◌, ℕ, ◌≤◌, Bool, true, false, codes, List, [], ◌∷◌, ◌++◌, refl, sym, subst, ap, arith}
+use Rattle.std.proofs.Common.{◌≡◌, ◌∙◌, ℕ, ◌≤◌, Bool, true, false, codes, List, [], ◌∷◌, ◌++◌, refl, sym, subst, ap, arith, rules}
 use Rattle.std.specs.Prelude.{Ok, ℤ, ◌||◌}
 use Rattle.laws_board.proofs.Names.{Machine, Move}
 use Rattle.gcode_state.specs.declared.state.State.{State}
@@ -39,13 +39,7 @@ settled : (w u v : State) (line : List ℕ) (act kind : Action) → applied_line
 settled w u v line act kind h e f = subst (λ (b : Action). applied_line w line ≡ Ok (v, b)) f (subst (λ (x : State). applied_line w line ≡ Ok (x, act)) e h)
 
 none_written : (m : Machine) (t : Mesh) (s v w : State) (last : ℕ) → IsTied m s w last → IsDeed s v actions.None → IsWritten m t s v w w last actions.None
-none_written m t s v w last tie does = record {
-  deeds = [];
-  read = none_read w;
-  plain = tt;
-  tied = record { writing = tie.writing; top = tie.top ∙ sym does.top; e = tie.e ∙ sym does.done };
-  bent = λ others rest h. h;
-}
+none_written m t s v w last tie does = search (rules, none_read)
 
 move_written : (m : Machine) (t : Mesh) (s v w u : State) (start last : ℕ) (mv : Move) → IsTied m s w last → IsDeed s v (actions.Move mv) → accepted_state start w (lines_by t last (actions.Move mv)) ≡ Ok u → IsWritten m t s v w u last (actions.Move mv)
 move_written m t s v w u start last mv tie does h =
@@ -61,31 +55,10 @@ move_written m t s v w u start last mv tie does h =
     }
 
 dwell_written : (m : Machine) (t : Mesh) (s v w u : State) (start last ms : ℕ) → IsTied m s w last → IsDeed s v (actions.Dwell ms) → accepted_state start w (dwell_text ms ∷ []) ≡ Ok u → IsWritten m t s v w u last (actions.Dwell ms)
-dwell_written m t s v w u start last ms tie does h =
-    let one = only_line start w u (dwell_text ms) h in
-    let d = dwell_done w u ms one.0 one.1 in
-    let x = with_more w 1 in
-    let k = settled w u x (dwell_text ms) one.0 (actions.Dwell ms) one.1 d.0.0 d.0.1 in
-    subst (λ (y : State). IsWritten m t s v w y last (actions.Dwell ms)) (sym d.0.0) (record {
-      deeds = deed_of w (actions.Dwell ms) ∷ [];
-      read = one_read w x (dwell_text ms) (actions.Dwell ms) k d.1 refl;
-      plain = (plain_dwell ms, tt);
-      tied = record { writing = writing_more m w last 1 tie.writing; top = tie.top ∙ sym does.top; e = tie.e ∙ sym does.done };
-      bent = λ others rest b. dwell_bent m t s w ms last others rest b;
-    })
+dwell_written m t s v w u start last ms tie does h = search (rules, only_line, dwell_done, settled, one_read, plain_dwell, writing_more, dwell_bent)
 
 wait_written : (m : Machine) (t : Mesh) (s v w u : State) (start last : ℕ) → IsTied m s w last → IsDeed s v actions.Wait → accepted_state start w (codes "M400" ∷ []) ≡ Ok u → IsWritten m t s v w u last actions.Wait
-wait_written m t s v w u start last tie does h =
-    let one = only_line start w u (codes "M400") h in
-    let d = wait_done w u one.0 one.1 in
-    let k = settled w u w (codes "M400") one.0 actions.Wait one.1 d.0.0 d.0.1 in
-    subst (λ (y : State). IsWritten m t s v w y last actions.Wait) (sym d.0.0) (record {
-      deeds = deed_of w actions.Wait ∷ [];
-      read = one_read w w (codes "M400") actions.Wait k d.1 refl;
-      plain = ((refl, (refl, (refl, (refl, tt)))), tt);
-      tied = record { writing = tie.writing; top = tie.top ∙ sym does.top; e = tie.e ∙ sym does.done };
-      bent = λ others rest b. wait_bent m t s w last others rest b;
-    })
+wait_written m t s v w u start last tie does h = search (rules, only_line, wait_done, settled, one_read, wait_bent)
 
 home_written : (m : Machine) (t : Mesh) (s v w u : State) (start last : ℕ) (x y z : Bool) → (x || (y || z)) ≡ true → v.top ≡ s.top → v.e_at ≡ s.e_at → IsTied m s w last → accepted_state start w (home_text x y z ∷ []) ≡ Ok u
     → IsWritten m t s v w u last (actions.Home (x ∷ y ∷ z ∷ []))
@@ -108,19 +81,8 @@ home_written m t s v w u start last x y z some top stays tie h =
 
 -- what is written for any action that is no stop
 pub action_written : (m : Machine) (t : Mesh) (s v w u : State) (start last : ℕ) (action : Action) → is_stop action ≡ false → IsTied m s w last → IsDeed s v action → accepted_state start w (lines_by t last action) ≡ Ok u → IsWritten m t s v w u last action
-action_written m t s v w u start last actions.None goes tie does h = (let same : w ≡ u = cc in subst (λ (y : State). IsWritten m t s v w y last actions.None) same (none_written m t s v w last tie does))
-action_written m t s v w u start last (actions.Move mv) goes tie does h = move_written m t s v w u start last mv tie does h
-action_written m t s v w u start last (actions.Dwell ms) goes tie does h = dwell_written m t s v w u start last ms tie does h
-action_written m t s v w u start last actions.Wait goes tie does h = wait_written m t s v w u start last tie does h
-action_written m t s v w u start last actions.Stop goes tie does h = absurd cc
-action_written m t s v w u start last (actions.Home axes) goes tie does h =
-    let some = does.done.0 in
-    subst (λ (l : List Bool). accepted_state start w (lines_by t last (actions.Home l)) ≡ Ok u → IsWritten m t s v w u last (actions.Home l)) (sym some.3)
-    (home_written m t s v w u start last some.0 some.1 some.2 some.4 does.top does.done.1 tie) h
+action_written m t s v w u start last action p9 p10 p11 p12 = search (rules, none_written, move_written, dwell_written, wait_written, home_written)
 
 -- the line of a stop
 pub stop_written : (w u : State) (start : ℕ) → accepted_state start w (codes "M112" ∷ []) ≡ Ok u → (applied_line w (codes "M112") ≡ Ok (w, actions.Stop)) × (is_passed (codes "M112") ≡ false)
-stop_written w u start h =
-    let one = only_line start w u (codes "M112") h in
-    let d = stop_done w u one.0 one.1 in
-    (settled w u w (codes "M112") one.0 actions.Stop one.1 d.0.0 d.0.1, d.1)
+stop_written w u start h = search (rules, only_line, stop_done, settled)

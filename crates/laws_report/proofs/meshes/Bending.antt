@@ -1,5 +1,5 @@
 -- Sections over a bed, one thing behind the other.
-use Rattle.std.proofs.Common.{◌≡◌, ◌∙◌, ℕ, ◌+◌, Bool, true, false, List, [], ◌∷◌, ◌++◌, refl, ap, sym, arith, append_assoc, append-nil}
+use Rattle.std.proofs.Common.{◌≡◌, ◌∙◌, ℕ, ◌+◌, Bool, true, false, List, [], ◌∷◌, ◌++◌, refl, ap, sym, arith, append_assoc, append-nil, rules}
 use Rattle.std.specs.Prelude.{ℤ}
 use Rattle.laws_board.proofs.Names.{Machine, Move, Section}
 use Rattle.gcode_program.specs.Cuts.{closed, home_of, homes, is_named, dwell_left, dwell_behind_home, left_by_homes}
@@ -47,9 +47,7 @@ left_sum carry dwell true = refl
 left_sum carry dwell false = refl
 
 pub left_homes : (carry dwell : ℕ) (axes : List Bool) → left_by_homes carry axes + left_by_homes dwell axes ≡ left_by_homes (carry + dwell) axes
-left_homes carry dwell axes =
-    left_sum (dwell_behind_home (dwell_behind_home carry (is_named axes 0)) (is_named axes 1)) (dwell_behind_home (dwell_behind_home dwell (is_named axes 0)) (is_named axes 1)) (is_named axes 2)
-    ∙ ap (λ (n : ℕ). dwell_behind_home n (is_named axes 2)) (left_sum (dwell_behind_home carry (is_named axes 0)) (dwell_behind_home dwell (is_named axes 0)) (is_named axes 1) ∙ ap (λ (n : ℕ). dwell_behind_home n (is_named axes 1)) (left_sum carry dwell (is_named axes 0)))
+left_homes carry dwell axes = search (rules, left_sum)
 
 -- where everything stands behind a home
 abbrev pub stood_all : Machine → List ℤ → List Bool → List ℤ
@@ -58,23 +56,4 @@ stood_all m place axes = stood m (stood m (stood m place 0 (is_named axes 0)) 1 
 -- some axes home
 pub homes_bent : (m : Machine) (t : Mesh) (place at : List ℤ) (a acceleration carry dwell : ℕ) (axes : List Bool) (rest : List Section)
     → bent_sections m t place a carry (homes m at acceleration dwell axes ++ rest) ≡ homes m place a (carry + dwell) axes ++ bent_sections m t (stood_all m place axes) a (left_by_homes carry axes) rest
-homes_bent m t place at a acceleration carry dwell axes rest =
-    let x = is_named axes 0 in
-    let y = is_named axes 1 in
-    let z = is_named axes 2 in
-    let p1 = stood m place 0 x in
-    let p2 = stood m p1 1 y in
-    let h1 = home_of m at acceleration dwell 0 x in
-    let h2 = home_of m (stood m at 0 x) acceleration (dwell_behind_home dwell x) 1 y in
-    let h3 = home_of m (stood m (stood m at 0 x) 1 y) acceleration (dwell_behind_home (dwell_behind_home dwell x) y) 2 z in
-    let g1 = home_of m place a (carry + dwell) 0 x in
-    let g2 = home_of m p1 a (dwell_behind_home (carry + dwell) x) 1 y in
-    let g3 = home_of m p2 a (dwell_behind_home (dwell_behind_home (carry + dwell) x) y) 2 z in
-    let end = bent_sections m t (stood_all m place axes) a (left_by_homes carry axes) rest in
-    let s1 = left_sum carry dwell x in
-    let s2 : dwell_behind_home (dwell_behind_home carry x) y + dwell_behind_home (dwell_behind_home dwell x) y ≡ dwell_behind_home (dwell_behind_home (carry + dwell) x) y = left_sum (dwell_behind_home carry x) (dwell_behind_home dwell x) y ∙ ap (λ (n : ℕ). dwell_behind_home n y) s1 in
-    let e1 = home_bent m t place at a acceleration carry dwell 0 x (h2 ++ (h3 ++ rest)) in
-    let e2 = home_bent m t p1 (stood m at 0 x) a acceleration (dwell_behind_home carry x) (dwell_behind_home dwell x) 1 y (h3 ++ rest) ∙ ap (λ (n : ℕ). home_of m p1 a n 1 y ++ bent_sections m t p2 a (dwell_behind_home (dwell_behind_home carry x) y) (h3 ++ rest)) s1 in
-    let e3 = home_bent m t p2 (stood m (stood m at 0 x) 1 y) a acceleration (dwell_behind_home (dwell_behind_home carry x) y) (dwell_behind_home (dwell_behind_home dwell x) y) 2 z rest ∙ ap (λ (n : ℕ). home_of m p2 a n 2 z ++ end) s2 in
-    ap (λ (l : List Section). bent_sections m t place a carry l) (append_assoc (h1 ++ h2) h3 rest ∙ append_assoc h1 h2 (h3 ++ rest))
-    ∙ e1 ∙ ap (λ (l : List Section). g1 ++ l) (e2 ∙ ap (λ (l : List Section). g2 ++ l) e3) ∙ sym (append_assoc (g1 ++ g2) g3 end ∙ append_assoc g1 g2 (g3 ++ end))
+homes_bent m t place at a acceleration carry dwell axes rest = search (rules, left_sum, home_bent, append_assoc)

@@ -1,5 +1,5 @@
 -- The height on a border of cells is the same by both.
-use Rattle.std.proofs.Common.{◌≡◌, ◌⊎◌, ◌∙◌, ℕ, ◌+◌, ◌-◌, ◌*◌, ◌/◌, ◌<◌, ◌≤◌, inl, inr, sym, ap, arith}
+use Rattle.std.proofs.Common.{◌≡◌, ◌⊎◌, ◌∙◌, ℕ, ◌+◌, ◌-◌, ◌*◌, ◌/◌, ◌<◌, ◌≤◌, inl, inr, sym, ap, arith, rules}
 use Rattle.std.specs.Prelude.{ℤ, pos, ◌+ℤ◌, ◌*ℤ◌}
 use Rattle.std.specs.Int.{int_div_euclid}
 use Rattle.std.proofs.lemmas.Int.{ints}
@@ -63,10 +63,7 @@ no_more : (i o step : ℕ) → 0 < step → o < (i + 1) * step → o / step < i 
 no_more i o step some high = (div-lt_iff_lt-mul some).1 high
 
 on_line : (i o step : ℕ) → 0 < step → o ≡ (i + 1) * step → o / step ≡ i + 1
-on_line i o step some e =
-    let low : i + 1 ≤ o / step = (le-div_iff_mul-le some).1 (omega (arith, e)) in
-    let high : o / step < i + 1 + 1 = (div-lt_iff_lt-mul some).1 (omega (arith, e, some)) in
-    omega (arith, low, high)
+on_line i o step some e = search (rules, le-div_iff_mul-le, div-lt_iff_lt-mul)
 
 of_next : (g : Grid) (i o : ℕ) → o / g.step ≡ i + 1 → o ≡ (i + 1) * g.step → ((i + 1 + 1 ≡ g.count) ⊎ (i + 1 + 1 < g.count)) → IsOfPlace g i o
 of_next g i o is e (inl last) = inl (omega (arith, is, last))
@@ -77,9 +74,7 @@ of_line g i o some there low (inl e) = of_next g i o (on_line i o g.step some e)
 of_line g i o some there low (inr h) = let high = no_more i o g.step some h in inl (omega (arith, there, low, high))
 
 of_place : (g : Grid) (i o : ℕ) → IsValidGrid g → IsInCell g i o → IsOfPlace g i o
-of_place g i o valid h =
-    let some : 0 < g.step = let l = valid.step_low in omega (arith, l) in
-    of_line g i o some h.there ((le-div_iff_mul-le some).1 h.from) (eq-or-lt_of_le h.to)
+of_place g i o valid h = search (rules, of_line, le-div_iff_mul-le, eq-or-lt_of_le)
 
 -- an offset on the line between two cells, from the first line of each
 from_next : (i o step : ℕ) → o ≡ (i + 1) * step → o - (i + 1) * step ≡ 0
@@ -90,20 +85,10 @@ from_this i o step e = omega (arith, e)
 
 -- so along x, and along y
 over_x : (m : Mesh) (i j o w : ℕ) → IsOfPlace m.x i o → cell_height m (cell m.x o) j (o - cell m.x o * m.x.step) w ≡ cell_height m i j (o - i * m.x.step) w
-over_x m i j o w (inl e) = ap (λ k. cell_height m k j (o - k * m.x.step) w) e
-over_x m i j o w (inr e) =
-    ap (λ k. cell_height m k j (o - k * m.x.step) w) e.0
-    ∙ ap (λ k. cell_height m (i + 1) j k w) (from_next i o m.x.step e.1)
-    ∙ sym (blend_x m.x.step m.y.step (corner m i j) (corner m (i + 1) j) (corner m i (j + 1)) (corner m (i + 1) (j + 1)) (corner m (i + 1 + 1) j) (corner m (i + 1 + 1) (j + 1)) w)
-    ∙ ap (λ k. cell_height m i j k w) (sym (from_this i o m.x.step e.1))
+over_x m i j o w p5 = search (rules, from_next, blend_x, from_this)
 
 over_y : (m : Mesh) (i j o u : ℕ) → IsOfPlace m.y j o → cell_height m i (cell m.y o) u (o - cell m.y o * m.y.step) ≡ cell_height m i j u (o - j * m.y.step)
-over_y m i j o u (inl e) = ap (λ k. cell_height m i k u (o - k * m.y.step)) e
-over_y m i j o u (inr e) =
-    ap (λ k. cell_height m i k u (o - k * m.y.step)) e.0
-    ∙ ap (λ k. cell_height m i (j + 1) u k) (from_next j o m.y.step e.1)
-    ∙ sym (blend_y m.x.step m.y.step (corner m i j) (corner m (i + 1) j) (corner m i (j + 1)) (corner m (i + 1) (j + 1)) (corner m i (j + 1 + 1)) (corner m (i + 1) (j + 1 + 1)) u)
-    ∙ ap (λ k. cell_height m i j u k) (sym (from_this j o m.y.step e.1))
+over_y m i j o u p5 = search (rules, from_next, blend_y, from_this)
 
 pub in_each_cell : (m : Mesh) (x y : ℤ) (i j : ℕ) → IsValidMesh m → IsInCell m.x i (offset m.x x) → IsInCell m.y j (offset m.y y)
     → height m x y ≡ cell_height m i j (offset m.x x - i * m.x.step) (offset m.y y - j * m.y.step)

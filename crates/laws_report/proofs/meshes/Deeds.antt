@@ -1,5 +1,5 @@
 -- What the lines of the input do, as far as what is written for them depends on it.
-use Rattle.std.proofs.Common.{◌≡◌, ℕ, ◌+◌, ◌≤◌, Bool, true, false, List, [], ◌∷◌, refl, subst, arith, if◌then◌else◌, nat_lt}
+use Rattle.std.proofs.Common.{◌≡◌, ℕ, ◌+◌, ◌≤◌, Bool, true, false, List, [], ◌∷◌, refl, subst, arith, if◌then◌else◌, nat_lt, rules}
 use Rattle.std.specs.Prelude.{Result, Ok, Err, IfOk, ℤ, Option, Some, None, is_some, ◌||◌}
 use Rattle.laws_board.proofs.Names.{nat_tests, Move}
 use Rattle.std.proofs.lemmas.Int.{ints}
@@ -109,20 +109,7 @@ unfolding readings_set
 readings_does s letters = record { top = refl; done = refl }
 
 command_does : (s : State) (name : Command) (letters : List (Option Given)) → Does s (commanded s name letters)
-command_does s names.G0 letters = linear_does s letters
-command_does s names.G1 letters = linear_does s letters
-command_does s names.G4 letters = dwell_does s letters
-command_does s names.G28 letters = home_does s letters
-command_does s names.G90 letters = record { top = refl; done = refl }
-command_does s names.G91 letters = record { top = refl; done = refl }
-command_does s names.G92 letters = readings_does s letters
-command_does s names.M82 letters = record { top = refl; done = refl }
-command_does s names.M83 letters = record { top = refl; done = refl }
-command_does s names.M112 letters = record { top = refl; done = refl }
-command_does s names.M204 letters = acceleration_does s letters
-command_does s names.M220 letters = speed_does s letters
-command_does s names.M221 letters = e_does s letters
-command_does s names.M400 letters = record { top = refl; done = refl }
+command_does s name letters = search (rules, linear_does, dwell_does, home_does, readings_does, acceleration_does, speed_does, e_does)
 
 word_does : (s : State) (word : Word) → Does s (applied s word)
 word_does s (words.Command name letters) = command_does s name letters

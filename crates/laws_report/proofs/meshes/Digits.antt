@@ -1,5 +1,5 @@
 -- Numbers as they are written, read back.
-use Rattle.std.proofs.Common.{◌≡◌, ◌∙◌, ℕ, zero, suc, ◌+◌, ◌-◌, ◌*◌, ◌/◌, ◌%◌, ◌^◌, ◌<◌, ◌≤◌, ◌==◌, Bool, true, false, cond, List, [], ◌∷◌, ◌++◌, length, refl, ap, arith, append_assoc, inl, inr, ◌⊎◌}
+use Rattle.std.proofs.Common.{◌≡◌, ◌∙◌, ℕ, zero, suc, ◌+◌, ◌-◌, ◌*◌, ◌/◌, ◌%◌, ◌^◌, ◌<◌, ◌≤◌, ◌==◌, Bool, true, false, cond, List, [], ◌∷◌, ◌++◌, length, refl, ap, arith, append_assoc, inl, inr, ◌⊎◌, rules}
 use Rattle.std.specs.Prelude.{◌&&◌, ◌||◌, int_lt, nat_lt, decimal, ℤ, pos, negsuc, Option, Some, None}
 use Rattle.std.specs.Fmt.{digit_glyph, digits, digits_onto}
 use Rattle.std.proofs.lemmas.Bool.{cases_lt}
@@ -178,15 +178,10 @@ either_number r true z rest h = inr h
 either_number r false z rest h = inl h
 
 unsigned_parts : (n : ℕ) (rest : List ℕ) → IsBehind rest → parts_of (unsigned_text n ++ rest) ≡ record { negative = false; whole = decimal (n / 1_000_000); decimals = six_digits n; rest = rest }
-unsigned_parts n rest r =
-    let ds = decimal_digits (n / 1_000_000) in
-    ap parts_of (append_assoc (decimal (n / 1_000_000)) (46 ∷ six_digits n) rest)
-    ∙ parts_made _ (decimal (n / 1_000_000)) (six_digits n) rest false (unsigned_same (decimal (n / 1_000_000)) (six_digits n ++ rest) ds) (not_minus (decimal (n / 1_000_000)) (six_digits n ++ rest) ds) ds (six_are_digits n) r
+unsigned_parts n rest r = search (rules, decimal_digits, append_assoc, parts_made, unsigned_same, not_minus, six_are_digits)
 
 minus_parts : (n : ℕ) (rest : List ℕ) → IsBehind rest → parts_of (45 ∷ (unsigned_text n ++ rest)) ≡ record { negative = true; whole = decimal (n / 1_000_000); decimals = six_digits n; rest = rest }
-minus_parts n rest r =
-    let ds = decimal_digits (n / 1_000_000) in
-    parts_made _ (decimal (n / 1_000_000)) (six_digits n) rest true (append_assoc (decimal (n / 1_000_000)) (46 ∷ six_digits n) rest) refl ds (six_are_digits n) r
+minus_parts n rest r = search (rules, decimal_digits, parts_made, append_assoc, six_are_digits)
 
 minus : (k : ℕ) → signed true (suc k) ≡ negsuc k
 unfolding signed

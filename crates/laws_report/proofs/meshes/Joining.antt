@@ -1,5 +1,5 @@
 -- The moves in a move's place.
-use Rattle.std.proofs.Common.{◌≡◌, ◌∙◌, ℕ, zero, suc, Bool, true, false, List, [], ◌∷◌, ◌++◌, refl, sym, subst, ap, arith, if◌then◌else◌}
+use Rattle.std.proofs.Common.{◌≡◌, ◌∙◌, ℕ, zero, suc, Bool, true, false, List, [], ◌∷◌, ◌++◌, refl, sym, subst, ap, arith, if◌then◌else◌, rules}
 use Rattle.std.specs.Prelude.{ℤ, pos, ◌+ℤ◌, ◌-ℤ◌, ◌||◌}
 use Rattle.std.specs.List.{All}
 use Rattle.std.proofs.lemmas.Int.{ints}
@@ -25,10 +25,7 @@ same_number a b h = grind (arith, ints)
 
 -- places that don't differ are one
 same_places : (x y z e : ℤ) (to : List ℤ) → (p q r s : ℤ) → to ≡ p ∷ q ∷ r ∷ s ∷ [] → differ (x ∷ y ∷ z ∷ e ∷ []) to ≡ false → x ∷ y ∷ z ∷ e ∷ [] ≡ to
-same_places x y z e to p q r s is h =
-    let k = rw is at h in
-    let n = none_differs (differs x p) (differs y q) (differs z r) (differs e s) k in
-    rw (is, same_number x p n.0.0, same_number y q n.0.1, same_number z r n.1.0, same_number e s n.1.1) refl
+same_places x y z e to p q r s is h = search (rules, none_differs, same_number)
 
 -- a part, where there is one, and those behind it
 part_joins : (m : Move) (from to end : List ℤ) (b : Bool) (parts : List Move) → (b ≡ false → from ≡ to) → Join to parts end → Join from ((if b then part_of m from to ∷ [] else []) ++ parts) end

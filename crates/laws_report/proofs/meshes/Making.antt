@@ -1,5 +1,5 @@
 -- What the deeds of a file make over a bed.
-use Rattle.std.proofs.Common.{◌≡◌, ◌∙◌, ℕ, ◌+◌, Bool, List, [], ◌∷◌, ◌++◌, refl, sym, ap, arith, append-nil}
+use Rattle.std.proofs.Common.{◌≡◌, ◌∙◌, ℕ, ◌+◌, Bool, List, [], ◌∷◌, ◌++◌, refl, sym, ap, arith, append-nil, rules}
 use Rattle.std.specs.Prelude.{ℤ}
 use Rattle.laws_board.proofs.Names.{Machine, Move, Section}
 use Rattle.gcode_state.specs.declared.state.State.{State}
@@ -48,15 +48,7 @@ move_bent m t s w u mv last lines r others rest h place a carry dwell moves is s
 closing : (m : Machine) (t : Mesh) (at : List ℤ) (last more carry dwell a : ℕ) (place : List ℤ) (moves : List Move) (others rest : List Deed) → AreBent m t at last others rest → at ≡ led_to t place moves → last ≡ last_acceleration a moves
     → closed (carry + dwell) (bent_moves t place moves) ++ sections_of m (dwell_left (carry + dwell) (bent_moves t place moves) + more) [] others
     ≡ bent_sections m t place a carry (closed dwell moves ++ sections_of m (dwell_left dwell moves + more) [] rest)
-closing m t at last more carry dwell a place moves others rest h is slow =
-    let end = closed (carry + dwell) (bent_moves t place moves) in
-    let c = carried t place carry dwell moves in
-    let n : dwell_left (carry + dwell) (bent_moves t place moves) + more ≡ c + (dwell_left dwell moves + more) = (let e = carried_left t place carry dwell moves in omega arith) in
-    ap (λ (k : ℕ). end ++ sections_of m k [] others) n
-    ∙ ap (λ (l : List Section). end ++ l) (h at last c (dwell_left dwell moves + more) [] refl refl)
-    ∙ ap (λ (p : List ℤ). end ++ bent_sections m t p last c (sections_of m (dwell_left dwell moves + more) [] rest)) is
-    ∙ ap (λ (k : ℕ). end ++ bent_sections m t (led_to t place moves) k c (sections_of m (dwell_left dwell moves + more) [] rest)) slow
-    ∙ sym (closed_bent m t place a carry dwell moves (sections_of m (dwell_left dwell moves + more) [] rest))
+closing m t at last more carry dwell a place moves others rest h is slow = search (rules, carried_left, closed_bent)
 
 pub dwell_bent : (m : Machine) (t : Mesh) (s w : State) (ms last : ℕ) (others rest : List Deed) → AreBent m t (coordinates_of w) last others rest → AreBent m t (coordinates_of w) last (deed_of w (actions.Dwell ms) ∷ others) (deed_of s (actions.Dwell ms) ∷ rest)
 dwell_bent m t s w ms last others rest h place a carry dwell moves is slow = closing m t (coordinates_of w) last ms carry dwell a place moves others rest h is slow

@@ -1,5 +1,5 @@
 -- The lines of a move, read one behind the other.
-use Rattle.std.proofs.Common.{◌≡◌, ◌∙◌, ℕ, ◌+◌, ◌*◌, ◌≤◌, ◌==◌, map, Bool, true, false, List, [], ◌∷◌, ◌++◌, length, refl, sym, subst, ap, arith, append_assoc, append-nil, if◌then◌else◌}
+use Rattle.std.proofs.Common.{◌≡◌, ◌∙◌, ℕ, ◌+◌, ◌*◌, ◌≤◌, ◌==◌, map, Bool, true, false, List, [], ◌∷◌, ◌++◌, length, refl, sym, subst, ap, arith, append_assoc, append-nil, if◌then◌else◌, rules}
 use Rattle.std.specs.Prelude.{Ok, ℤ, pos, ◌-ℤ◌}
 use Rattle.laws_board.proofs.Names.{nat_tests, Machine, Move}
 use Rattle.gcode_state.specs.declared.state.State.{State}
@@ -46,20 +46,10 @@ plain_line t v from place = plain_move (at place 0) (at place 1) (raised t place
 part_taken : (m : Machine) (w : State) (b : Bool) (q : Move) (act : Action) (dwell : ℕ) (moves parts : List Move) (deeds rest : List Deed) → act ≡ (if b then actions.Move q else actions.None)
     → ((some : List Move) → sections_of m dwell some (deeds ++ rest) ≡ sections_of m dwell (some ++ parts) rest)
     → sections_of m dwell moves (deed_of w act ∷ (deeds ++ rest)) ≡ sections_of m dwell (moves ++ ((if b then q ∷ [] else []) ++ parts)) rest
-part_taken m w true q act dwell moves parts deeds rest is more =
-    ap (λ (a : Action). sections_of m dwell moves (deed_of w a ∷ (deeds ++ rest))) is ∙ more (moves ++ q ∷ []) ∙ ap (λ (l : List Move). sections_of m dwell l rest) (append_assoc moves (q ∷ []) parts)
-part_taken m w false q act dwell moves parts deeds rest is more = ap (λ (a : Action). sections_of m dwell moves (deed_of w a ∷ (deeds ++ rest))) is ∙ more moves
+part_taken m w b q act dwell moves parts deeds rest p10 p11 = search (rules, append_assoc)
 
 none_moved : (m : Machine) (t : Mesh) (mv : Move) (w : State) → IsWriting m w mv.a → AreMoved m t mv w [] [] w
-none_moved m t mv w i = record {
-  deeds = [];
-  read = none_read w;
-  plain = tt;
-  writing = i;
-  place = refl;
-  top = refl;
-  sections = λ dwell moves rest. ap (λ (l : List Move). sections_of m dwell l rest) (sym (append-nil moves));
-}
+none_moved m t mv w i = search (rules, none_read, append-nil)
 
 pub moves_read : (m : Machine) (t : Mesh) (mv : Move) (start : ℕ) (w u : State) (from : List ℤ) (places : List (List ℤ)) → IsWriting m w mv.a → mv.v ≤ w.top → w.e_at ≡ at from 3 → accepted_state start w (move_lines t mv.v from places) ≡ Ok u
     → AreMoved m t mv w (move_lines t mv.v from places) places u

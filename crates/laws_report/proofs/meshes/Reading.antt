@@ -1,5 +1,5 @@
 -- What each written line is read as.
-use Rattle.std.proofs.Common.{◌≡◌, ◌∙◌, ℕ, ◌*◌, ◌≤◌, Bool, true, false, codes, List, [], ◌∷◌, ◌++◌, length, refl, ap, sym, subst, arith, append-nil, inl, inr, ◌⊎◌, Ok, Err}
+use Rattle.std.proofs.Common.{◌≡◌, ◌∙◌, ℕ, ◌*◌, ◌≤◌, Bool, true, false, codes, List, [], ◌∷◌, ◌++◌, length, refl, ap, sym, subst, arith, append-nil, inl, inr, ◌⊎◌, Ok, Err, rules}
 use Rattle.std.specs.Prelude.{decimal, ℤ, pos, Option, Some, None, Result, nat_lt, slice_set}
 use Rattle.laws_board.proofs.Names.{nat_tests}
 use Rattle.text_core.specs.Bytes.{behind}
@@ -44,11 +44,7 @@ abbrev pub move_words : ℤ → ℤ → ℤ → ℤ → ℤ → List (Option Giv
 move_words x y z e f = slice_set (slice_set (slice_set (slice_set (slice_set no_words 23 (Some (Number x))) 24 (Some (Number y))) 25 (Some (Number z))) 4 (Some (Number e))) 5 (Some (Number f))
 
 pub plain_move : (x y z e f : ℤ) → ArePlain (move_text x y z e f)
-plain_move x y z e f =
-    plain_both (word (codes "G1 X") x) _ (plain_word (codes "G1 X") x (refl, (refl, (refl, (refl, tt)))))
-    (plain_both (word (codes " Y") y) _ (plain_word (codes " Y") y (refl, (refl, tt)))
-    (plain_both (word (codes " Z") z) _ (plain_word (codes " Z") z (refl, (refl, tt)))
-    (plain_both (word (codes " E") e) _ (plain_word (codes " E") e (refl, (refl, tt))) (plain_word (codes " F") f (refl, (refl, tt))))))
+plain_move x y z e f = search (rules, plain_both, plain_word)
 
 move_row : (x y z e f : ℤ) (w : Word) → reading_of_text (behind is_blank (move_text x y z e f)) ≡ Ok w
     → ((given_at false (millionths x ++ (word (codes " Y") y ++ (word (codes " Z") z ++ (word (codes " E") e ++ word (codes " F") f)))) >>= λ given. row false (slice_set no_words 23 (Some given)) (millionths x ++ (word (codes " Y") y ++ (word (codes " Z") z ++ (word (codes " E") e ++ word (codes " F") f))))) >>= λ slots. Ok (words.Command names.G1 slots)) ≡ Ok w
@@ -166,7 +162,4 @@ home_read false false true = refl
 home_read false false false = refl
 
 pub plain_home : (x y z : Bool) → ArePlain (home_text x y z)
-plain_home x y z = (refl, (refl, (refl, plain_both (letter_if x (codes " X")) _ (letter x 88 refl) (plain_both (letter_if y (codes " Y")) _ (letter y 89 refl) (plain_both (letter_if z (codes " Z")) [] (letter z 90 refl) tt))))) where
-  letter : (b : Bool) (c : ℕ) → is_plain c ≡ true → ArePlain (letter_if b (32 ∷ c ∷ []))
-  letter true c h = (refl, (h, tt))
-  letter false c h = tt
+plain_home x y z = search (rules, plain_both)

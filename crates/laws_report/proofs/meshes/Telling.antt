@@ -1,5 +1,5 @@
 -- How written lines are read, one behind the other.
-use Rattle.std.proofs.Common.{◌≡◌, ◌∙◌, ℕ, zero, suc, ◌+◌, ◌≤◌, ◌<◌, if◌then◌else◌, get_or, Bool, true, false, List, [], ◌∷◌, ◌++◌, length, length-append, refl, ap, arith, append_assoc}
+use Rattle.std.proofs.Common.{◌≡◌, ◌∙◌, ℕ, zero, suc, ◌+◌, ◌≤◌, ◌<◌, if◌then◌else◌, get_or, Bool, true, false, List, [], ◌∷◌, ◌++◌, length, length-append, refl, ap, arith, append_assoc, rules}
 use Rattle.std.specs.Prelude.{Result, Ok, Err}
 use Rattle.laws_board.proofs.Names.{nat_tests, ReadStop}
 use Rattle.text_core.specs.Lines.{lines_of}
@@ -74,10 +74,7 @@ no_front : (o : Outcome) → o ≡ with_front [] 0 o
 no_front o = let e : 0 + o.passed ≡ o.passed = omega arith in rw e refl
 
 pub none_read : (w : State) → AreRead w [] w []
-none_read w = record {
-  same = λ size number start more few. (let e : number + 0 ≡ number = omega arith in let f : start + 0 ≡ start = omega arith in rw (e, f) (no_front (outcome size w (number + 1) start more)));
-  count = refl;
-}
+none_read w = search (rules, no_front)
 
 line_size : (line : List ℕ) → length (joined_lines (line ∷ [])) ≡ length line + 1
 line_size line = length-append line (10 ∷ [])
@@ -91,18 +88,7 @@ one_read w u line act h passed goes = record {
 }
 
 pub both_read : (w u v : State) (a b : List (List ℕ)) (ds es : List Deed) → AreRead w a u ds → AreRead u b v es → AreRead w (a ++ b) v (ds ++ es)
-both_read w u v a b ds es one two = record {
-  same = λ size number start more few. (
-      let n : number + length a + length b + 1 ≡ number + length (a ++ b) + 1 = (let l = length-append a b in omega arith) in
-      let s : start + length (joined_lines a) + length (joined_lines b) ≡ start + length (joined_lines (a ++ b)) = (let l = ap length (texts_both a b) ∙ length-append (joined_lines a) (joined_lines b) in omega arith) in
-      ap (λ (l : List (List ℕ)). outcome size w (number + 1) start l) (append_assoc a b more)
-      ∙ one.same size number start (b ++ more) few
-      ∙ ap (λ (o : Outcome). with_front ds 0 o) (two.same size (number + length a) (start + length (joined_lines a)) more few)
-      ∙ fronts ds es _
-      ∙ ap (λ (k : ℕ). with_front (ds ++ es) 0 (outcome size v k (start + length (joined_lines a) + length (joined_lines b)) more)) n
-      ∙ ap (λ (k : ℕ). with_front (ds ++ es) 0 (outcome size v (number + length (a ++ b) + 1) k more)) s);
-  count = (let x = one.count in let y = two.count in let l = length-append ds es in let k = length-append a b in omega arith);
-}
+both_read w u v a b ds es one two = search (rules, length-append, texts_both, append_assoc, fronts)
 
 abbrev pub outcome_with : List Deed → ReadStop → Outcome
 outcome_with deeds stop = record { deeds = deeds; passed = 0; stop = stop }

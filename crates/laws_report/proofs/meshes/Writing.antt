@@ -1,5 +1,5 @@
 -- What the written lines do.
-use Rattle.std.proofs.Common.{◌≡◌, ◌∙◌, ℕ, suc, ◌+◌, ◌-◌, ◌*◌, ◌/◌, ◌≤◌, Bool, true, false, codes, List, [], ◌∷◌, refl, sym, subst, ap, arith, if◌then◌else◌, nat_lt}
+use Rattle.std.proofs.Common.{◌≡◌, ◌∙◌, ℕ, suc, ◌+◌, ◌-◌, ◌*◌, ◌/◌, ◌≤◌, Bool, true, false, codes, List, [], ◌∷◌, refl, sym, subst, ap, arith, if◌then◌else◌, nat_lt, rules}
 use Rattle.std.specs.Prelude.{Result, Ok, Err, ℤ, pos, negsuc, ◌+ℤ◌, ◌-ℤ◌, neg_ℤ, Option, Some, None, min, nat_le, ◌&&◌, ◌||◌, int_div}
 use Rattle.std.proofs.lemmas.Int.{ints}
 use Rattle.gcode_text.specs.declared.fault.FaultKind.{FaultKind}
@@ -184,9 +184,7 @@ with_more w more = record w { count = w.count + more }
 dwell_by : (w u : State) (p : ℕ) (act : Action) (b c : Bool)
     → as_kind ((if b then Ok p else Err OutOfRange) >>= λ n. ((if c then Err TooMany else Ok (with_more w 1)) >>= λ t. Ok (t, actions.Dwell ((n + 999999) / 1000000)))) ≡ Ok (u, act)
     → (u ≡ with_more w 1) × (act ≡ actions.Dwell ((p + 999999) / 1000000))
-dwell_by w u p act false c h = absurd cc
-dwell_by w u p act true true h = absurd cc
-dwell_by w u p act true false h = same_done u (with_more w 1) act (actions.Dwell ((p + 999999) / 1000000)) h
+dwell_by w u p act b c p6 = search (rules, same_done)
 
 rounded : (ms : ℕ) → (ms * 1000000 + 999999) / 1000000 ≡ ms
 rounded ms = omega arith
@@ -255,19 +253,7 @@ home_ends true axis end h = h
 home_ends false axis end h = h
 
 pub writing_homed : (m : Machine) (w : State) (last : ℕ) (x y z : Bool) → IsWriting m w last → IsWriting m (homed_by w (x ∷ y ∷ z ∷ [])) last
-writing_homed m w last x y z i = record {
-  relative = i.relative;
-  relative_e = i.relative_e;
-  e_factor = i.e_factor;
-  speed_factor = i.speed_factor;
-  x = home_reads x w.x i.x;
-  y = home_reads y w.y i.y;
-  z = home_reads z w.z i.z;
-  x_end = home_ends x w.x _ i.x_end;
-  y_end = home_ends y w.y _ i.y_end;
-  z_end = home_ends z w.z _ i.z_end;
-  acceleration = i.acceleration;
-}
+writing_homed m w last x y z i = search (rules, home_reads, home_ends)
 
 pub place_homed : (m : Machine) (w : State) (last : ℕ) (x y z : Bool) → IsWriting m w last → coordinates_of (homed_by w (x ∷ y ∷ z ∷ [])) ≡ stood_all m (coordinates_of w) (x ∷ y ∷ z ∷ [])
 place_homed m w last x y z i = go x y z where

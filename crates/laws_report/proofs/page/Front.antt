@@ -1,5 +1,5 @@
 -- Lines of a report that go through the first sections of a text, as far as they go, follow its plan when they are read back as a log.
-use Rattle.std.proofs.Common.{◌≡◌, ◌∙◌, ◌⊎◌, ℕ, suc, ◌+◌, ◌<◌, ◌≤◌, Bool, true, false, List, [], ◌∷◌, ◌++◌, length, map, ap, sym, refl, subst, arith, append_assoc, append-nil, length-append}
+use Rattle.std.proofs.Common.{◌≡◌, ◌∙◌, ◌⊎◌, ℕ, suc, ◌+◌, ◌<◌, ◌≤◌, Bool, true, false, List, [], ◌∷◌, ◌++◌, length, map, ap, sym, refl, subst, arith, append_assoc, append-nil, length-append, rules}
 use Rattle.std.specs.Prelude.{◌==◌, ◌&&◌, slice_index_or, if◌then◌else◌}
 use Rattle.laws_board.proofs.Names.{nat_tests, Machine, Planned, Pulse, Section, SectionKind, Clocks, one_line, stepper_at, Fits, clocks_at, stepper_plan, ReportLine, and_from}
 use Rattle.std.proofs.lemmas.List.FromFn.{get_or-map-range_with_len}
@@ -46,10 +46,7 @@ fronted-fits m sections fs [] s inside h = tt
 fronted-fits m sections fs (l ∷ lines) s inside h = h.2 s inside
 
 pub front-follows : (m : Machine) (sections : List Section) (log : List LogLine) → Fronted m sections (further_among log) log → FollowsFront m sections log
-front-follows m sections log f = record {
-  prefix = λ later lines is s inside. fronted-fits m sections (further_among log) lines s inside (fronted-behind m sections (further_among log) later lines (subst (λ (x : List LogLine). Fronted m sections (further_among log) x) is f));
-  order = λ later lines l is. (let h = fronted-behind m sections (further_among log) later (l ∷ lines) (subst (λ (x : List LogLine). Fronted m sections (further_among log) x) is f) in (h.0, h.1));
-}
+front-follows m sections log f = search (rules, fronted-fits, fronted-behind)
 
 -- Where the section before was not cut, the line of a section tells the turn in which it starts; and the one before is whole, where the run went through or a pulse of the board
 -- stands among later lines.
@@ -156,16 +153,11 @@ module _ (through : Type 0) (m : Machine) (sections : List Section) (lines : Lis
       cut_is : is_cut before ≡ cut
 
     plan-is : (i turn s : ℕ) (before : List LogLine) → begun before ≡ suc i → section_start before ≡ turn → clocks m fs before ≡ lines → s < length m.steppers → plan_at m sections fs before s ≡ stepper_plan m lines (section_at sections i).moves turn s
-    plan-is i turn s before b t l inside =
-        ap (λ (n : ℕ). slice_index_or (plans_by m sections (clocks m fs before) n (section_start before)) s []) b ∙ ap (λ (n : ℕ). slice_index_or (section_plans m (clocks m fs before) (section_at sections i).moves n) s []) t
-        ∙ ap (λ (z : List Clocks). slice_index_or (section_plans m z (section_at sections i).moves turn) s []) l ∙ get_or-map-range_with_len (stepper_plan m lines (section_at sections i).moves turn) 0 (length m.steppers) s s [] inside (omega arith)
+    plan-is i turn s before b t l inside = search (rules, slice_index_or, get_or-map-range_with_len, stepper_plan)
 
     -- what fits with the pulses to come fits
     fit-here : (i turn : ℕ) (before : List LogLine) (rest : List ReportLine) → begun before ≡ suc i → section_start before ≡ turn → clocks m fs before ≡ lines → FitWith i turn (λ s. in_order (pulses s before) ++ pulses_before s rest) → (s : ℕ) → s < length m.steppers → FitsHere m sections fs before s
-    fit-here i turn before rest b t l fits s inside =
-        let base : base_at m fs before s ≡ base_tick m lines turn s = ap (λ (z : List Clocks). base_tick m z (section_start before) s) l ∙ ap (λ (n : ℕ). base_tick m lines n s) t in
-        fits-same (in_order (pulses s before)) (ap (λ (z : List Clocks). (clocks_at z (stepper_at m s).board).first.freq) l) base (plan-is i turn s before b t l inside)
-        (fits-first _ _ (in_order (pulses s before)) (pulses_before s rest) _ (fits s inside))
+    fit-here i turn before rest b t l fits s inside = search (rules, fits-same, clocks_at, stepper_at, plan-is, fits-first)
 
     -- a note
     note-on : (i turn : ℕ) (cut : Bool) (before : List LogLine) (rest : List ReportLine) → FitWith i turn (λ s. in_order (pulses s before) ++ pulses_before s rest) → IsOpen i turn cut before → IsOpen i turn cut (line.Note ∷ before)
@@ -192,16 +184,7 @@ module _ (through : Type 0) (m : Machine) (sections : List Section) (lines : Lis
     -- the next section
     section-on : (i turn : ℕ) (cut : Bool) (before : List LogLine) (j at : ℕ) (kind : SectionKind) → j ≡ suc i → suc i < length sections → kind ≡ (section_at sections (suc i)).kind
         → ready_behind cut turn (section_end m lines (section_at sections i).moves turn) + (section_at sections (suc i)).dwell ≤ at → IsOpen i turn cut before → IsOpen (suc i) at false (line.Section j at kind ∷ before)
-    section-on i turn cut before j at kind number there same due h =
-        let moves = (section_at sections i).moves in
-        let end : end_by m sections (clocks m fs before) (begun before) (section_start before) ≡ section_end m lines moves turn =
-        ap (λ (n : ℕ). end_by m sections (clocks m fs before) n (section_start before)) h.begun_is ∙ ap (λ (z : List Clocks). section_end m z moves (section_start before)) h.lines_are ∙ ap (λ (n : ℕ). section_end m lines moves n) h.start_is in
-        let from : ready (is_cut before) (begun before) (section_start before) (end_by m sections (clocks m fs before) (begun before) (section_start before)) ≡ ready_behind cut turn (section_end m lines moves turn) =
-        ap (λ (n : ℕ). ready (is_cut before) (begun before) (section_start before) n) end ∙ ap (λ (n : ℕ). ready (is_cut before) (begun before) n (section_end m lines moves turn)) h.start_is
-        ∙ ap (λ (n : ℕ). ready (is_cut before) n turn (section_end m lines moves turn)) h.begun_is ∙ ap (λ (b : Bool). ready b (suc i) turn (section_end m lines moves turn)) h.cut_is ∙ ready-is cut i turn (section_end m lines moves turn) in
-        let Next : ℕ → Type 0 = λ n. IsNextSection m sections fs before n at kind in
-        let next : Next j = subst Next (sym number) (record { number = sym h.begun_is; there = there; same = same; due = omega (arith, from, due) }) in
-        record { fronted = (h.going, (next, ap length h.lines_are ∙ boards), λ s inside. tt, h.fronted); going = h.going; begun_is = ap suc h.begun_is; start_is = refl; lines_are = h.lines_are; cut_is = refl }
+    section-on i turn cut before j at kind number there same due h = search (rules, ready-is)
 
     -- where this was not cut, in its turn
     timely-on : (i turn : ℕ) (cut : Bool) (before : List LogLine) (j at : ℕ) → j ≡ suc i → (cut ≡ false → section_end m lines (section_at sections i).moves turn + 260 + (section_at sections (suc i)).dwell ≡ at) → IsOpen i turn cut before → is_cut before ≡ false
@@ -217,11 +200,7 @@ module _ (through : Type 0) (m : Machine) (sections : List Section) (lines : Lis
     -- as many pulses as planned make it whole
     whole-here : (i turn : ℕ) (cut : Bool) (total : ℕ → ℕ) (more : ℕ → Type 0) (before : List LogLine) → ((s : ℕ) → length (pulses s before) + 0 ≡ total s) → IsWholeIf i turn cut total more → IsOpen i turn cut before
         → is_cut before ≡ false → (s : ℕ) → s < length m.steppers → more (stepper_at m s).board → IsWholeHere m sections fs before s
-    whole-here i turn cut total more before count whole h uncut s inside why =
-        let all = whole (sym h.cut_is ∙ uncut) s inside why in
-        let many = count s in
-        let plan = ap length (plan-is i turn s before h.begun_is h.start_is h.lines_are inside) in
-        omega (arith, all, many, plan)
+    whole-here i turn cut total more before count whole h uncut s inside why = search (rules, plan-is)
 
     -- the pulses told so far, and those up to the next section
     abbrev Count : (ℕ → ℕ) → List LogLine → List ReportLine → Type 0

@@ -1,5 +1,5 @@
 -- The clock lines that a report prints are near the boards' clocks.
-use Rattle.std.proofs.Common.{◌≡◌, ◌∙◌, ℕ, suc, ◌+◌, ◌*◌, ◌<◌, ◌≤◌, ◌^◌, Bool, true, All, List, [], ◌∷◌, ◌++◌, length, map, ap, sym, refl, subst, arith, append_assoc, length-append}
+use Rattle.std.proofs.Common.{◌≡◌, ◌∙◌, ℕ, suc, ◌+◌, ◌*◌, ◌<◌, ◌≤◌, ◌^◌, Bool, true, All, List, [], ◌∷◌, ◌++◌, length, map, ap, sym, refl, subst, arith, append_assoc, length-append, rules}
 use Rattle.std.proofs.Math.Seq.{get_or-append_seam}
 use Rattle.std.specs.Prelude.{◌==◌, ◌-◌, ◌/◌, min, if◌then◌else◌}
 use Rattle.laws_board.proofs.Names.{nat_tests, Machine, BoardClock, Held, Line, board_tick, clock_of, tick, turn_ns, Clocks, board_at, clocks_at, ReportLine}
@@ -43,9 +43,7 @@ all-first m [] ys h = h
 all-first m (x ∷ xs) ys h = all-first m xs ys h.1
 
 own-drift : (m : Machine) (b sent clock from : ℕ) (lines : List ReportLine) → AllNear m (drifts_of b (report.Drift b sent clock from ∷ lines)) → SoNear m (line.Line b sent clock from)
-own-drift m b sent clock from lines h =
-    let At : Bool → Type 0 = λ x. AllNear m ((if x then report.Drift b sent clock from ∷ [] else []) ++ drifts_of b lines) in
-    (subst At (is_itself b) h).0
+own-drift m b sent clock from lines h = search (rules, is_itself)
 
 later-drifts : (m : Machine) (l : ReportLine) (lines : List ReportLine) → ((b : ℕ) → b < length m.boards → AllNear m (drifts_of b (l ∷ lines))) → (b : ℕ) → b < length m.boards → AllNear m (drifts_of b lines)
 later-drifts m l lines h b low = all-first m (drift_in b l) (drifts_of b lines) (h b low)
@@ -92,10 +90,7 @@ same-line : (a b c freq other : ℕ) → b ≡ c → freq ≡ other → Told_lin
 same-line a b c freq other e f = ap (λ (n : ℕ). Told_line a n freq) e ∙ ap (λ (n : ℕ). Told_line a c n) f
 
 first-near : (m : Machine) (b : ℕ) (c : Clocks) (ready : ℕ) → AreTold c ready → c.first.freq ≡ (board_at m b).freq → tick c.first (ready * turn_ns) < 2 ^ 64 → FollowsClock (clock_of (board_at m b)) c.first → SoNear m (line.Board b ready (turn_tick c.first ready))
-first-near m b c ready told freq small f =
-    let same : (retold ready c).first ≡ told_line m b ready (turn_tick c.first ready) = same-line (ready * turn_ns) (tick c.first (ready * turn_ns)) (turn_tick c.first ready) c.first.freq (board_at m b).freq (omega (arith, small)) freq in
-    let Near : Line → Type 0 = λ l. IsNearBoard (clock_of (board_at m b)) l ready in
-    subst Near same (near-board (clock_of (board_at m b)) c ready told f)
+first-near m b c ready told freq small f = search (rules, same-line, turn_ns, tick, board_at, clock_of, near-board)
 
 firsts-near : (m : Machine) (ready : ℕ) (all past clocks : List Clocks) (b : ℕ) → all ≡ past ++ clocks → length past ≡ b → ((i : ℕ) → i < length all → SoNear m (line.Board i ready (turn_tick (clocks_at all i).first ready))) → AllNear m (lines_at ready b clocks)
 firsts-near m ready all past [] b are at each = tt

@@ -1,5 +1,5 @@
 -- A log of moves whose run went through has as many pulses as its sections have planned steps.
-use Rattle.std.proofs.Common.{◌≡◌, ◌∙◌, ℕ, zero, suc, ◌+◌, ◌<◌, ◌≤◌, ◌==◌, Bool, true, false, List, [], ◌∷◌, ◌++◌, length, map, ap, sym, refl, arith, append_assoc, inl, if◌then◌else◌}
+use Rattle.std.proofs.Common.{◌≡◌, ◌∙◌, ℕ, zero, suc, ◌+◌, ◌<◌, ◌≤◌, ◌==◌, Bool, true, false, List, [], ◌∷◌, ◌++◌, length, map, ap, sym, refl, arith, append_assoc, inl, if◌then◌else◌, rules}
 use Rattle.std.specs.Prelude.{◌&&◌}
 use Rattle.std.specs.List.{range_with_len}
 use Rattle.laws_board.proofs.Names.{All-head, All-tail, Machine, Planned, Section, Moves, ReportLine}
@@ -51,11 +51,7 @@ moves-at (x ∷ sections) zero all = ap is_home (All-head (λ (y : Section). y.k
 moves-at (x ∷ sections) (suc i) all = moves-at sections i (All-tail (λ (y : Section). y.kind ≡ Moves) x sections all)
 
 never-cut : (sections : List Section) (n i : ℕ) → AreOfMoves sections → may_cut sections n i ≡ true → ⊥
-never-cut sections zero i all may = cc
-never-cut sections (suc n) i all may = by (i == n) may where
-  by : (b : Bool) → (b && is_home (section_at sections n).kind) ≡ true → ⊥
-  by true e = (let f = sym (moves-at sections n all) ∙ e in cc)
-  by false e = cc
+never-cut sections n i p3 p4 = search (rules, moves-at)
 
 module _ (through : Type 0) (m : Machine) (sections : List Section) (log : List LogLine) (f : Follows through m sections log) (all : AreOfMoves sections) (gone : through) where
   one-more : (later lines : List LogLine) (l : LogLine) → log ≡ later ++ l ∷ lines → log ≡ (later ++ l ∷ []) ++ lines

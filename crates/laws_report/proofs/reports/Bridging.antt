@@ -1,5 +1,5 @@
 -- Lines that follow the plan and stand in order go through the sections.
-use Rattle.std.proofs.Common.{◌≡◌, ◌∙◌, ◌⊎◌, inl, inr, ℕ, ◌+◌, ◌<◌, ◌≤◌, Bool, true, false, List, [], ◌∷◌, ◌++◌, length, ap, sym, refl, subst, arith, Option, Some, append_assoc, length-append}
+use Rattle.std.proofs.Common.{◌≡◌, ◌∙◌, ◌⊎◌, inl, inr, ℕ, ◌+◌, ◌<◌, ◌≤◌, Bool, true, false, List, [], ◌∷◌, ◌++◌, length, ap, sym, refl, subst, arith, Option, Some, append_assoc, length-append, rules}
 use Rattle.std.specs.Prelude.{◌==◌, slice_index_or, if◌then◌else◌}
 use Rattle.laws_board.proofs.Names.{nat_tests, length-map, Machine, Move, Planned, Pulse, Section, SectionKind, Home, Clocks, IsValidMachine, stepper_at, Fits, clocks_at, stepper_plan, ReportLine}
 use Rattle.std.proofs.Math.Seq.{get_or-append_seam}
@@ -156,9 +156,7 @@ IsCutOrNot sections cut j lines = ((cut ≡ false) × (cuts_in j lines ≡ [])) 
 -- a section is planned alike whose cut lines and pulses are the same
 alike-same : (m : Machine) (short clocks : List Clocks) (sections : List Section) (said body : List ReportLine) (j turn : ℕ) → cuts_in j said ≡ cuts_in j body → ((s : ℕ) → pulses_in j s said ≡ pulses_in j s body) → IsPlannedAlike m short clocks sections said j turn
     → IsPlannedAlike m short clocks sections body j turn
-alike-same m short clocks sections said body j turn cuts pulses_are (inl same) = inl same
-alike-same m short clocks sections said body j turn cuts pulses_are (inr one) =
-    inr (λ e. one.0 (cuts ∙ e), λ s inside. subst (λ (ps : List Pulse). Fits (clocks_at short (stepper_at m s).board).first.freq (base_tick m short turn s) ps (plan_by short m sections j turn s)) (pulses_are s) (one.1 s inside))
+alike-same m short clocks sections said body j turn p8 p9 p10 = search (rules, clocks_at, stepper_at)
 
 -- what is asked of the lines from a section on, of which some are cut
 pub record Follow (m : Machine) (sections : List Section) (clocks short : List Clocks) (cut : ℕ → Bool) (ready i : ℕ) (body : List ReportLine) : Type 0 where

@@ -1,5 +1,5 @@
 -- A machine that is read from a configuration has words for names.
-use Rattle.std.proofs.Common.{◌≡◌, ◌≢◌, ◌∙◌, ℕ, ℤ, pos, negsuc, zero, suc, ◌+◌, ◌-◌, ◌<◌, Bool, true, false, List, [], ◌∷◌, ◌++◌, length, map, get_or, All, AllPairs, ap, sym, refl, subst, arith, Option, Some, None, Result, Ok, Err, append-nil, append_assoc}
+use Rattle.std.proofs.Common.{◌≡◌, ◌≢◌, ◌∙◌, ℕ, ℤ, pos, negsuc, zero, suc, ◌+◌, ◌-◌, ◌<◌, Bool, true, false, List, [], ◌∷◌, ◌++◌, length, map, get_or, All, AllPairs, ap, sym, refl, subst, arith, Option, Some, None, Result, Ok, Err, append-nil, append_assoc, rules}
 use Rattle.std.specs.Prelude.{◌/◌, ◌%◌, neg_ℤ, unsigned_abs, drop, ◌&&◌, ◌==◌, codes, nat_le, nat_lt, if◌then◌else◌}
 use Rattle.std.specs.List.{list_all}
 use Rattle.std.specs.Str.{bytes_eq}
@@ -55,10 +55,7 @@ all-plain test plain [] h = refl
 all-plain test plain (b ∷ bs) h = (let p = both_parts (test b) (list_all test bs) h in and_from (is_plain b) (list_all is_plain bs) (plain b p.0) (all-plain test plain bs p.1))
 
 word-by : (test : ℕ → Bool) → ((b : ℕ) → test b ≡ true → is_plain b ≡ true) → (text : List ℕ) → (nat_lt 0 (length text) && nat_le (length text) 16 && list_all test text) ≡ true → is_word text ≡ true
-word-by test plain text h =
-    let p = both_parts (nat_lt 0 (length text) && nat_le (length text) 16) (list_all test text) h in
-    let q = both_parts (nat_lt 0 (length text)) (nat_le (length text) 16) p.0 in
-    and_from (nat_lt 0 (length text)) (list_all is_plain text) q.0 (all-plain test plain text p.1)
+word-by test plain text h = search (rules, both_parts, nat_lt, nat_le, list_all, and_from, all-plain)
 
 board-name : (text : List ℕ) → is_board_name text ≡ true → is_word text ≡ true
 board-name text h = word-by is_name_byte plain-name text h
@@ -91,12 +88,7 @@ digit-section None digit small = tt
 digit-section (Some drive) digit small = small
 
 stepper-section : (text : List ℕ) → IsGoodSection (stepper_of text)
-stepper-section [] = tt
-stepper-section (a ∷ []) = digit-section (drive_of a) 0 (omega arith)
-stepper-section (a ∷ d ∷ []) =
-    either-section (nat_le 49 d && nat_le d 57) (with_digit (drive_of a) (d - 48)) sections.Unknown
-    (λ h. (let p = both_parts (nat_le 49 d) (nat_le d 57) h in let high = p.1 in digit-section (drive_of a) (d - 48) (grind (arith, nat_tests)))) (λ h. tt)
-stepper-section (a ∷ d ∷ e ∷ rest) = tt
+stepper-section text = search (rules, digit-section, either-section, nat_le, both_parts, nat_tests)
 
 maybe-stepper : (text : Option (List ℕ)) → IsGoodSection (stepper_section text)
 maybe-stepper None = tt
@@ -131,9 +123,7 @@ either-value true x y p q = p refl
 either-value false x y p q = q refl
 
 by-decimal : (low high : ℕ) (o : Option ℤ) → IsGoodResult (decimal low high o)
-by-decimal low high None = tt
-by-decimal low high (Some (pos n)) = either-value (is_within low high n) (Ok (values.Amount n)) (Err OutOfLimit) (λ h. tt) (λ h. tt)
-by-decimal low high (Some (negsuc n)) = tt
+by-decimal low high o = search (rules, either-value)
 
 by-whole-within : (low high step : ℕ) (z : ℤ) → IsGoodResult (whole_within low high step z)
 by-whole-within low high step (pos n) = either-value (is_within low high (n / 1_000_000) && ((n / 1_000_000) % step == 0)) (Ok (values.Amount (n / 1_000_000))) (Err OutOfLimit) (λ h. tt) (λ h. tt)
@@ -207,9 +197,7 @@ good-key section value None = tt
 good-key section value (Some key) = good-value section key (judged key value) (good-judged key value)
 
 good-option : (section : Section) (name value : List ℕ) → IsGood (option_in section name value)
-good-option sections.Before name value = tt
-good-option sections.Unknown name value = tt
-good-option c name value = good-key c value (key_named c name)
+good-option section name value = search (rules, good-key)
 
 good-opened : (section : Section) → IsGoodSection section → IsGood (opened section)
 good-opened (sections.Board b) good = good
@@ -217,13 +205,7 @@ good-opened (sections.Stepper m) good = good
 good-opened c good = tt
 
 good-meant : (place : Place) (s : ConfigurationLine) → IsGood (meant place s)
-good-meant place (Begins name) = good-opened (section_of name) (good-section name)
-good-meant place Continues = by place.lenient where
-  by : (b : Bool) → IsGood (if b then Skipped else Wrong BadLine)
-  by true = tt
-  by false = tt
-good-meant place (Sets name value) = good-option place.section name value
-good-meant place c = tt
+good-meant place s = search (rules, good-opened, good-section, good-option)
 
 abbrev AreGood : List Item → Type 0
 AreGood [] = Unit {0}
@@ -244,10 +226,7 @@ words-more [] name are is = (is, tt)
 words-more (n ∷ names) name are is = (are.0, words-more names name are.1 is)
 
 words-with : (names : List (List ℕ)) (name : List ℕ) → AreWordNames names → is_word name ≡ true → AreWordNames (with_name names name)
-words-with names name are is = by (has_name names name) where
-  by : (b : Bool) → AreWordNames (if b then names else names ++ name ∷ [])
-  by true = are
-  by false = words-more names name are is
+words-with names name are is = search (rules, words-more)
 
 boards-opened : (names : List (List ℕ)) (is : List Item) → AreGood is → AreWordNames names → AreDistinct names → AreWordNames (boards_behind names is) × AreDistinct (boards_behind names is)
 boards-opened names [] good are apart = (are, apart)
@@ -389,10 +368,7 @@ ok-if true x fault y e = cc
 ok-if false x fault y e = cc
 
 one-name : (es : List Entry) (boards : List BoardDef) (before : List StepperDef) (motor : Motor) (s : StepperDef) → stepper_def es boards before motor ≡ Ok s → s.name ≡ motor_name motor
-one-name es boards before motor s e =
-    let a = bound (wire_of es boards motor StepPin) (λ step. wire_of es boards motor DirPin >>= (λ dir. joined es before motor step dir)) s e in
-    let b = bound (wire_of es boards motor DirPin) (λ dir. joined es before motor a.0 dir) s a.2 in
-    sym (ap (λ (x : StepperDef). x.name) (ok-if (b.0.board == a.0.board) _ _ s b.2))
+one-name es boards before motor s e = search (rules, bound, ok-if)
 
 names-at-end : (steppers : List StepperDef) (s : StepperDef) → map (λ (x : StepperDef). x.name) (steppers ++ s ∷ []) ≡ map (λ (x : StepperDef). x.name) steppers ++ s.name ∷ []
 names-at-end [] s = refl
@@ -439,14 +415,7 @@ steppers-apart steppers names e apart i j d lt inside same =
 
 of-uses : (es : List Entry) (names : List (List ℕ)) (motors : List Motor) (passed : ℕ) (us : List Use) (m : Machine) → reading_of_uses es names motors passed us ≡ Ok m
     → (steppers : List StepperDef) × (m.boards ≡ board_defs es us names) × (m.steppers ≡ steppers) × (stepper_defs es (board_defs es us names) [] motors ≡ Ok steppers)
-of-uses es names motors passed us m e =
-    let boards = board_defs es us names in
-    let whole = after (missing es names motors) (assembled es motors passed boards) m (after (wiring_fault names es us) _ m e) in
-    let a = bound (axes es boards) (λ axes. stepper_defs es boards [] motors >>= (λ steppers. fan_def es boards >>= (λ fan. Ok (machine_of es passed boards steppers axes fan)))) m whole in
-    let b = bound (stepper_defs es boards [] motors) (λ steppers. fan_def es boards >>= (λ fan. Ok (machine_of es passed boards steppers a.0 fan))) m a.2 in
-    let c = bound (fan_def es boards) (λ fan. Ok (machine_of es passed boards b.0 a.0 fan)) m b.2 in
-    let same : machine_of es passed boards b.0 a.0 c.0 ≡ m = cc in
-    (b.0, sym (ap (λ (x : Machine). x.boards) same), sym (ap (λ (x : Machine). x.steppers) same), b.1)
+of-uses es names motors passed us m e = search (rules, after, bound)
 
 named-by : (is : List Item) (m : Machine) → AreGood is → reading_of_items is ≡ Ok m → HasNames m
 named-by is m good e =

@@ -1,5 +1,5 @@
 -- A number in decimal digits is a word, and is read back as itself.
-use Rattle.std.proofs.Common.{◌≡◌, ◌∙◌, ℕ, ◌+◌, ◌-◌, ◌*◌, ◌^◌, ◌<◌, Bool, true, false, List, [], ◌∷◌, length, ap, refl, arith, Some, None}
+use Rattle.std.proofs.Common.{◌≡◌, ◌∙◌, ℕ, ◌+◌, ◌-◌, ◌*◌, ◌^◌, ◌<◌, Bool, true, false, List, [], ◌∷◌, length, ap, refl, arith, Some, None, rules}
 use Rattle.std.specs.Prelude.{◌&&◌, ◌==◌, decimal, nat_le, nat_lt, if◌then◌else◌}
 use Rattle.std.specs.List.{list_all}
 use Rattle.std.specs.Char.{digit_value}
@@ -40,10 +40,7 @@ natural (c ∷ cs) some d = (let none = ap length (none-behind (c ∷ cs) d) in 
 
 -- a number in decimal is a word
 pub decimal-word : (n : ℕ) → n < 2 ^ 64 → is_word (decimal n) ≡ true
-decimal-word n small =
-    let h = decimal_is_IsNumeral n small in
-    let some = h.0.0 in
-    and_from (nat_lt 0 (length (decimal n))) (list_all is_plain (decimal n)) (grind (arith, nat_tests)) (all-plain (decimal n) h.0.1)
+decimal-word n small = search (rules, decimal_is_IsNumeral, and_from, nat_lt, list_all, nat_tests, all-plain)
 
 if-some : (a : Bool) (v n : ℕ) → a ≡ true → v ≡ n → (if a then Some v else None) ≡ Some n
 if-some true v n e f = ap (λ (k : ℕ). Some k) f

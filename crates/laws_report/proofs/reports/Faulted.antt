@@ -1,5 +1,5 @@
 -- The last turn of a run that ends for a read that failed.
-use Rattle.std.proofs.Common.{◌≡◌, ◌⊎◌, ◌∙◌, inl, inr, ℕ, ◌+◌, Bool, true, false, List, [], ◌∷◌, ◌++◌, length, Option, Some, None, ap, sym, refl, append-nil}
+use Rattle.std.proofs.Common.{◌≡◌, ◌⊎◌, ◌∙◌, inl, inr, ℕ, ◌+◌, Bool, true, false, List, [], ◌∷◌, ◌++◌, length, Option, Some, None, ap, sym, refl, append-nil, rules}
 use Rattle.std.specs.Prelude.{◌==◌, ◌||◌, if◌then◌else◌}
 use Rattle.laws_board.proofs.Names.{flat_map, Cause, Machine, Pulse, NoteNews, State, ReportLine, Scene, Switch, Known, is_out, news_of, noted, reacts, unless_ended, first_lines, machine_line, IsOwn, Came, known_by, MotionTurn, ReactorTurn, gather}
 use Rattle.plan_types.specs.declared.cause.Cause.TheVariants as cause
@@ -28,24 +28,11 @@ EndsPlain m rs end known = end.lines ≡ first_lines m (noted m end.note known) 
 -- so they are, where a run ends for no cause of its own
 pub last_lines : (m : Machine) (s : Scene) (ts : List MotionTurn) (rs : List ReactorTurn) (end : ReactorTurn) (c : Cause) (f : Facts m s ts rs end c) → Some c ≡ (reacts m s.switches f.known (length (came_from [] rs)) end.states end.note).ordered.end
     → IsOwn c ⊎ EndsPlain m rs end f.known
-last_lines m s ts rs end c f e = elim ((blames m s.switches f.known k end.states end.note).ends c (sym e)) [
-  | inl out ↦ absurd (f.other out)
-  | inr (inl told) ↦ inr (f.lines_are ∙ told_first (is_out end.note || any_out end.states) known.stopped (late 0 end.states) c m s.switches known k end.states (first_lines m known k (news_of end.note) end.states) (note-stays m end.note f.known ∙ told))
-  | inr (inr own) ↦ inl own.1
-]
-  where
-    k : ℕ
-    k = length (came_from [] rs)
-
-    known : Known
-    known = noted m end.note f.known
+last_lines m s ts rs end c f e = search (rules, blames, told_first, is_out, first_lines, news_of, note-stays, noted)
 
 -- nor do those of turns behind which the run goes on
 goes_none : (m : Machine) (switches : List Switch) (before : List Came) (t : ReactorTurn) → AreReactorTurns m switches before (t ∷ []) → counts_of t.lines ≡ []
-goes_none m switches before t h =
-    let r = known_by m switches before in
-    let free = (blames m switches r (length before) t.states t.note).goes h.0.goes_on in
-    ap counts_of h.0.lines_are ∙ (counted m switches r (length before) t.states t.note free.0).on h.0.goes_on
+goes_none m switches before t h = search (rules, known_by, blames, counted)
 
 pub going_none : (m : Machine) (switches : List Switch) (before : List Came) (rs : List ReactorTurn) → AreReactorTurns m switches before rs → counts_of (gather (λ t. t.lines) rs) ≡ []
 going_none m switches before [] turns = refl

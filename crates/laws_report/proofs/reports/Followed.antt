@@ -1,5 +1,5 @@
 -- The lines of a run over links follow the plans, section by section.
-use Rattle.std.proofs.Common.{◌≡◌, ℕ, zero, suc, ◌+◌, ◌<◌, ◌≤◌, ◌⊎◌, Bool, true, false, List, [], ◌∷◌, ◌++◌, map, take, drop, length, Some, None, refl, ap, sym, ◌∙◌, subst, arith, inl, inr, append_assoc, append-nil}
+use Rattle.std.proofs.Common.{◌≡◌, ℕ, zero, suc, ◌+◌, ◌<◌, ◌≤◌, ◌⊎◌, Bool, true, false, List, [], ◌∷◌, ◌++◌, map, take, drop, length, Some, None, refl, ap, sym, ◌∙◌, subst, arith, inl, inr, append_assoc, append-nil, rules}
 use Rattle.std.specs.Prelude.{◌-◌, ◌==◌, if◌then◌else◌}
 use Rattle.laws_board.proofs.Names.{eqb_tells, leb_tells, eqb-true, Machine, Pulse, ReportLine, machine_line, Started, ReactorTurn, gather}
 use Rattle.report_text.specs.declared.line.ReportLine.TheVariants as report
@@ -31,9 +31,7 @@ own_pulse s stepper tick up true ps e = ap (λ n. record { tick = tick; stepper 
 own_pulse s stepper tick up false ps e = refl
 
 before_one : (s : ℕ) (l : ReportLine) (ls : List ReportLine) → head_in l ≡ [] → pulses_before s (l ∷ ls) ≡ pulse_in s l ++ pulses_before s ls
-before_one s (report.Section section turn kind) ls e = absurd (let f : report.Section section turn kind ∷ [] ≡ [] = e in cc)
-before_one s (report.Pulse board stepper tick up) ls e = own_pulse s stepper tick up (stepper == s) (pulses_before s ls) refl
-before_one s c ls e = refl
+before_one s l ls p3 = search (rules, own_pulse)
 
 -- and some
 turn_past : (i : ℕ) (xs ls : List ReportLine) → heads_of xs ≡ [] → section_turn i (xs ++ ls) ≡ section_turn i ls
@@ -125,13 +123,7 @@ lines_of ts = gather (λ t. t.lines) ts
 module _ (m : Machine) (begun : List Started) (spread : Spread 260 begun) (place : ℕ) where
   -- a turn in which no section starts
   pub quiet : (k : ℕ) (t : ReactorTurn) → TellsTurn m begun k t → starts_at k 0 begun ≡ [] → heads_of t.lines ≡ []
-  quiet k t h e =
-      let machine = (no_machine m k).0 in
-      ap heads_of h.are ∙ heads_both (machine_line m k) (starts_at k 0 begun ++ h.rest) ∙ ap (λ z. z ++ heads_of (starts_at k 0 begun ++ h.rest)) machine ∙ ap (λ z. heads_of (z ++ h.rest)) e ∙ h.heads
-    where
-      heads_both : (xs ys : List ReportLine) → heads_of (xs ++ ys) ≡ heads_of xs ++ heads_of ys
-      heads_both [] ys = refl
-      heads_both (x ∷ xs) ys = ap (λ z. head_in x ++ z) (heads_both xs ys) ∙ sym (append_assoc (head_in x) (heads_of xs) (heads_of ys))
+  quiet k t h e = search (rules, no_machine, machine_line, append_assoc)
 
   -- the pulses up to the next section
   up_to : (past : List Started) (s : Started) (later : List Started) (k n : ℕ) (ts : List ReactorTurn) → begun ≡ past ++ s ∷ later → TellTurns m begun k ts → s.start < k → n ≤ length ts

@@ -1,5 +1,5 @@
 -- The report of a run in which axes home checks.
-use Rattle.std.proofs.Common.{Option, Ok, ◌≡◌, ◌≢◌, ◌∙◌, ◌⊎◌, inl, inr, ℕ, zero, suc, ◌+◌, ◌<◌, ◌≤◌, Bool, true, false, List, [], ◌∷◌, ◌++◌, length, map, drop, ap, sym, refl, subst, arith, Some, None, append_assoc, append-nil, length-append}
+use Rattle.std.proofs.Common.{Option, Ok, ◌≡◌, ◌≢◌, ◌∙◌, ◌⊎◌, inl, inr, ℕ, zero, suc, ◌+◌, ◌<◌, ◌≤◌, Bool, true, false, List, [], ◌∷◌, ◌++◌, length, map, drop, ap, sym, refl, subst, arith, Some, None, append_assoc, append-nil, length-append, rules}
 use Rattle.std.specs.Prelude.{Ok, if◌then◌else◌}
 use Rattle.laws_board.proofs.Names.{eqb_tells, flat_map-append, length-map, take-append-drop, Cause, Machine, Pulse, Section, SectionKind, Home, Moves, Clocks, IsValidMachine, axis_at, stepper_at, Fits, clocks_at, stepper_plan, AreStarted, Started, ReportLine, Switch}
 use Rattle.plan_types.specs.declared.cause.Cause.TheVariants as cause
@@ -215,17 +215,7 @@ of_first m sections clocks k home soon (x ∷ xs) ys h = (h.0, h.1, h.2, h.3, h.
 
 -- a pulse that a log tells is one of its stepper, which is there
 is_pulse : (m : Machine) (x : ReportLine) (lines : List ReportLine) (s tick : ℕ) (up : Bool) → AreTold true m (x ∷ lines) → logged x ≡ line.Pulse s tick up → (s < length m.steppers) × (pulses_of s (x ∷ lines) ≢ [])
-is_pulse m (report.Pulse board stepper at way) lines s tick up told e =
-    let same : stepper ≡ s = (let f : line.Pulse stepper at way ≡ line.Pulse s tick up = e in cc) in
-    let At : ℕ → Type 0 = λ n. (n < length m.steppers) × (pulses_of n (report.Pulse board stepper at way ∷ lines) ≢ []) in
-    subst At same (told.0.0, some_pulse board stepper at way lines)
-is_pulse m (report.Machine corexy many others) lines s tick up told e = absurd (let f : line.Note ≡ line.Pulse s tick up = e in cc)
-is_pulse m (report.Board board freq turn at) lines s tick up told e = absurd (let f : line.Board board turn at ≡ line.Pulse s tick up = e in cc)
-is_pulse m (report.Section i turn kind) lines s tick up told e = absurd (let f : line.Section i turn kind ≡ line.Pulse s tick up = e in cc)
-is_pulse m (report.Cut i board pin at from) lines s tick up told e = absurd (let f : line.Cut i ≡ line.Pulse s tick up = e in cc)
-is_pulse m (report.Drift board sent clock from) lines s tick up told e = absurd (let f : line.Line board sent clock from ≡ line.Pulse s tick up = e in cc)
-is_pulse m (report.Lines accepted passed) lines s tick up told e = absurd (let f : line.Note ≡ line.Pulse s tick up = e in cc)
-is_pulse m c lines s tick up told e = absurd told.0
+is_pulse m x lines s tick up p6 p7 = search (rules, some_pulse)
 
 later_none : (xs ys : List Pulse) → xs ++ ys ≡ [] → ys ≡ []
 later_none [] ys e = e
@@ -264,11 +254,7 @@ heads_first b (x ∷ xs) ys heads = absurd heads
 
 -- the first lines of a report that has no line of a section have none
 pub none_first : (m : Machine) (xs ys : List ReportLine) → ShowsNone m (xs ++ ys) → ShowsNone m xs
-none_first m xs ys shows = record {
-  of_run = run_first m xs ys shows.of_run;
-  may = (stand-first m [] (map logged xs) (map logged ys) (subst (λ (l : List LogLine). AllMayStand m [] l) (map-append xs ys) shows.may)).0;
-  heads = heads_first 0 xs ys shows.heads;
-}
+none_first m xs ys shows = search (rules, of_run, run_first, stand-first, map-append, heads_first)
 
 -- the lines of boards among some all tell a turn
 abbrev AllTell : ℕ → List ReportLine → Type 0
@@ -401,12 +387,7 @@ module _ (m : Machine) (switches : List Switch) (text : List ℕ) (c : Cause) (s
   due_in j turn e = begun_when m shows.clocks shows.ready 0 shows.ready shows.begun j turn (omega arith) shows.started (ap (section_turn j) shown ∙ turn_front j turn (sections_shown said) shows.sections.0 (shown_turn j said ∙ e))
 
   due_at : (j turn : ℕ) → section_turn j said ≡ Some turn → IsDue shows.ready 0 j (length Text) turn
-  due_at j turn e =
-      let d = due_in j turn e in
-      let inside = d.inside in
-      let size = ap length of_text ∙ length-append (map (λ (x : Started). x.section) shows.begun) More in
-      let many = length-map shows.begun (λ (x : Started). x.section) in
-      record { from = d.from; inside = omega (arith, inside, size, many); late = d.late }
+  due_at j turn e = search (rules, due_in, of_text, length-append, length-map)
 
   -- its cut lines: none in a section of moves, one at most in one that homes, and one there where the next section is shown or the run went through
   uncut_at : (j turn : ℕ) → section_turn j said ≡ Some turn → section_kind Text j ≡ Moves → cuts_in j said ≡ []
@@ -497,10 +478,7 @@ module _ (m : Machine) (switches : List Switch) (text : List ℕ) (c : Cause) (s
   limits = keep_by true m text shows.clocks shows.ready said valid facts low follows
 
   kinds_are : AreAllKinds said
-  kinds_are =
-      let Kinds : List ReportLine → Type 0 = λ z. AreAllKinds z in
-      let Have : List Section → Type 0 = λ z. HaveKinds z in
-      shown_kinds said (all_first (sections_shown said) shows.sections.0 (subst Kinds shown (begun_kinds 0 shows.begun (first_kinds (map (λ x. x.section) shows.begun) More (subst Have of_text kinds)))))
+  kinds_are = search (rules, shown_kinds, all_first, shown, begun_kinds, first_kinds, of_text, kinds)
 
   due : AreDue m shows.clocks (homes_at Text) shows.ready 0 (map (λ x. x.section) shows.begun) (begun_lines 0 shows.begun)
   due = begun_due m shows.clocks shows.begun shows.begun [] Text More shows.ready shows.ready 0 refl refl of_text (omega arith) shows.started
@@ -624,19 +602,11 @@ module _ (m : Machine) (switches : List Switch) (text : List ℕ) (c : Cause) (s
     begun_all = (shows.all through).1
 
     cut_or_not : (j turn : ℕ) → section_turn j said ≡ Some turn → IsCutOrNot Text (homes_at Text j) j said
-    cut_or_not j turn e = by (section_kind Text j) refl
-      where
-        by : (k : SectionKind) → section_kind Text j ≡ k → IsCutOrNot Text (homes_at Text j) j said
-        by Moves is = inl (ap is_home is, uncut_at j turn e is)
-        by (Home axis) is = inr (ap is_home is, ended_at j turn e (inr through) (ap is_home is), (axis, is))
+    cut_or_not j turn e = search (rules, uncut_at, ended_at)
 
     -- each section of moves is planned as it was, and one that homes is cut
     planned_alike : (j turn : ℕ) → section_turn j said ≡ Some turn → IsPlannedAlike m short.short shows.clocks Text said j turn
-    planned_alike j turn e = by (section_kind Text j) refl
-      where
-        by : (k : SectionKind) → section_kind Text j ≡ k → IsPlannedAlike m short.short shows.clocks Text said j turn
-        by Moves is = inl (same_plan j turn e is (inr through))
-        by (Home axis) is = inr (some_cut Text (homes_at Text j) j said (cut_or_not j turn e) (ap is_home is), λ s lt. follows j turn s e lt)
+    planned_alike j turn e = search (rules, same_plan, some_cut, cut_or_not, follows)
 
     pub home-checks : HasNames m → IsCompleteOfMovesBy shows.clocks m Text said → IsCauseOn m c → check_cause m text (report_text m (said ++ report.End c ∷ [])) ≡ cause.Done
     unfolding facts short

@@ -1,5 +1,5 @@
 -- The cut lines of a run over links stand in the sections of which they tell.
-use Rattle.std.proofs.Common.{◌≡◌, ◌≢◌, ℕ, zero, suc, ◌+◌, ◌<◌, ◌≤◌, ◌⊎◌, Bool, true, false, Some, None, Option, List, [], ◌∷◌, ◌++◌, map, take, drop, length, refl, ap, sym, ◌∙◌, subst, arith, inl, inr, append_assoc, append-nil, length-append}
+use Rattle.std.proofs.Common.{◌≡◌, ◌≢◌, ℕ, zero, suc, ◌+◌, ◌<◌, ◌≤◌, ◌⊎◌, Bool, true, false, Some, None, Option, List, [], ◌∷◌, ◌++◌, map, take, drop, length, refl, ap, sym, ◌∙◌, subst, arith, inl, inr, append_assoc, append-nil, length-append, rules}
 use Rattle.std.specs.Prelude.{◌-◌, ◌==◌, if◌then◌else◌}
 use Rattle.laws_board.proofs.Names.{eqb_tells, leb_tells, flat_map-append, length-map, Cause, Machine, Section, SectionKind, Home, Moves, axis_at, ReportLine, Switch, machine_line, cut_line, Started, ReactorTurn}
 use Rattle.std.proofs.Math.Seq.{get_or-append_seam}
@@ -491,12 +491,7 @@ map_cut [] s later = refl
 map_cut (y ∷ past) s later = ap (λ z. y.section ∷ z) (map_cut past s later)
 
 pub section_here : (sections more : List Section) (begun : List Started) (j : ℕ) (h : HasPlace begun j) → sections ≡ map (λ x. x.section) begun ++ more → section_at sections j ≡ h.s.section
-section_here sections more begun j h are =
-    let past = map (λ (x : Started). x.section) h.past in
-    let later = map (λ (x : Started). x.section) h.later in
-    let all : sections ≡ past ++ h.s.section ∷ (later ++ more) = are ∙ ap (λ (z : List Started). map (λ (x : Started). x.section) z ++ more) h.cut ∙ ap (λ (z : List Section). z ++ more) (map_cut h.past h.s h.later) ∙ append_assoc past (h.s.section ∷ later) more in
-    let place : j ≡ length past = sym h.place ∙ sym (length-map h.past (λ (x : Started). x.section)) in
-    ap (λ (ss : List Section). section_at ss j) all ∙ ap (λ (n : ℕ). section_at (past ++ h.s.section ∷ (later ++ more)) n) place ∙ get_or-append_seam past h.s.section (later ++ more) no_section
+section_here sections more begun j h are = search (rules, map_cut, append_assoc, length-map, get_or-append_seam)
 
 pub kind_at : (sections more : List Section) (begun : List Started) (j : ℕ) (h : HasPlace begun j) → sections ≡ map (λ x. x.section) begun ++ more → section_kind sections j ≡ h.s.section.kind
 kind_at sections more begun j h are = ap (λ (x : Section). x.kind) (section_here sections more begun j h are)

@@ -1,5 +1,5 @@
 -- The report of a run over links follows the plans.
-use Rattle.std.proofs.Common.{take-append-drop, ◌≡◌, ◌≢◌, ℕ, zero, suc, ◌+◌, ◌<◌, ◌≤◌, ◌⊎◌, Bool, true, false, All, List, [], ◌∷◌, ◌++◌, get_or, map, take, drop, length, Some, None, refl, ap, sym, ◌∙◌, subst, arith, inl, inr, append_assoc, append-nil}
+use Rattle.std.proofs.Common.{take-append-drop, ◌≡◌, ◌≢◌, ℕ, zero, suc, ◌+◌, ◌<◌, ◌≤◌, ◌⊎◌, Bool, true, false, All, List, [], ◌∷◌, ◌++◌, get_or, map, take, drop, length, Some, None, refl, ap, sym, ◌∙◌, subst, arith, inl, inr, append_assoc, append-nil, rules}
 use Rattle.laws_board.proofs.Names.{∥∥₁_map, length-map, All-head, All-tail, Cause, Machine, Planned, Pulse, ReadStop, Section, SectionKind, Moves, Clocks, IsValidMachine, stepper_at, Fits, clocks_at, stepper_plan, ReportLine, Scene, Switch, AreStarted, Started, ReactorTurn, gather, IsOwn, flat_map-append}
 use Rattle.std.proofs.Math.Logic.{∥∥₁_elim}
 use Rattle.std.proofs.Props.{props}
@@ -145,9 +145,7 @@ module _ (m : Machine) (seen : PlannerInput) (text : List ℕ) (first : ReactorT
     kind : section_kind (sections_over m text) i ≡ x.section.kind
 
   sections_of : (past : List Started) (x : Started) (later : List Started) → seen.begun ≡ past ++ x ∷ later → get_or (sections_over m text) (length past) no_section ≡ x.section
-  sections_of past x later cut =
-      section_is past x later (sections_over m text) (length seen.begun)
-      (ap (map (λ (z : Started). z.section)) (sym cut) ∙ of_text ∙ ap (λ z. take (length seen.begun) (program_sections m z)) same)
+  sections_of past x later cut = search (rules, section_is)
 
   part_of : (i turn s : ℕ) → section_turn i (gather (λ t. t.lines) (first ∷ rest)) ≡ Some turn → Part i turn s
   part_of i turn s e =
@@ -184,12 +182,7 @@ module _ (m : Machine) (seen : PlannerInput) (text : List ℕ) (first : ReactorT
   -- the end of a section of moves
   part_end : (clocks : List Clocks) (ready : ℕ) → AreStarted m clocks ready seen.begun → (i turn : ℕ) (e : section_turn i (gather (λ t. t.lines) (first ∷ rest)) ≡ Some turn) → section_kind (sections_over m text) i ≡ Moves
       → (part_of i turn 0 e).x.end ≡ section_end m clocks (moves_of (sections_over m text) i) turn
-  part_end clocks ready started i turn e moves =
-      let x = part_of i turn 0 e in
-      let Apart : List Started → Type 0 = λ z. AreStarted m clocks ready z in
-      let planned = planned_at m clocks ready x.past x.x x.later (subst Apart x.cut started) in
-      let moved = subst (λ (k : SectionKind). IsPlanned k m clocks x.x) (sym x.kind ∙ moves) planned in
-      moved.end ∙ ap (λ n. section_end m clocks x.x.section.moves n) x.start ∙ ap (λ z. section_end m clocks z turn) (sym x.moves)
+  part_end clocks ready started i turn e moves = search (rules, part_of, planned_at)
 
   -- a section of moves with its line ended by the last turn, where all did
   part_over : (clocks : List Clocks) (ready : ℕ) → AreStarted m clocks ready seen.begun → All (λ y. y.end + 5 ≤ length rest) seen.begun → (i turn : ℕ) → section_turn i (gather (λ t. t.lines) (first ∷ rest)) ≡ Some turn
@@ -661,18 +654,12 @@ lines_of turns = gather (λ t. t.lines) turns
 
 -- memory was wanted, or not
 pub memory_or : (c : Cause) → (c ≡ cause.Memory) ⊎ (c ≡ cause.Memory → ⊥)
-memory_or c = elim (cause_either c) [
-  | inl e ↦ elim e [ inl x ↦ inl x | inr x ↦ inr (λ y. let g : cause.WriteFault ≡ cause.Memory = sym x ∙ y in cc) ]
-  | inr not ↦ inr not.0
-]
+memory_or c = search (rules, cause_either)
 
 module _ {F S : Type 0} (f : Files F) (o : Sink S) (m : Machine) (s : Scene) (gcode : List ℕ) (files files' : F) (out out' : S) (c : Cause) (lines : List ReportLine) (counts : List ℕ) (links : List LinkLog) (v : IsValidMachine m) (short : HaveShortDictionaries m) where
   -- a run that went through was written whole, and ends for its own cause
   pub whole_of : (r : IsReported f o m s gcode files files' out out' c lines counts links) → GoesThrough c → (r.rest ≡ []) × (c ≡ r.told.cause)
-  whole_of r g =
-      let not = through_whole c g in
-      let w = r.cause_is not.0 not.1 in
-      (w.0, w.2)
+  whole_of r g = search (rules, through_whole)
 
   -- and the cut lines of any text, all or the first ones
   pub cut_lines : (r : IsReported f o m s gcode files files' out out' c lines counts links) (text : List ℕ) (made : IsMade m s r.runs.runs.0 r.runs.runs.1) → made.plans.seen.text ≡ text → (r.told.cause ≡ cause.Memory → ⊥)
@@ -783,9 +770,7 @@ module _ {F S : Type 0} (f : Files F) (o : Sink S) (m : Machine) (s : Scene) (gc
 
   of_late : (r : IsReported f o m s gcode files files' out out' c lines counts links) (board first arrival spoiled spill : ℕ) → c ≡ cause.Late board first arrival spoiled spill
       → r.told.cause ≡ cause.Late board first arrival spoiled spill
-  of_late r board first arrival spoiled spill e =
-      let late = cause.Late board first arrival spoiled spill in
-      of_run r late (λ g. let h : late ≡ cause.Memory = g in cc) (λ g. let h : late ≡ cause.WriteFault = g in cc) e
+  of_late r board first arrival spoiled spill e = search (rules, of_run)
 
   -- what its cause says
   cause_ends : (r : IsReported f o m s gcode files files' out out' c lines counts links) (d : Cause) → c ≡ d → EndsFor m s (f.told files gcode) r.runs.runs.0 r.runs.runs.1 r.runs.runs.2 d

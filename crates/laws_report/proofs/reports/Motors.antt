@@ -1,5 +1,5 @@
 -- The names of the steppers of a configuration: no two are the same.
-use Rattle.std.proofs.Common.{◌≡◌, ◌≢◌, ◌∙◌, ℕ, ◌+◌, ◌%◌, ◌<◌, Bool, true, false, List, [], ◌∷◌, ◌++◌, length, map, get_or, ap, sym, refl, arith, inl, inr, length-append}
+use Rattle.std.proofs.Common.{◌≡◌, ◌≢◌, ◌∙◌, ℕ, ◌+◌, ◌%◌, ◌<◌, Bool, true, false, List, [], ◌∷◌, ◌++◌, length, map, get_or, ap, sym, refl, arith, inl, inr, length-append, rules}
 use Rattle.std.specs.Prelude.{◌&&◌, ◌==◌, codes, if◌then◌else◌}
 use Rattle.std.specs.Str.{bytes_eq}
 use Rattle.std.proofs.lemmas.Bool.{cases_Bool}
@@ -43,65 +43,22 @@ digit-read name a b p q e = elim (cases_Bool (a == 0)) [
 ]
 
 same-digit : (name : List ℕ) (a b : ℕ) → a < 10 → b < 10 → bytes_eq (with_digit name a) (with_digit name b) ≡ (a == b)
-same-digit name a b p q = elim (cases_Bool (a == b)) [
-  | inl h ↦ (let e : a ≡ b = grind (arith, nat_tests) in same-text (with_digit name a) (with_digit name b) (ap (with_digit name) e) ∙ sym h)
-  | inr h ↦ other-text (with_digit name a) (with_digit name b) (λ same. (let e = digit-read name a b p q same in absurd (grind (arith, nat_tests)))) ∙ sym h
-]
+same-digit name a b p q = search (rules, cases_Bool, nat_tests, same-text, other-text, digit-read)
 
 -- and what stands before it
 front-read : (name : List ℕ) (a i : ℕ) → i < length name → get_or (with_digit name a) i 0 ≡ get_or name i 0
-front-read name a i inside = elim (cases_Bool (a == 0)) [
-  | inl x ↦ ap (λ (l : List ℕ). get_or l i 0) (without name a x)
-  | inr x ↦ ap (λ (l : List ℕ). get_or l i 0) (with name a x) ∙ get_or-append name ((48 + a % 10) ∷ []) 0 i inside
-]
+front-read name a i inside = search (rules, cases_Bool, without, with, get_or-append)
 
 other-letter : (name other : List ℕ) (a b i : ℕ) → i < length name → i < length other → get_or name i 0 ≢ get_or other i 0 → bytes_eq (with_digit name a) (with_digit other b) ≡ false
 other-letter name other a b i p q apart =
     other-text (with_digit name a) (with_digit other b) (λ same. apart (sym (front-read name a i p) ∙ ap (λ (l : List ℕ). get_or l i 0) same ∙ front-read other b i q))
 
 pub same-name : (x y : Motor) → x.digit < 10 → y.digit < 10 → bytes_eq (motor_name x) (motor_name y) ≡ same_motor x y
-same-name x y p q = by x.drive y.drive where
-  by : (d e : Drive) → bytes_eq (with_digit (letter_of d) x.digit) (with_digit (letter_of e) y.digit) ≡ ((drive_number d == drive_number e) && (x.digit == y.digit))
-  by X X = same-digit (codes "stepper_x") x.digit y.digit p q
-  by Y Y = same-digit (codes "stepper_y") x.digit y.digit p q
-  by Z Z = same-digit (codes "stepper_z") x.digit y.digit p q
-  by E E = same-digit (codes "extruder") x.digit y.digit p q
-  by X Y = other-letter (codes "stepper_x") (codes "stepper_y") x.digit y.digit 8 (omega arith) (omega arith) (λ e. omega (arith, e))
-  by X Z = other-letter (codes "stepper_x") (codes "stepper_z") x.digit y.digit 8 (omega arith) (omega arith) (λ e. omega (arith, e))
-  by Y X = other-letter (codes "stepper_y") (codes "stepper_x") x.digit y.digit 8 (omega arith) (omega arith) (λ e. omega (arith, e))
-  by Y Z = other-letter (codes "stepper_y") (codes "stepper_z") x.digit y.digit 8 (omega arith) (omega arith) (λ e. omega (arith, e))
-  by Z X = other-letter (codes "stepper_z") (codes "stepper_x") x.digit y.digit 8 (omega arith) (omega arith) (λ e. omega (arith, e))
-  by Z Y = other-letter (codes "stepper_z") (codes "stepper_y") x.digit y.digit 8 (omega arith) (omega arith) (λ e. omega (arith, e))
-  by X E = other-letter (codes "stepper_x") (codes "extruder") x.digit y.digit 0 (omega arith) (omega arith) (λ e. omega (arith, e))
-  by Y E = other-letter (codes "stepper_y") (codes "extruder") x.digit y.digit 0 (omega arith) (omega arith) (λ e. omega (arith, e))
-  by Z E = other-letter (codes "stepper_z") (codes "extruder") x.digit y.digit 0 (omega arith) (omega arith) (λ e. omega (arith, e))
-  by E X = other-letter (codes "extruder") (codes "stepper_x") x.digit y.digit 0 (omega arith) (omega arith) (λ e. omega (arith, e))
-  by E Y = other-letter (codes "extruder") (codes "stepper_y") x.digit y.digit 0 (omega arith) (omega arith) (λ e. omega (arith, e))
-  by E Z = other-letter (codes "extruder") (codes "stepper_z") x.digit y.digit 0 (omega arith) (omega arith) (λ e. omega (arith, e))
+same-name x y p q = search (rules, bytes_eq, same-digit, other-letter)
 
 -- the name of a stepper is a word
 pub motor-word : (m : Motor) → is_word (motor_name m) ≡ true
-motor-word m = by m.drive m.digit where
-  plain-digit : (a : ℕ) → is_plain (48 + a % 10) ≡ true
-  plain-digit a = (let small : a % 10 < 10 = omega arith in grind (arith, nat_tests))
-
-  one-more : (a : ℕ) (d : Drive) → is_word (letter_of d ++ (48 + a % 10) ∷ []) ≡ true
-  one-more a X = (let h = plain-digit a in rw h refl)
-  one-more a Y = (let h = plain-digit a in rw h refl)
-  one-more a Z = (let h = plain-digit a in rw h refl)
-  one-more a E = (let h = plain-digit a in rw h refl)
-
-  letter : (d : Drive) → is_word (letter_of d) ≡ true
-  letter X = refl
-  letter Y = refl
-  letter Z = refl
-  letter E = refl
-
-  by : (d : Drive) (a : ℕ) → is_word (with_digit (letter_of d) a) ≡ true
-  by d a = elim (cases_Bool (a == 0)) [
-    | inl x ↦ ap is_word (without (letter_of d) a x) ∙ letter d
-    | inr x ↦ ap is_word (with (letter_of d) a x) ∙ one-more a d
-  ]
+motor-word m = search (rules, nat_tests, cases_Bool, without, with)
 
 -- Their names are those of steppers that are not among the ones before them.
 abbrev pub AreSmall : List Motor → Type 0
@@ -117,17 +74,11 @@ names-more [] m = refl
 names-more (x ∷ motors) m = ap (λ (l : List (List ℕ)). motor_name x ∷ l) (names-more motors m)
 
 pub names-with : (motors : List Motor) (m : Motor) → AreSmall motors → m.digit < 10 → map motor_name (with_motor motors m) ≡ with_name (map motor_name motors) (motor_name m)
-names-with motors m small low = by (has_motor motors m) refl where
-  by : (b : Bool) → has_motor motors m ≡ b → map motor_name (with_motor motors m) ≡ with_name (map motor_name motors) (motor_name m)
-  by true h = (let same : has_name (map motor_name motors) (motor_name m) ≡ true = has-same motors m small low ∙ h in rw (h, same) refl)
-  by false h = (let same : has_name (map motor_name motors) (motor_name m) ≡ false = has-same motors m small low ∙ h in rw (h, same) (names-more motors m))
+names-with motors m small low = search (rules, has-same, names-more)
 
 small-more : (motors : List Motor) (m : Motor) → AreSmall motors → m.digit < 10 → AreSmall (motors ++ m ∷ [])
 small-more [] m small low = (low, tt)
 small-more (x ∷ motors) m small low = (small.0, small-more motors m small.1 low)
 
 pub small-with : (motors : List Motor) (m : Motor) → AreSmall motors → m.digit < 10 → AreSmall (with_motor motors m)
-small-with motors m small low = by (has_motor motors m) refl where
-  by : (b : Bool) → has_motor motors m ≡ b → AreSmall (with_motor motors m)
-  by true h = rw h small
-  by false h = rw h (small-more motors m small low)
+small-with motors m small low = search (rules, small-more)

@@ -1,5 +1,5 @@
 -- A name that the machine has once is found at its place.
-use Rattle.std.proofs.Common.{◌≡◌, ◌≢◌, ◌∙◌, ℕ, zero, suc, ◌+◌, ◌<◌, Bool, true, false, List, [], ◌∷◌, length, get_or, ap, refl, arith, Option, Some}
+use Rattle.std.proofs.Common.{◌≡◌, ◌≢◌, ◌∙◌, ℕ, zero, suc, ◌+◌, ◌<◌, Bool, true, false, List, [], ◌∷◌, length, get_or, ap, refl, arith, Option, Some, rules}
 use Rattle.std.specs.Prelude.{AllPairs, if◌then◌else◌}
 use Rattle.std.specs.Str.{bytes_eq}
 use Rattle.std.proofs.lemmas.Slice.Eq.{bytes_eq-Decides}
@@ -12,10 +12,7 @@ pub same-text : (xs ys : Text) → xs ≡ ys → bytes_eq xs ys ≡ true
 same-text xs ys e = (bytes_eq-Decides xs ys).1 e
 
 pub other-text : (xs ys : Text) → xs ≢ ys → bytes_eq xs ys ≡ false
-other-text xs ys e = by (bytes_eq xs ys) refl where
-  by : (b : Bool) → bytes_eq xs ys ≡ b → b ≡ false
-  by true h = absurd (e ((bytes_eq-Decides xs ys).0 h))
-  by false h = refl
+other-text xs ys e = search (rules, bytes_eq, bytes_eq-Decides)
 
 found : (a : Bool) (k n : ℕ) (later : Option ℕ) → a ≡ true → k ≡ n → (if a then Some k else later) ≡ Some n
 found true k n later e f = ap (λ (i : ℕ). Some i) f

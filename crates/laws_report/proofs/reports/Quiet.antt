@@ -1,6 +1,6 @@
 -- Where no note tells a further clock line, no line of the reactor does.
 use Rattle.std.specs.Prelude.{if◌then◌else◌}
-use Rattle.std.proofs.Common.{◌≡◌, ℕ, ◌+◌, Bool, true, false, List, [], ◌∷◌, ◌++◌, length, subst, ap, sym, Option, Some, None}
+use Rattle.std.proofs.Common.{◌≡◌, ℕ, ◌+◌, Bool, true, false, List, [], ◌∷◌, ◌++◌, length, subst, ap, sym, Option, Some, None, rules}
 use Rattle.laws_board.proofs.Names.{Cause, Machine, Line, ReadStop, axis_at, ReportLine, Note, NoteNews, State, WordMsg, HomingTurn, homing_turn, Asking, all_connected, giving_up, listen_all, ready_all, stale, Known, Phase, Connecting, Stopping, is_out, news_of, noted, Reacted, by_phase, cut_line, reacts, unless_ended, unless_stale, first_lines, machine_line, first_cause, stop_of, Came, known_by, MotionTurn, ReactorTurn, gather, Switch}
 use Rattle.plan_types.specs.declared.plan.ReadStop.TheVariants as read
 use Rattle.msg_code.specs.declared.talk.NoteNews.TheVariants as news
@@ -42,9 +42,7 @@ notes_both [] ys a b = b
 notes_both (x ∷ xs) ys a b = (a.0, notes_both xs ys a.1 b)
 
 pub plans_quiet : (m : Machine) (n : ℕ) (ts : List MotionTurn) (p : Plans m n ts) → AreQuiet (gather (λ t. t.note ∷ []) p.made) → AreQuiet (gather (λ t. t.note ∷ []) ts)
-plans_quiet m n ts p quiet =
-    let Quiet : List MotionTurn → Type 0 = λ z. AreQuiet (gather (λ (t : MotionTurn). t.note ∷ []) z) in
-    subst Quiet (sym p.are) (notes_both p.made p.bare quiet (bare_quiet n (0 + length p.made) p.bare p.are_bare))
+plans_quiet m n ts p quiet = search (rules, gather, notes_both, bare_quiet)
 
 drift_none : (ns : List NoteNews) → TellNone ns → NoneDrifts (drift_lines ns)
 drift_none [] h = tt
@@ -66,34 +64,24 @@ either true x y a b = a
 either false x y a b = b
 
 connecting : (o : Option Cause) (m : Machine) (r : Known) (k : ℕ) (lines : List ReportLine) (askings : List Asking) → NoneDrifts lines → Plain (unless_given_up o m r k lines askings)
-connecting (Some cause) m r k lines askings none = none
-connecting None m r k lines askings none =
-    either (all_connected askings) (is_connected_now m r k lines askings) (asks_boards m r k lines askings) (drifts_both lines (connected_lines k 0 (board_lines m 0 askings)) none (boards_none k 0 (board_lines m 0 askings))) none
+connecting o m r k lines askings p6 = search (rules, either, all_connected, drifts_both, boards_none)
 
 finishing : (s : ReadStop) (m : Machine) (r : Known) (k : ℕ) (lines : List ReportLine) (askings : List Asking) (turn : HomingTurn) → NoneDrifts lines → Plain (finishes s m r k lines askings turn)
 finishing (read.Stop line) m r k lines askings turn none = none
 finishing c m r k lines askings turn none = drifts_both lines (count_lines r.reading) none (count_none r.reading)
 
 homing : (o : Option Cause) (m : Machine) (r : Known) (k : ℕ) (states : List State) (lines cut : List ReportLine) (askings : List Asking) (turn : HomingTurn) → NoneDrifts lines → NoneDrifts cut → Plain (unless_homing_ends o m r k states lines cut askings turn)
-homing (Some cause) m r k states lines cut askings turn none more = none
-homing None m r k states lines cut askings turn none more =
-    let all = drifts_both lines cut none more in
-    either (is_finished r k states) (finishes (stop_of r.reading) m r k (lines ++ cut) askings turn) (carries_on m r k (lines ++ cut) askings turn None) (finishing (stop_of r.reading) m r k (lines ++ cut) askings turn all) all
+homing o m r k states lines cut askings turn p9 p10 = search (rules, drifts_both, either, stop_of, finishing)
 
 running : (o : Option Cause) (m : Machine) (switches : List Switch) (r : Known) (k : ℕ) (states : List State) (lines : List ReportLine) (askings : List Asking) → NoneDrifts lines → Plain (unless_stale o m switches r k states lines askings)
-running (Some cause) m switches r k states lines askings none = none
-running None m switches r k states lines askings none =
-    let turn = homing_turn r.clocks k states r.homing in
-    homing turn.end m (after_homing r k states) k states lines (cut_line m switches turn.section (axis_at m turn.axis) turn.cut) askings turn none (cut_none m switches turn.section (axis_at m turn.axis) turn.cut)
+running o m switches r k states lines askings p8 = search (rules, homing_turn, homing, cut_line, axis_at, cut_none)
 
 stopping : (o : Option Cause) (m : Machine) (r : Known) (k : ℕ) (lines : List ReportLine) (line : ℕ) → NoneDrifts lines → Plain (unless_late_stale o m r k lines line)
 stopping (Some cause) m r k lines line none = none
 stopping None m r k lines line none = drifts_both lines (count_lines r.reading) none (count_none r.reading)
 
 phases : (p : Phase) (m : Machine) (switches : List Switch) (r : Known) (k : ℕ) (states : List State) (lines : List ReportLine) → NoneDrifts lines → Plain (by_phase p m switches r k states lines)
-phases Connecting m switches r k states lines none = (let askings = ready_all m 0 (listen_all r.askings.items states) in connecting (giving_up k 0 askings) m r k lines askings none)
-phases Running m switches r k states lines none = (let askings = listen_all r.askings.items states in running (stale k 0 askings) m switches r k states lines askings none)
-phases (Stopping line) m switches r k states lines none = stopping (stale k 0 (listen_all r.askings.items states)) m r k lines line none
+phases p m switches r k states lines p7 = search (rules, ready_all, listen_all, connecting, giving_up, running, stale, stopping)
 
 unless : (o : Option Cause) (m : Machine) (switches : List Switch) (r : Known) (k : ℕ) (states : List State) (lines : List ReportLine) → NoneDrifts lines → Plain (unless_ended o m switches r k states lines)
 unless (Some cause) m switches r k states lines none = none

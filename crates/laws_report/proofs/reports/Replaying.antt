@@ -1,5 +1,5 @@
 -- The pulses of a replay are the first of the ticks that its units mean.
-use Rattle.std.proofs.Common.{◌≡◌, ℕ, Bool, true, false, ◌⊎◌, List, [], ◌∷◌, ◌++◌, map, Option, Some, None, refl, ap, sym, ◌∙◌, subst, inl, inr, append_assoc, append-nil}
+use Rattle.std.proofs.Common.{◌≡◌, ℕ, Bool, true, false, ◌⊎◌, List, [], ◌∷◌, ◌++◌, map, Option, Some, None, refl, ap, sym, ◌∙◌, subst, inl, inr, append_assoc, append-nil, rules}
 use Rattle.laws_board.proofs.Names.{eqb_tells, map-append, board_tick, clock_of, BoardDef, BoardState, Running, Shut, Pulse, Pending, Cmd, Controller, is_shut, Meant, commands_of, only, Rig, takes_all, takes as rig_takes}
 use Rattle.std.specs.Prelude.{◌+◌, ◌==◌, if◌then◌else◌}
 use Rattle.plan_types.specs.Plan.{pulse_of}
@@ -66,19 +66,11 @@ not_halted true b d oid ps all e k = cc
 
 step_adds : (o : Option Pending) (b : Controller) (oid other : ℕ) (t : Triple) (ticks : List ℕ) → IsMade o
     → Adds (queue_step b other o t).board.state (pulse_ticks oid (meant_on b.tick other o t ticks)) (if other == oid then ticks else [])
-step_adds None b oid other t ticks made = absurd made
-step_adds (Some q) b oid other t ticks made =
-    let own = ticks_at (first_of b.tick q t) t in
-    not_halted q.halted b (takes_triple (refusal b.tick q t) b other q own) oid (steps_taken (refusal b.tick q t) other q.up ticks) (if other == oid then ticks else []) made
-    (triple_adds (refusal b.tick q t) b oid other q own ticks)
+step_adds o b oid other t ticks p6 = search (rules, not_halted, triple_adds)
 
 running_adds : (b : Controller) (c : Cmd) (oid : ℕ) (ticks : List ℕ) → b.state ≡ Running → FindsStepper b c
     → Adds (takes b c).board.state (pulse_ticks oid (meant_by b c ticks)) (ticks_for oid c ticks)
-running_adds b (cmd.QueueStep other interval count add) oid ticks running made =
-    let c = cmd.QueueStep other interval count add in
-    let At : BoardState → Type 0 = λ s. Adds (acts_running s b c).board.state (pulse_ticks oid (meant_by b c ticks)) (ticks_for oid c ticks) in
-    subst At (sym running) (step_adds (stepper_at b other) b oid other (record { interval = interval; count = count; add = add }) ticks made)
-running_adds b _ oid ticks running made = inl refl
+running_adds b c oid ticks p4 p5 = search (rules, step_adds)
 
 -- while a board runs the ticks are all there; once it is shut down some may be left out
 abbrev IsSofar : BoardState → List ℕ → List ℕ → Type 0
@@ -90,26 +82,14 @@ some_of Running made all e = ([], append-nil made ∙ e)
 some_of (Shut reason tick first) made all k = k
 
 grows : (o : BoardState) (made all more rest : List ℕ) → made ≡ all → Adds o more rest → IsSofar o (made ++ more) (all ++ rest)
-grows Running made all more rest e (inl p) = ap (λ x. x ++ more) e ∙ ap (λ x. all ++ x) p
-grows Running made all more rest e (inr p) = let clash : false ≡ true = p.1 in cc
-grows (Shut reason tick first) made all more rest e (inl p) = ([], append-nil (made ++ more) ∙ ap (λ x. x ++ more) e ∙ ap (λ x. all ++ x) p)
-grows (Shut reason tick first) made all more rest e (inr p) = (rest, ap (λ x. (made ++ x) ++ rest) p.0 ∙ ap (λ x. x ++ rest) (append-nil made ∙ e))
+grows o made all more rest p5 p6 = search (rules, append-nil)
 
 stays : (o : BoardState) (made all rest : List ℕ) → is_shut o ≡ true → (r : List ℕ) × (made ++ r ≡ all) → IsSofar o (made ++ []) (all ++ rest)
-stays Running made all rest shut k = let clash : false ≡ true = shut in cc
-stays (Shut reason tick first) made all rest shut k =
-    (k.0 ++ rest, ap (λ x. x ++ (k.0 ++ rest)) (append-nil made) ∙ sym (append_assoc made k.0 rest) ∙ ap (λ x. x ++ rest) k.1)
+stays o made all rest p4 p5 = search (rules, append-nil, append_assoc)
 
 one_sofar : (o : BoardState) (r : Rig) (m : Meant) (oid : ℕ) (made all : List ℕ) → r.controller.state ≡ o → FindsWhile o r.controller m.command → IsSofar o made all
     → IsSofar (rig_takes r m.command).rig.controller.state (made ++ pulse_ticks oid (meant_running o r.controller m.command m.ticks)) (all ++ ticks_for oid m.command m.ticks)
-one_sofar Running r m oid made all running finds k =
-    let b = r.controller in
-    let more = pulse_ticks oid (meant_by b m.command m.ticks) in
-    subst (λ (s : BoardState). IsSofar s (made ++ more) (all ++ ticks_for oid m.command m.ticks)) (sym (takes_state r m.command))
-    (grows (takes b m.command).board.state made all more (ticks_for oid m.command m.ticks) k (running_adds b m.command oid m.ticks running finds))
-one_sofar (Shut reason tick first) r m oid made all shut finds k =
-    let still : (rig_takes r m.command).rig.controller ≡ r.controller = all_left_by r (m.command ∷ []) (ap is_shut shut) in
-    stays (rig_takes r m.command).rig.controller.state made all (ticks_for oid m.command m.ticks) (ap (λ (x : Controller). is_shut x.state) still ∙ ap is_shut shut) k
+one_sofar o r m oid made all p6 p7 p8 = search (rules, takes_state, grows, running_adds, rig_takes, all_left_by, is_shut, stays)
 
 -- so the commands of a turn, and those of all turns
 turn_sofar : (r : Rig) (ms : List Meant) (oid : ℕ) (made all : List ℕ) → FindSteppers r ms → IsSofar r.controller.state made all

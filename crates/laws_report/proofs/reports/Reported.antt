@@ -1,5 +1,5 @@
 -- The report of a run over links, with what its lines show.
-use Rattle.std.proofs.Common.{◌≡◌, ◌≢◌, ◌∙◌, ◌⊎◌, inl, inr, ℕ, suc, ◌+◌, List, [], ◌∷◌, ◌++◌, length, map, take, ap, sym, refl, Some}
+use Rattle.std.proofs.Common.{◌≡◌, ◌≢◌, ◌∙◌, ◌⊎◌, inl, inr, ℕ, suc, ◌+◌, List, [], ◌∷◌, ◌++◌, length, map, take, ap, sym, refl, Some, rules}
 use Rattle.laws_board.proofs.Names.{∥∥₁_map, length-map, Started, Cause, Machine, Section, IsValidMachine, ReportLine, Scene}
 use Rattle.std.proofs.Math.Logic.{∥∥₁_elim, ∥∥₁_prop}
 use Rattle.std.proofs.Props.{props}
@@ -66,9 +66,7 @@ many i [] = refl
 many i (s ∷ ss) = ap suc (many (i + 1) ss)
 
 all-shown : (Keeps : Type 0) (m : Machine) (text : List ℕ) (c : Cause) (said : List ReportLine) → ShowsBegun Keeps m text c said → GoesThrough c → length (sections_shown said) ≡ length (sections_over m text)
-all-shown Keeps m text c said begun gone =
-    let all = begun.all gone in
-    ap length all.1 ∙ many 0 begun.begun ∙ sym (length-map begun.begun (λ (x : Started). x.section)) ∙ ap length all.0
+all-shown Keeps m text c said begun gone = search (rules, many, length-map)
 
 module _ {F S : Type 0} (f : Files F) (o : Sink S) (m : Machine) (s : Scene) (gcode : List ℕ) (files files' : F) (out out' : S) (c : Cause) (lines : List ReportLine) (counts : List ℕ) (links : List LinkLog) (valid : IsValidMachine m) (short : HaveShortDictionaries m) where
   -- its cut lines, and the log of its lines, whatever ended it
@@ -124,10 +122,7 @@ module _ {F S : Type 0} (f : Files F) (o : Sink S) (m : Machine) (s : Scene) (gc
 
   -- the premise is enough
   premise-keeps : (r : IsReported f o m s gcode files files' out out' c lines counts links) (text : List ℕ) → MeetPremise m s text r.runs.runs.0 r.runs.runs.1 r.runs.runs.2 r.told.cause → KeepsUp f o m s gcode files files' out out' c lines counts links valid short r text
-  premise-keeps r text p = (
-    λ other. near_keeps m s text r.runs.runs.0 (r.runs.runs.1 ++ r.runs.runs.2 ∷ []) (p.0 other),
-    λ memory front later are long. near_keeps m s text front r.runs.runs.1 (p.1 memory front later are long),
-  )
+  premise-keeps r text p = search (rules, near_keeps)
 
   pub planned : IsSceneFor m s → IsReported f o m s gcode files files' out out' c lines counts links → IsLinkReport f o m s gcode files files' out out' c lines counts links
   planned scene r =

@@ -1,5 +1,5 @@
 -- The plan of a section does not depend on the turn at which a clock line is told.
-use Rattle.std.proofs.Common.{◌≡◌, ◌∙◌, ℕ, zero, suc, ◌+◌, ◌-◌, ◌*◌, ◌/◌, ◌<◌, ◌≤◌, ◌^◌, Bool, true, false, List, [], ◌∷◌, ◌++◌, length, map, max, get_or, All, ap, sym, refl, arith, inl, inr}
+use Rattle.std.proofs.Common.{◌≡◌, ◌∙◌, ℕ, zero, suc, ◌+◌, ◌-◌, ◌*◌, ◌/◌, ◌<◌, ◌≤◌, ◌^◌, Bool, true, false, List, [], ◌∷◌, ◌++◌, length, map, max, get_or, All, ap, sym, refl, arith, inl, inr, rules}
 use Rattle.std.specs.Prelude.{◌==◌, nat_le, if◌then◌else◌}
 use Rattle.std.specs.List.{range_with_len}
 use Rattle.std.proofs.Math.Nat.{div-add-mod, mul-mod_left}
@@ -97,10 +97,7 @@ first-retold c turn (h ∷ held) one all are =
     (are.0, are.1 ∙ ap (max 0) (sym same), are.2, are.3 ∙ sym same, held-retold c turn h.line h.from h.most held one all.1 are.4, fit-retold c turn h.line h.from all.0 are.5)
 
 retold-valid : (c : Clocks) (turn : ℕ) → AreTold c turn → IsValidLine (retold turn c).first
-retold-valid c turn one =
-    let soon = one.soon in
-    let valid = one.kept.valid in
-    record { freq_low = valid.freq_low; freq_high = valid.freq_high; freq_whole = valid.freq_whole; whole_turn = mul-mod_left turn 1_000_000; few_turns = omega arith }
+retold-valid c turn one = search (rules, mul-mod_left)
 
 pub retold-kept : (c : Clocks) (turn : ℕ) → AreTold c turn → AreKept (retold turn c)
 retold-kept c turn one = record { valid = retold-valid c turn one; held = first-retold c turn c.held one (all-from c turn one) one.kept.held }
@@ -124,13 +121,7 @@ early-ticks c turn t one early =
     omega (arith, e, m)
 
 early-retold : (c : Clocks) (turn t : ℕ) → AreTold c turn → t < turn * turn_ns → lines_tick (retold turn c) t ≤ (retold turn c).first.clock
-early-retold c turn t one early =
-    let r = retold turn c in
-    let each = from-each (turn * turn_ns) c.held (all-from c turn one) in
-    let e = tick-none r.first r.first 0 0 c.held t (λ i low inside. (let f = each i inside in omega (arith, f, early))) in
-    let m = tick-mono r.first t (turn * turn_ns) (omega (arith, early)) in
-    let s = tick-retold c turn (turn * turn_ns) one (omega arith) in
-    omega (arith, e, m, s)
+early-retold c turn t one early = search (rules, from-each, turn_ns, all-from, tick-none, tick-mono, tick-retold)
 
 -- and the same turns
 turn-retold : (c : Clocks) (turn t : ℕ) → AreTold c turn → (retold turn c).first.clock ≤ t → lines_turn (retold turn c) t ≡ lines_turn c t
@@ -238,10 +229,7 @@ board-alike c turn (q ∷ qs) one late =
     ap (λ x. on x ∷ map (on_board (retold turn c)) qs) same ∙ ap (λ (l : List Planned). on (lines_board c q.tick) ∷ l) rest
 
 planned-alike : (gear : Gear) (c : Clocks) (turn : ℕ) (segments : List Segment) (base : ℕ) → AreTold c turn → StartLate (retold turn c).first.clock segments → planned_steps gear (retold turn c) segments base ≡ planned_steps gear c segments base
-planned-alike gear c turn segments base one late =
-    let raw = raw_steps gear c.first.freq segments in
-    let kept_steps = filtered (cancel_reach c.first.freq) raw in
-    ap (spaced base) (board-alike c turn kept_steps one (filtered-All (IsLate (retold turn c).first.clock) (cancel_reach c.first.freq) raw (raw-late gear c.first.freq (retold turn c).first.clock segments late)))
+planned-alike gear c turn segments base one late = search (rules, board-alike, filtered-All, raw-late)
 
 -- spaced steps are behind their base
 abbrev AllLate : ℕ → List Planned → Type 0
@@ -281,10 +269,7 @@ stepper-ends m c moves ready turn s one order =
 
 -- the clocks of a stepper's board
 pub board-of : (m : Machine) (s : ℕ) → IsValidMachine m → (stepper_at m s).board < length m.boards
-board-of m s valid = elim (cases_lt s (length m.steppers)) [
-  | inl inside ↦ (valid.steppers s inside).board
-  | inr over ↦ (let some = valid.boards_some in let none : stepper_at m s ≡ no_stepper = get_or_past m.steppers s no_stepper over in omega (arith, ap (λ x. x.board) none, some))
-]
+board-of m s valid = search (rules, cases_lt, stepper_at, get_or_past)
 
 pub one-of : (m : Machine) (clocks : List Clocks) (ready b : ℕ) → HaveLines m clocks ready → b < length m.boards → AreTold (clocks_at clocks b) ready
 one-of m clocks ready b have inside = record { kept = have.kept b inside; behind = have.behind b inside; before = have.before b inside; soon = have.soon }

@@ -1,5 +1,5 @@
 -- Clock lines of boards that are not ahead of their clocks by much have ticks for the moves of a text.
-use Rattle.std.proofs.Common.{◌≡◌, ℕ, suc, ◌+◌, ◌-◌, ◌*◌, ◌/◌, ◌%◌, ◌^◌, ◌<◌, ◌≤◌, Bool, true, false, List, [], ◌∷◌, length, max, ap, refl, arith, inl, inr}
+use Rattle.std.proofs.Common.{◌≡◌, ℕ, suc, ◌+◌, ◌-◌, ◌*◌, ◌/◌, ◌%◌, ◌^◌, ◌<◌, ◌≤◌, Bool, true, false, List, [], ◌∷◌, length, max, ap, refl, arith, inl, inr, rules}
 use Rattle.std.specs.Prelude.{◌&&◌, nat_le, nat_lt, not}
 use Rattle.std.proofs.Math.Nat.{div-add-mod, mul-le-mul_left}
 use Rattle.laws_board.proofs.Names.{and_from, leb_tells, nat_tests, Held, Line, tick, turn_ns, Clocks, lines_tick, clocks_at}
@@ -28,13 +28,7 @@ abbrev pub most_at : ℕ → ℕ
 most_at t = 2 ^ 40 + 600_120 + 40 * 2 ^ 44 + t / 5
 
 slow-tick : (l : Line) (t : ℕ) → IsSlow l → l.at ≤ t → tick l t ≤ most_at t
-slow-tick l t slow begun =
-    let low = slow.clock in
-    let early = slow.early in
-    let whole = slow.whole in
-    let parts = div-add-mod l.at 1_000_000 in
-    let product : (t - l.at) * l.freq ≤ (t - l.at) * 200_000_000 = mul-le-mul_left (t - l.at) slow.freq in
-    omega (arith, low, early, whole, parts, product, begun)
+slow-tick l t slow begun = search (rules, div-add-mod, mul-le-mul_left)
 
 over-slow : (line : Line) (most : ℕ) (held : List Held) (t : ℕ) → IsSlow line → line.at ≤ t → most ≤ most_at t → AllSlow held → tick_over line most held t ≤ most_at t
 over-slow line most [] t slow begun low all = let own = slow-tick line t slow begun in omega (arith, own, low)
@@ -63,9 +57,7 @@ room-first l n turn slow begun early few =
     and_from (nat_le l.at (turn * turn_ns)) (nat_lt (tick l ((turn + n * turns_of_move) * turn_ns)) 12_999_999_995_705_032_704) (is_le l.at (turn * turn_ns) begun) (is_less (tick l ((turn + n * turns_of_move) * turn_ns)) 12_999_999_995_705_032_704 (omega (arith, far, early, few)))
 
 few-own : (c : Clocks) (n turn : ℕ) → IsSlow c.first → AllSlow c.held → c.first.at ≤ turn * turn_ns → turn < 2 ^ 42 + 260 → n ≤ 2_000_000 → are_few c n turn ≡ true
-few-own c n turn slow all begun early few =
-    let far = lines-slow c (turn * turn_ns + n * move_ns + turn_ns) slow all (omega (arith, begun)) in
-    lt-not (12_999_999_999_999_999_998 - 4 * (n * steps_of_move)) (lines_tick c (turn * turn_ns + n * move_ns + turn_ns)) (omega (arith, far, early, few))
+few-own c n turn slow all begun early few = search (rules, lines-slow, turn_ns, lt-not, lines_tick)
 
 room-own : (c : Clocks) (held : List Held) (n turn : ℕ) → are_few c n turn ≡ true → has_own_room c held n turn ≡ true
 room-own c [] n turn few = refl
@@ -102,15 +94,8 @@ starts-low (h ∷ held) all =
     (omega (arith, own, early), starts-low held all.3)
 
 pub board-far : (c : Clocks) (n : ℕ) → IsSlow c.first → AllSlow c.held → lines_board c n ≤ 2 ^ 62 + n
-board-far c n slow all =
-    let z = tick-zero c.first in
-    let low = slow.clock in
-    let early = slow.early in
-    let parts = div-add-mod c.first.at 1_000_000 in
-    over-far c.first c.first 0 0 c.held n (omega (arith, z, low, early, parts)) (omega arith) (starts-low c.held all)
+board-far c n slow all = search (rules, tick-zero, div-add-mod, over-far, starts-low)
 
 -- and the tick of a time is no greater than this
 pub tick-far : (l : Line) (turn n : ℕ) → IsSlow l → l.at ≤ turn * turn_ns → turn < 2 ^ 42 + 260 → n ≤ 2_000_000 → tick l (turn * turn_ns + n * move_ns) ≤ 2 ^ 63
-tick-far l turn n slow begun early few =
-    let far = slow-tick l (turn * turn_ns + n * move_ns) slow (omega (arith, begun)) in
-    omega (arith, far, early, few)
+tick-far l turn n slow begun early few = search (rules, slow-tick, turn_ns)

@@ -1,5 +1,5 @@
 -- A report that goes through checks.
-use Rattle.std.proofs.Common.{◌≡◌, ◌∙◌, ℕ, suc, ◌+◌, ◌<◌, ◌≤◌, Bool, true, false, List, [], ◌∷◌, ◌++◌, length, map, ap, sym, refl, subst, arith, inl, inr, None, Some, append-nil, append_assoc, length-append}
+use Rattle.std.proofs.Common.{◌≡◌, ◌∙◌, ℕ, suc, ◌+◌, ◌<◌, ◌≤◌, Bool, true, false, List, [], ◌∷◌, ◌++◌, length, map, ap, sym, refl, subst, arith, inl, inr, None, Some, append-nil, append_assoc, length-append, rules}
 use Rattle.std.specs.Prelude.{◌==◌, ◌&&◌, slice_index_or, Ok, if◌then◌else◌}
 use Rattle.laws_board.proofs.Names.{eqb_tells, nat_tests, Cause, Machine, Move, Planned, Pulse, Section, Clocks, one_line, IsValidMachine, stepper_at, Fits, clocks_at, stepper_plan, ReportLine}
 use Rattle.std.proofs.lemmas.List.FromFn.{get_or-map-range_with_len}
@@ -113,19 +113,11 @@ pulses-unbegun i (l ∷ lines) are = (let h = first-inner i l lines are in unbeg
 
 -- a line before the others
 pub told-more : (s i : ℕ) (l : ReportLine) (lines : List ReportLine) → AreInSection i (l ∷ lines) → told_pulses s (l ∷ lines) ≡ in_order (pulses s (logged l ∷ [])) ++ told_pulses s lines
-told-more s i l lines are =
-    let h = first-inner i l lines are in
-    ap in_order (pulses-append s (in_order (map logged lines)) (logged l ∷ []) (pulses-unbegun i lines h.1)) ∙ in-order-append (pulses s (in_order (map logged lines))) (pulses s (logged l ∷ []))
+told-more s i l lines are = search (rules, first-inner, pulses-append, pulses-unbegun, in-order-append)
 
 -- a line more, of one before another
 step-pulses : (s i : ℕ) (l : ReportLine) (lines : List ReportLine) (before : List LogLine) → AreInSection i (l ∷ lines) → in_order (pulses s (logged l ∷ before)) ++ told_pulses s lines ≡ in_order (pulses s before) ++ told_pulses s (l ∷ lines)
-step-pulses s i l lines before are =
-    let h = first-inner i l lines are in
-    let alone = inner-unbegun i (logged l) [] h.0 tt in
-    let one = in_order (pulses s (logged l ∷ [])) in
-    let front : in_order (pulses s (logged l ∷ before)) ≡ in_order (pulses s before) ++ one = ap in_order (pulses-append s (logged l ∷ []) before alone) ∙ in-order-append (pulses s (logged l ∷ [])) (pulses s before) in
-    let back = told-more s i l lines are in
-    ap (λ (ps : List Pulse). ps ++ told_pulses s lines) front ∙ (append_assoc (in_order (pulses s before)) one (told_pulses s lines) ∙ ap (λ (ps : List Pulse). in_order (pulses s before) ++ ps) (sym back))
+step-pulses s i l lines before are = search (rules, first-inner, inner-unbegun, pulses-append, in-order-append, told-more, append_assoc)
 
 -- whether one of the lines is a cut line, one line more
 step-cut : (l : ReportLine) (lines : List ReportLine) (before : List LogLine) (i : ℕ) → AreInSection i (l ∷ lines) → (if has_cut lines then true else is_cut (logged l ∷ before)) ≡ (if has_cut (l ∷ lines) then true else is_cut before)
@@ -166,23 +158,11 @@ open-more m sections fs lines i turn moves before c inner o = record { going = o
 
 -- its plan
 plan-open : (m : Machine) (sections : List Section) (fs : List Further) (lines : List Clocks) (i turn : ℕ) (moves : List Move) (before : List LogLine) (s : ℕ) → IsOpen m sections fs lines i turn moves before → s < length m.steppers → plan_at m sections fs before s ≡ stepper_plan m lines moves turn s
-plan-open m sections fs lines i turn moves before s o inside =
-    ap (λ (n : ℕ). slice_index_or (plans_by m sections (clocks m fs before) n (section_start before)) s []) o.begun_is
-    ∙ (ap (λ (c : List Clocks). slice_index_or (section_plans m c (section_at sections i).moves (section_start before)) s []) o.lines_are
-    ∙ (ap (λ (ms : List Move). slice_index_or (section_plans m lines ms (section_start before)) s []) o.moves_are
-    ∙ (ap (λ (t : ℕ). slice_index_or (section_plans m lines moves t) s []) o.start_is
-    ∙ get_or-map-range_with_len (stepper_plan m lines moves turn) 0 (length m.steppers) s s [] inside (omega arith))))
+plan-open m sections fs lines i turn moves before s o inside = search (rules, slice_index_or, get_or-map-range_with_len, stepper_plan)
 
 fits-open : (m : Machine) (sections : List Section) (fs : List Further) (lines : List Clocks) (i turn : ℕ) (moves : List Move) (before : List LogLine) (s : ℕ) → IsOpen m sections fs lines i turn moves before → s < length m.steppers
     → Fits (clocks_at lines (stepper_at m s).board).first.freq (base_tick m lines turn s) (in_order (pulses s before)) (stepper_plan m lines moves turn s) → FitsHere m sections fs before s
-fits-open m sections fs lines i turn moves before s o inside fits =
-    let ps = in_order (pulses s before) in
-    let plan = stepper_plan m lines moves turn s in
-    let b = (stepper_at m s).board in
-    let At : ℕ → Type 0 = λ t. Fits (clocks_at lines b).first.freq (base_tick m lines t s) ps plan in
-    let By : List Clocks → Type 0 = λ c. Fits (clocks_at c b).first.freq (base_tick m c (section_start before) s) ps plan in
-    let Of : List Planned → Type 0 = λ p. Fits (freq_at m fs before s) (base_at m fs before s) ps p in
-    subst Of (sym (plan-open m sections fs lines i turn moves before s o inside)) (subst By (sym o.lines_are) (subst At (sym o.start_is) fits))
+fits-open m sections fs lines i turn moves before s o inside fits = search (rules, stepper_plan, stepper_at, clocks_at, plan-open)
 
 -- the steppers of pulses are there
 abbrev HasStepper : Machine → LogLine → Type 0
@@ -195,9 +175,7 @@ has-stepper m c of = tt
 
 -- a cut line of the section that is open fits where this homes
 may-be-cut : (sections : List Section) (now i j : ℕ) → now ≡ suc i → j ≡ i → is_home (section_at sections i).kind ≡ true → may_cut sections now j ≡ true
-may-be-cut sections now i j begins same homes =
-    let self : (j == i) ≡ true = elim (eqb_tells j i) [ inl p ↦ p.0 | inr p ↦ absurd (p.1 same) ] in
-    ap (λ (n : ℕ). may_cut sections n j) begins ∙ ap (λ (b : Bool). b && is_home (section_at sections i).kind) self ∙ homes
+may-be-cut sections now i j begins same homes = search (rules, eqb_tells)
 
 -- whether a line cuts
 abbrev cuts : LogLine → Bool
@@ -246,11 +224,7 @@ section-told m sections fs lines i turn moves (l ∷ block) before o fine stand 
 -- all pulses of a section are told
 whole-told : (m : Machine) (sections : List Section) (fs : List Further) (lines : List Clocks) (i turn : ℕ) (moves : List Move) (before behind : List LogLine) (block : List ReportLine) (s : ℕ) → AreTold m sections fs lines i turn moves before behind block → s < length m.steppers → pulses s before ≡ [] → length (told_pulses s block) ≡ length (stepper_plan m lines moves turn s)
     → IsWholeHere m sections fs behind s
-whole-told m sections fs lines i turn moves before behind block s are inside none whole =
-    let count = length-in_order (pulses s behind) in
-    let all : length (in_order (pulses s behind)) ≡ length (told_pulses s block) = ap length (are.pulses_are s ∙ ap (λ (ps : List Pulse). in_order ps ++ told_pulses s block) none) in
-    let plan = ap length (plan-open m sections fs lines i turn moves behind s are.open_is inside) in
-    sym count ∙ all ∙ whole ∙ sym plan
+whole-told m sections fs lines i turn moves before behind block s are inside none whole = search (rules, length-in_order, plan-open)
 
 -- behind some sections: the next one may start when this is told
 record MayGoOn (m : Machine) (sections : List Section) (fs : List Further) (lines : List Clocks) (i soon : ℕ) (before : List LogLine) : Type 0 where
@@ -377,11 +351,7 @@ before-note : (m : Machine) (sections : List Section) (fs : List Further) (b : �
 before-note m sections fs b before h = record { fine = (open-only m sections fs before line.Note h.going refl, h.fine); going = h.going; none = h.none; boards = h.boards; silent = h.silent }
 
 before-board : (m : Machine) (sections : List Section) (fs : List Further) (b turn tick : ℕ) (before : List LogLine) → IsBefore m sections fs b before → IsBefore m sections fs (b + 1) (line.Board b turn tick ∷ before)
-before-board m sections fs b turn tick before h =
-    let first = h.none in
-    let place = h.boards in
-    let none = none-board (begun before == 0) (b == length (clocks m fs before)) (grind (arith, nat_tests)) (grind (arith, nat_tests)) in
-    record { fine = (open-only m sections fs before (line.Board b turn tick) h.going none, h.fine); going = h.going; none = h.none; boards = length-append (clocks m fs before) (with_further m b fs (one_line (told_line m b turn tick)) ∷ []) ∙ omega (arith, place); silent = h.silent }
+before-board m sections fs b turn tick before h = search (rules, none-board, nat_tests, open-only, length-append, one_line)
 
 before-further : (m : Machine) (sections : List Section) (fs : List Further) (b : ℕ) (before : List LogLine) (board turn tick from : ℕ) → MayStand m before (line.Line board turn tick from) → IsBefore m sections fs b before → IsBefore m sections fs b (line.Line board turn tick from ∷ before)
 before-further m sections fs b before board turn tick from stand h = record { fine = (further-none m sections fs before board turn tick from h.going stand, h.fine); going = h.going; none = h.none; boards = h.boards; silent = h.silent }
@@ -405,20 +375,7 @@ heads-before m sections fs b (report.End c ∷ lines) before stand are h = absur
 
 -- the first section may start from the first turn on
 may-begin : (m : Machine) (sections : List Section) (fs : List Further) (lines : List Clocks) (soon n : ℕ) (before : List LogLine) → IsBefore m sections fs n before → clocks m fs before ≡ lines → first_turn ≤ soon → MayGoOn m sections fs lines 0 soon before
-may-begin m sections fs lines soon n before h are low =
-    let first : ready (is_cut before) (begun before) (section_start before) (end_by m sections (clocks m fs before) (begun before) (section_start before)) ≡ first_turn =
-    ap (λ (k : ℕ). ready (is_cut before) k (section_start before) (end_by m sections (clocks m fs before) k (section_start before))) h.none ∙ at-first (is_cut before) (section_start before) 0 in
-    record {
-      fine = h.fine;
-      going = h.going;
-      begun_is = h.none;
-      lines_are = are;
-      whole = λ uncut s inside. ap length (h.silent s) ∙ sym (ap length (no-plan m sections fs before s h.none));
-      due = omega (arith, first, low);
-    } where
-      at-first : (cut : Bool) (begin end : ℕ) → ready cut 0 begin end ≡ first_turn
-      at-first true begin end = refl
-      at-first false begin end = refl
+may-begin m sections fs lines soon n before h are low = search (rules, no-plan)
 
 through-over : (m : Machine) (sections : List Section) (lines : List Clocks) (soon : ℕ) (said : List ReportLine) → GoWithin m sections lines soon said → AreOver m sections (further_told (map logged said)) (onto (map logged said) [])
 through-over m sections lines soon said go =
@@ -439,9 +396,7 @@ through-over m sections lines soon said go =
 
 -- with the end line behind them
 end-over : (m : Machine) (sections : List Section) (fs : List Further) (before : List LogLine) → AreOver m sections fs before → Fine m sections fs (line.End ∷ before)
-end-over m sections fs before over =
-    let short = never-short (is_cut before) (plans m sections fs before) (point m sections fs before).tallies (λ cut. whole-lacks m sections fs before (over.whole cut)) in
-    (open-only m sections fs before line.End over.going (ap (fault_if misfit.Missing) short), over.fine)
+end-over m sections fs before over = search (rules, never-short, whole-lacks, open-only)
 
 pub of-more : (m : Machine) (xs ys : List ReportLine) → AreOfRun m xs → AreOfRun m ys → AreOfRun m (xs ++ ys)
 of-more m [] ys of and = and

@@ -1,5 +1,5 @@
 -- A line of a report is read back: its text has its words, and they say what it does.
-use Rattle.std.proofs.Common.{◌≡◌, ◌∙◌, ℕ, zero, suc, ◌<◌, ◌≤◌, ◌^◌, Bool, true, false, List, [], ◌∷◌, length, ap, sym, refl, arith, Option, Some, None}
+use Rattle.std.proofs.Common.{◌≡◌, ◌∙◌, ℕ, zero, suc, ◌<◌, ◌≤◌, ◌^◌, Bool, true, false, List, [], ◌∷◌, length, ap, sym, refl, arith, Option, Some, None, rules}
 use Rattle.std.specs.Prelude.{◌&&◌, ◌==◌, codes, decimal, Ok, Err, if◌then◌else◌}
 use Rattle.std.specs.Str.{bytes_eq}
 use Rattle.laws_board.proofs.Names.{nat_tests, Cause, Machine, SectionKind, Moves, Home, IsValidMachine, board_at, stepper_at, ReportLine, and_from}
@@ -46,11 +46,7 @@ end-spelled m cause.Done = refl
 end-spelled m c = refl
 
 pub line-spelled : (m : Machine) (l : ReportLine) → line_text m l ≡ spaced (words_said m l) (10 ∷ [])
-line-spelled m (report.Section i turn kind) = section-spelled i turn kind
-line-spelled m (report.Pulse board stepper tick true) = refl
-line-spelled m (report.Out board pin tick true) = refl
-line-spelled m (report.End c) = end-spelled m c
-line-spelled m c = refl
+line-spelled m l = search (rules, section-spelled, end-spelled)
 
 -- they are words
 
@@ -156,13 +152,7 @@ are-words m c valid names of = absurd of
 -- they say what the line does
 
 label : (name : Text) (n : ℕ) (words : List Text) → n < 2 ^ 64 → labelled name (name ∷ decimal n ∷ words) ≡ Some (n, words)
-label name n words small =
-    let same = same-text name name refl in
-    let found : with_words (number (decimal n)) words ≡ Some (n, words) = ap (λ (o : Option ℕ). with_words o words) (number-decimal n small) in
-    if-true (bytes_eq name name) same (with_words (number (decimal n)) words) ∙ found where
-      if-true : (a : Bool) → a ≡ true → (o : Option (ℕ × List Text)) → (if a then o else None) ≡ o
-      if-true true e o = refl
-      if-true false e o = cc
+label name n words small = search (rules, same-text, number-decimal, bytes_eq)
 
 is-turn : (turn : ℕ) → turn < run_turns → is_turn turn ≡ true
 is-turn turn low = grind (arith, nat_tests)
@@ -209,18 +199,7 @@ board-said m board freq turn tick valid names inside f t long =
     ∙ ok-if ((board_at m board).freq == freq) (Ok (line.Board board turn tick)) (Err Unknown) same_freq))))
 
 section-said : (m : Machine) (i turn : ℕ) (kind : SectionKind) → i < 2 ^ 64 → turn < run_turns → IsKind kind → line_said m (words_said m (report.Section i turn kind)) ≡ Ok (line.Section i turn kind)
-section-said m i turn kind long t axis =
-    let first = label (codes "turn") turn (kind_words kind) (long-turn turn t) in
-    ap (section_turn (number (decimal i))) first
-    ∙ (ap (λ (n : Option ℕ). section_turn n (Some (turn, kind_words kind))) (number-decimal i long)
-    ∙ (ap (section_with i turn) (kind-back kind axis)
-    ∙ ok-if (is_turn turn) (Ok (line.Section i turn kind)) (Err BadLine) (is-turn turn t))) where
-      kind-back : (kind : SectionKind) → IsKind kind → kind_said (kind_words kind) ≡ Some kind
-      kind-back Moves k = refl
-      kind-back (Home zero) k = refl
-      kind-back (Home (suc zero)) k = refl
-      kind-back (Home (suc (suc zero))) k = refl
-      kind-back (Home (suc (suc (suc n)))) k = absurd (omega (arith, k))
+section-said m i turn kind long t axis = search (rules, label, long-turn, number-decimal, ok-if, is-turn)
 
 pulse-said : (m : Machine) (board stepper tick : ℕ) (up : Bool) → IsValidMachine m → HasNames m → stepper < length m.steppers → board ≡ (stepper_at m stepper).board → tick < 2 ^ 64
     → line_said m (words_said m (report.Pulse board stepper tick up)) ≡ Ok (line.Pulse stepper tick up)
@@ -239,12 +218,7 @@ pulse-said m board stepper tick up valid names inside b long =
       up-back false = refl
 
 cut-said : (m : Machine) (i board pin tick from : ℕ) → HasNames m → i < 2 ^ 64 → board < length m.boards → tick < 2 ^ 64 → from < 2 ^ 64 → line_said m (words_said m (report.Cut i board pin tick from)) ≡ Ok (line.Cut i)
-cut-said m i board pin tick from names a inside b c =
-    let name = (board_at m board).name in
-    ap (λ (n : Option ℕ). cut_with m name n (number (decimal tick)) (number (decimal from))) (number-decimal i a)
-    ∙ (ap (λ (n : Option ℕ). cut_with m name (Some i) n (number (decimal from))) (number-decimal tick b)
-    ∙ (ap (cut_with m name (Some i) (Some tick)) (number-decimal from c)
-    ∙ ap (λ (n : Option ℕ). board_said n (line.Cut i)) (board-at m.boards board no_board inside names.boards_differ)))
+cut-said m i board pin tick from names a inside b c = search (rules, board_at, number-decimal, board-at)
 
 drift-said : (m : Machine) (board sent clock from : ℕ) → HasNames m → board < length m.boards → sent < 2 ^ 64 → clock < 2 ^ 64 → from < 2 ^ 64 → line_said m (words_said m (report.Drift board sent clock from)) ≡ Ok (line.Line board sent clock from)
 drift-said m board sent clock from names inside a b c =
@@ -255,9 +229,7 @@ drift-said m board sent clock from names inside a b c =
     ∙ ap (drift_told sent clock from) (board-at m.boards board no_board inside names.boards_differ)))
 
 counts-said : (m : Machine) (accepted passed : ℕ) → accepted < 2 ^ 64 → passed < 2 ^ 64 → line_said m (words_said m (report.Lines accepted passed)) ≡ Ok line.Note
-counts-said m accepted passed a b =
-    ap (λ (n : Option ℕ). counts_with n (labelled (codes "passed") (codes "passed" ∷ decimal passed ∷ []))) (number-decimal accepted a)
-    ∙ ap counts_passed (label (codes "passed") passed [] b)
+counts-said m accepted passed a b = search (rules, number-decimal, label)
 
 end-said : (m : Machine) (c : Cause) → line_said m (words_said m (report.End c)) ≡ Ok line.End
 unfolding value_of

@@ -1,5 +1,5 @@
 -- The switches of a scene that is read from a text have line numbers of 64 bits.
-use Rattle.std.proofs.Common.{◌≡◌, ◌∙◌, ℕ, suc, ◌+◌, ◌^◌, ◌<◌, ◌≤◌, Bool, true, false, List, [], ◌∷◌, ◌++◌, All, length, refl, ap, sym, subst, arith, inl, inr, Option, Some, None}
+use Rattle.std.proofs.Common.{◌≡◌, ◌∙◌, ℕ, suc, ◌+◌, ◌^◌, ◌<◌, ◌≤◌, Bool, true, false, List, [], ◌∷◌, ◌++◌, All, length, refl, ap, sym, subst, arith, inl, inr, Option, Some, None, rules}
 use Rattle.std.specs.Prelude.{Result, Ok, Err, codes, if◌then◌else◌}
 use Rattle.std.specs.Str.{bytes_eq}
 use Rattle.laws_board.proofs.Names.{leb_tells, All-cons, All-nil, BoardDef, Machine, Scene, Switch, Down, Up}
@@ -42,9 +42,7 @@ moment_at boards n board pin None = tt
 moment_at boards n board pin (Some moment) = on_board_at boards n (board_from 0 boards board) pin moment
 
 switch_at : (boards : List BoardDef) (n : ℕ) (words : List (List ℕ)) → IsAt n (switch_item boards n words)
-switch_at boards n [] = tt
-switch_at boards n (board ∷ []) = tt
-switch_at boards n (board ∷ pin ∷ words) = moment_at boards n board pin (moment_of words)
+switch_at boards n words = search (rules, moment_at)
 
 -- an entry of a line is none of a pin
 deed_at : (n : ℕ) (board : Option ℕ) (way : Way) (connecting : Bool) (number : ℕ) (deed : Deed) → IsAt n (on_line board way connecting number deed)
@@ -52,19 +50,13 @@ deed_at n None way connecting number deed = tt
 deed_at n (Some board) way connecting number deed = tt
 
 entry_at : (boards : List BoardDef) (n : ℕ) (way : Way) (connecting : Bool) (board : List ℕ) (number : Option ℕ) (deed : Option Deed) → IsAt n (entry_item boards way connecting board number deed)
-entry_at boards n way connecting board (Some number) (Some deed) = deed_at n (board_from 0 boards board) way connecting number deed
-entry_at boards n way connecting board (Some number) None = tt
-entry_at boards n way connecting board None deed = tt
+entry_at boards n way connecting board number deed = search (rules, deed_at)
 
 way_at : (boards : List BoardDef) (n : ℕ) (way : Way) (connecting : Bool) (words : List (List ℕ)) → IsAt n (line_item boards way connecting words)
-way_at boards n way connecting [] = tt
-way_at boards n way connecting (board ∷ []) = tt
-way_at boards n way connecting (board ∷ number ∷ deed) = entry_at boards n way connecting board (number_in 0 18_446_744_073_709_551_615 number) (deed_in deed)
+way_at boards n way connecting words = search (rules, entry_at)
 
 connect_at : (boards : List BoardDef) (n : ℕ) (words : List (List ℕ)) → IsAt n (connect_item boards words)
-connect_at boards n [] = tt
-connect_at boards n (word ∷ words) =
-    either_at n (bytes_eq word (codes "down")) _ _ (way_at boards n Down true words) (either_at n (bytes_eq word (codes "up")) _ _ (way_at boards n Up true words) tt)
+connect_at boards n words = search (rules, either_at, bytes_eq, way_at)
 
 words_at : (boards : List BoardDef) (n : ℕ) (words : List (List ℕ)) → IsAt n (meant_by boards n words)
 words_at boards n [] = tt

@@ -1,5 +1,5 @@
 -- A report that tells the first ones of the boards' further clock lines.
-use Rattle.std.proofs.Common.{◌≡◌, ◌∙◌, ℕ, ◌+◌, ◌*◌, ◌<◌, ◌≤◌, List, [], ◌∷◌, ◌++◌, length, map, ap, sym, refl, subst, arith, inl, inr, append-nil, length-append}
+use Rattle.std.proofs.Common.{◌≡◌, ◌∙◌, ℕ, ◌+◌, ◌*◌, ◌<◌, ◌≤◌, List, [], ◌∷◌, ◌++◌, length, map, ap, sym, refl, subst, arith, inl, inr, append-nil, length-append, rules}
 use Rattle.std.specs.List.{range_with_len}
 use Rattle.std.proofs.Math.ListN.{get_or-append}
 use Rattle.std.proofs.Math.Seq.{get_or-append_seam}
@@ -145,9 +145,7 @@ small-first (h ∷ told) rest small = (small.0, small.1, small.2, small-first to
 
 -- the first lines are those of all
 short-kept : (c d : Clocks) (told rest : List Held) → d ≡ clocks_of c.first told → c.held ≡ told ++ rest → AreKept c → AreKept d
-short-kept c d told rest is are kept =
-    let whole : c ≡ clocks_of c.first (told ++ rest) = ap (clocks_of c.first) are in
-    subst (λ (x : Clocks). AreKept x) (sym is) (kept-first c.first told rest (subst (λ (x : Clocks). AreKept x) whole kept))
+short-kept c d told rest is are kept = search (rules, kept-first)
 
 short-have : (m : Machine) (all short : List Clocks) (fs : List Further) (last ready : ℕ) → HaveLines m all ready → length short ≡ length m.boards → ((b : ℕ) → b < length m.boards → AreShort m all short fs last b) → HaveLines m short ready
 short-have m all short fs last ready have long each = record {
@@ -161,11 +159,7 @@ short-have m all short fs last ready have long each = record {
 
 -- they may be told
 short-well : (m : Machine) (all short : List Clocks) (fs : List Further) (last ready b : ℕ) → HaveLines m short ready → AllSmall (clocks_at all b).held → AreShort m all short fs last b → b < length m.boards → HoldWell m b (retold ready (clocks_at short b)).first (clocks_at short b).held
-short-well m all short fs last ready b have small s h = record {
-  freq = have.freq b h;
-  are = (retold-kept (clocks_at short b) ready (one-of m short ready b have h)).held;
-  small = subst (λ (c : Clocks). AllSmall c.held) (sym s.is) (small-first s.shown.told s.shown.rest (subst AllSmall s.shown.are small));
-}
+short-well m all short fs last ready b have small s h = search (rules, retold-kept, clocks_at, one-of, small-first)
 
 -- the same first lines
 retold-first : (ready : ℕ) (c d : Clocks) → c.first ≡ d.first → alone (retold ready c) ≡ alone (retold ready d)

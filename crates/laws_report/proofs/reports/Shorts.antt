@@ -1,5 +1,5 @@
 -- What a run that shows all its lines tells of its boards' clock lines.
-use Rattle.std.proofs.Common.{◌≡◌, ◌∙◌, ℕ, zero, suc, ◌+◌, ◌-◌, ◌*◌, ◌^◌, ◌<◌, ◌≤◌, true, All, List, [], ◌∷◌, ◌++◌, length, map, ap, sym, refl, subst, arith, append_assoc, length-append}
+use Rattle.std.proofs.Common.{◌≡◌, ◌∙◌, ℕ, zero, suc, ◌+◌, ◌-◌, ◌*◌, ◌^◌, ◌<◌, ◌≤◌, true, All, List, [], ◌∷◌, ◌++◌, length, map, ap, sym, refl, subst, arith, append_assoc, length-append, rules}
 use Rattle.std.specs.Prelude.{min}
 use Rattle.std.proofs.Math.Nat.{mul-mod_left}
 use Rattle.std.proofs.Math.Seq.{get_or-append_seam}
@@ -44,12 +44,7 @@ pub record IsHere (m : Machine) (c : Clocks) (b : ℕ) : Type 0 where
   pub freq : c.first.freq ≡ (board_at m b).freq
 
 pub here_at : (m : Machine) (past cs all : List Clocks) (c : Clocks) (b ready : ℕ) → AreBoardClocks m all ready → all ≡ past ++ c ∷ cs → b ≡ length past → IsHere m c b
-here_at m past cs all c b ready sound are at =
-    let count = sound.count in
-    let long = ap length are in
-    let size = length-append past (c ∷ cs) in
-    let low : b < length m.boards = omega (arith, at, count, long, size) in
-    record { inside = low; freq = sym (ap (λ (x : Clocks). x.first.freq) (line_here past cs all c b are at)) ∙ sound.freq b low }
+here_at m past cs all c b ready sound are at = search (rules, length-append, line_here)
 
 -- the boards' lines tell the first ones
 abbrev HasTick : ℕ → Clocks → Type 0
@@ -273,14 +268,7 @@ module _ (m : Machine) (all : List Clocks) (ready last : ℕ) (head body said : 
 
     -- so there are ticks for a section
     pub rooms_at : (n turn : ℕ) → ready ≤ turn → turn < start_limit → n ≤ 2_000_000 → have_room (all_retold ready shorts.short) n turn ≡ true
-    rooms_at n turn late soon few =
-        let lines = all_retold ready shorts.short in
-        let many : length lines ≡ length m.boards = length-map shorts.short (retold ready) ∙ shorts.have.boards in
-        all-roomy lines n turn (λ b h.
-        let inside : b < length m.boards = omega (arith, h, many) in
-        let s = slow_at b inside in
-        let begun = s.begun in
-        roomy (clocks_at lines b) n turn s.first_slow s.held_slow (omega (arith, begun, late)) (omega (arith, soon)) few)
+    rooms_at n turn late soon few = search (rules, length-map, all-roomy, slow_at, roomy, clocks_at)
 
     -- and the planned steps have ticks of 64 bits
     pub steps_at : (moves : List Move) (turn s : ℕ) → IsValidMachine m → ready ≤ turn → turn < start_limit → All IsShortMove moves → length moves ≤ 2_000_000 → s < length m.steppers → All (λ (q : Planned). q.tick ≤ 2 ^ 64 - 1) (stepper_plan m (all_retold ready shorts.short) moves turn s)

@@ -1,5 +1,5 @@
 -- The lines of a run over links stand as a log wants them.
-use Rattle.std.proofs.Common.{◌≡◌, ◌∙◌, ℕ, ◌+◌, ◌-◌, ◌*◌, ◌^◌, ◌<◌, Bool, true, false, List, [], ◌∷◌, ◌++◌, length, ap, sym, refl, subst, arith, inl, inr, Option, Some, append_assoc, length-append}
+use Rattle.std.proofs.Common.{◌≡◌, ◌∙◌, ℕ, ◌+◌, ◌-◌, ◌*◌, ◌^◌, ◌<◌, Bool, true, false, List, [], ◌∷◌, ◌++◌, length, ap, sym, refl, subst, arith, inl, inr, Option, Some, append_assoc, length-append, rules}
 use Rattle.std.specs.Prelude.{min, if◌then◌else◌}
 use Rattle.laws_board.proofs.Names.{eqb_tells, Machine, Pulse, Section, SectionKind, tick, turn_ns, Clocks, IsValidMachine, board_at, ReportLine}
 use Rattle.report_text.specs.declared.line.ReportLine.TheVariants as report
@@ -27,14 +27,7 @@ told_parts homes m (x ∷ xs) ys h = let r = told_parts homes m xs ys h.1 in ((h
 
 -- a pulse is one of its stepper
 pub some_pulse : (board stepper tick : ℕ) (up : Bool) (lines : List ReportLine) → pulses_of stepper (report.Pulse board stepper tick up ∷ lines) ≡ [] → ⊥
-some_pulse board stepper tick up lines e = elim (eqb_tells stepper stepper) [
-  | inl p ↦
-      let here : Pulse = record { tick = tick; stepper = stepper; up = up } in
-      let At : Bool → List Pulse = λ t. (if t then here ∷ [] else []) ++ pulses_of stepper lines in
-      let f : here ∷ pulses_of stepper lines ≡ [] = sym (ap At p.0) ∙ e in
-      cc
-  | inr p ↦ p.1 refl
-]
+some_pulse board stepper tick up lines e = search (rules, tick, eqb_tells)
 
 pub told_behind : (homes : Bool) (m : Machine) (i : ℕ) (lines : List ReportLine) → AreTold homes m lines → AreTold homes m (lines_behind i lines)
 told_behind homes m i [] told = tt

@@ -1,5 +1,5 @@
 -- A board to which no units come makes no pulses, whatever its link does with what comes.
-use Rattle.std.proofs.Common.{◌≡◌, ◌≢◌, ℕ, ◌+◌, ◌-◌, ◌≤◌, List, [], ◌∷◌, ◌++◌, All, length, map, take, refl, ap, sym, ◌∙◌, subst, arith}
+use Rattle.std.proofs.Common.{◌≡◌, ◌≢◌, ℕ, ◌+◌, ◌-◌, ◌≤◌, List, [], ◌∷◌, ◌++◌, All, length, map, take, refl, ap, sym, ◌∙◌, subst, arith, rules}
 use Rattle.laws_board.proofs.Names.{All-nil, flat_map, Level, BoardDef, Pulse, board_tick, clock_of, Clocks, one_line, State, Entry, StepUnit, Meant, plain, units_orders, Core, Step, run_world, new_world, queued_in, first_state, LinkState, Orders, BoardSection, of_stepper, units_of}
 use Rattle.plan_types.specs.Machines.{IsValidBoard}
 use Rattle.section_units.specs.Sections.{IsSection}
@@ -68,15 +68,7 @@ still_tracked b own v =
     }
 
 still_run : (b : BoardDef) (own : ℕ → ℕ) (os : List Orders) → IsValidBoard b → AreStill os → IsBoardRun own (some_clocks b) b.freq b.slots 1 [] os
-still_run b own os v still =
-    let Section : BoardSection → Type 0 = λ s. IsSection (some_clocks b) b.freq b.slots s in
-    record {
-      tracked = still_tracked b own v;
-      sections = All-nil Section;
-      row = tt;
-      orders = still_orders 0 os still;
-      made = λ late oid. All-nil (λ (s : BoardSection). of_stepper oid (units_of s.releases) ≢ [] → MakesIn oid (take 1 os));
-    }
+still_run b own os v still = search (rules, still_tracked, still_orders, of_stepper, units_of)
 
 -- such a board makes no pulses
 none_made : (b : BoardDef) (pins : List (List Level)) (os : List Orders) (steps : List Step) → IsValidBoard b → AreStill os → AreTurnsOf (board_tick (clock_of b)) 0 os steps → (run_world steps (new_world b pins)).made ≡ (new_world b pins).made

@@ -1,5 +1,5 @@
 -- Where the further clock lines of a report are those of the boards' lines, in order, each of them may stand.
-use Rattle.std.proofs.Common.{◌≡◌, ◌∙◌, ℕ, suc, ◌*◌, ◌/◌, ◌%◌, ◌^◌, ◌<◌, ◌≤◌, Bool, true, false, List, [], ◌∷◌, ◌++◌, length, map, max, ap, sym, refl, subst, arith, inl, inr, append-nil, append_assoc}
+use Rattle.std.proofs.Common.{◌≡◌, ◌∙◌, ℕ, suc, ◌*◌, ◌/◌, ◌%◌, ◌^◌, ◌<◌, ◌≤◌, Bool, true, false, List, [], ◌∷◌, ◌++◌, length, map, max, ap, sym, refl, subst, arith, inl, inr, append-nil, append_assoc, rules}
 use Rattle.std.specs.Prelude.{◌==◌, ◌&&◌, nat_le, nat_lt, set, if◌then◌else◌}
 use Rattle.std.proofs.Math.Nat.{div-add-mod}
 use Rattle.laws_board.proofs.Names.{eqb_tells, leb_tells, nat_tests, get_or-set_same, length-map, Machine, Held, Line, tick, turn_ns, Clocks, lines_tick, one_line, board_at, clocks_at, and_from}
@@ -109,32 +109,17 @@ may-hold first done h rest are small =
 
 -- it is the line that is told
 line-is : (m : Machine) (b : ℕ) (first : Line) (h : Held) → first.freq ≡ (board_at m b).freq → IsFit first h.line h.from → told_line m b (h.line.at / turn_ns) h.line.clock ≡ h.line
-line-is m b first h freq fit =
-    let parts = div-add-mod h.line.at 1_000_000 in
-    let whole = fit.whole_turn in
-    let at : h.line.at / turn_ns * turn_ns ≡ h.line.at = omega (arith, parts, whole) in
-    let same : (board_at m b).freq ≡ h.line.freq = sym freq ∙ sym fit.same_freq in
-    let By : ℕ → ℕ → Line = λ a f. record { at = a; clock = h.line.clock; freq = f } in
-    ap (λ a. By a (board_at m b).freq) at ∙ ap (λ f. By h.line.at f) same
+line-is m b first h freq fit = search (rules, div-add-mod, turn_ns, board_at)
 
 -- and is added as it is
 held-is : (first : Line) (done : List Held) (h : Held) (rest : List Held) → AreHeld first first 0 0 (done ++ h ∷ rest) → added (clocks_of first done) h.from h.line ≡ clocks_of first (done ++ h ∷ [])
-held-is first done h rest are =
-    let s = stands-at first first 0 0 done h rest are in
-    let By : ℕ → ℕ → ℕ → Clocks = λ most start plan. clocks_of first (done ++ record { from = h.from; line = h.line; most = most; start = start; plan = plan } ∷ []) in
-    ap (λ n. By n (tick h.line h.from) (tick first h.from)) s.most_is ∙ ap (λ n. By h.most n (tick first h.from)) (sym s.start) ∙ ap (λ n. By h.most h.start n) (sym s.plan)
+held-is first done h rest are = search (rules, stands-at, tick)
 
 told-may : (m : Machine) (b : ℕ) (first : Line) (done : List Held) (h : Held) (rest : List Held) → HoldWell m b first (done ++ h ∷ rest) → may_hold (clocks_of first done) h.from (told_line m b (h.line.at / turn_ns) h.line.clock) ≡ true
-told-may m b first done h rest ok =
-    let s = stands-at first first 0 0 done h rest ok.are in
-    ap (may_hold (clocks_of first done) h.from) (line-is m b first h ok.freq s.fit) ∙ may-hold first done h rest ok.are ok.small
+told-may m b first done h rest ok = search (rules, stands-at, line-is, may-hold)
 
 told-added : (m : Machine) (b : ℕ) (first : Line) (done : List Held) (h : Held) (rest : List Held) → HoldWell m b first (done ++ h ∷ rest) → added_where (clocks_of first done) h.from (told_line m b (h.line.at / turn_ns) h.line.clock) ≡ clocks_of first (done ++ h ∷ [])
-told-added m b first done h rest ok =
-    let s = stands-at first first 0 0 done h rest ok.are in
-    let c = clocks_of first done in
-    let l = told_line m b (h.line.at / turn_ns) h.line.clock in
-    ap (λ (t : Bool). if t then added c h.from l else c) (told-may m b first done h rest ok) ∙ ap (λ (x : Line). added c h.from x) (line-is m b first h ok.freq s.fit) ∙ held-is first done h rest ok.are
+told-added m b first done h rest ok = search (rules, stands-at, turn_ns, told-may, line-is, held-is)
 
 more-well : (m : Machine) (b : ℕ) (first : Line) (done : List Held) (h : Held) (rest : List Held) → HoldWell m b first (done ++ h ∷ rest) → HoldWell m b first ((done ++ h ∷ []) ++ rest)
 more-well m b first done h rest ok = subst (λ (x : List Held). HoldWell m b first x) (sym (append_assoc done (h ∷ []) rest)) ok
@@ -236,15 +221,7 @@ tells-one m lines now fs b turn tick from inside ok l =
 
 -- the lines of the other boards stay
 left-other : (lines now : List Clocks) (fs : List Further) (b k : ℕ) (f : Further) (c : Clocks) → f.board ≡ b → (k ≡ b → ⊥) → IsLeft lines now (f ∷ fs) k → IsLeft lines (set now b c) fs k
-left-other lines now fs b k f c same other l =
-    let not : (f.board == k) ≡ false = elim (eqb_tells f.board k) [ inl p ↦ absurd (other (sym p.1 ∙ same)) | inr p ↦ p.0 ] in
-    record {
-      done = l.done;
-      rest = l.rest;
-      now_is = get_or-set_other now b k c _ other ∙ l.now_is;
-      are = l.are;
-      left = ap (λ (t : Bool). if t then f ∷ of_board k fs else of_board k fs) (sym not) ∙ l.left;
-    }
+left-other lines now fs b k f c same other l = search (rules, eqb_tells, get_or-set_other)
 
 either : (a b : ℕ) {P : Type 0} → (a ≡ b → P) → ((a ≡ b → ⊥) → P) → P
 either a b f g = elim (eqb_tells a b) [ inl p ↦ f p.1 | inr p ↦ g p.1 ]

@@ -1,5 +1,5 @@
 -- The report of a run over links that begins no section.
-use Rattle.std.proofs.Common.{◌≡◌, ◌⊎◌, ◌∙◌, ℕ, zero, suc, ◌+◌, ◌-◌, ◌*◌, ◌^◌, ◌<◌, ◌≤◌, Bool, true, false, List, [], ◌∷◌, ◌++◌, All, length, map, ap, sym, refl, subst, arith, inl, inr, append_assoc, append-nil, length-append}
+use Rattle.std.proofs.Common.{◌≡◌, ◌⊎◌, ◌∙◌, ℕ, zero, suc, ◌+◌, ◌-◌, ◌*◌, ◌^◌, ◌<◌, ◌≤◌, Bool, true, false, List, [], ◌∷◌, ◌++◌, All, length, map, ap, sym, refl, subst, arith, inl, inr, append_assoc, append-nil, length-append, rules}
 use Rattle.std.specs.Prelude.{◌==◌, min, if◌then◌else◌}
 use Rattle.laws_board.proofs.Names.{flat_map, flat_map-append, leb_tells, length-map, All-nil, Cause, Machine, IsOwn, Line, ReadStop, Moves, tick, turn_ns, Clocks, one_line, IsValidMachine, board_at, clocks_at, State, ReportLine, Scene, Switch, Asking, listen_all, ready_all, pins_of, Orders, Known, Connecting, noted, machine_line, Reacted, reacts, Came, known_by, Started, MotionTurn, ReactorTurn, gather, item}
 use Rattle.gcode_program.specs.Programs.{program_end}
@@ -77,12 +77,7 @@ record TellsEach (m : Machine) (most : ℕ) (lines : List ReportLine) : Type 0 w
 -- where connecting ends in a turn, its news tell the lines of the askings
 pub told_lines : (m : Machine) (r : Known) (k : ℕ) (states : List State) (x : Reacted) (lines : List Line) → turning.Goes m r k states x → x.ordered.word.news ≡ word.Lines lines ∷ [] → r.phase ≡ Connecting
     → lines ≡ board_lines m 0 (ready_all m 0 (listen_all r.askings.items states))
-told_lines m r k states x lines (inl a) news phase = absurd (let e : [] ≡ word.Lines lines ∷ [] = sym (ap (λ (y : Reacted). y.ordered.word.news) a.is) ∙ news in cc)
-told_lines m r k states x lines (inr (inl a)) news phase =
-    let own = board_lines m 0 (ready_all m 0 (listen_all r.askings.items states)) in
-    let e : word.Lines own ∷ [] ≡ word.Lines lines ∷ [] = sym (ap (λ (y : Reacted). y.ordered.word.news) a.is) ∙ news in
-    cc
-told_lines m r k states x lines (inr (inr a)) news phase = absurd (let e : Running ≡ Connecting = sym a.phase ∙ phase in cc)
+told_lines m r k states x lines p6 p7 p8 = search (rules, ready_all, listen_all)
 
 -- so in turns of a reactor
 turns_each : (m : Machine) (switches : List Switch) (n : ℕ) (before : List Came) (rs : List ReactorTurn) → AreReactorTurns m switches before rs → length before + length rs ≤ n → TellsEach m (n + 1_260) (gather (λ t. t.lines) rs)
@@ -299,11 +294,7 @@ module _ (m : Machine) (v : IsValidMachine m) (s : Scene) (ts : List MotionTurn)
   most = few m v s ts p end c first rest f
 
   last_full : length end.states ≡ length m.boards
-  last_full = by f.row
-    where
-      by : IsRow (length m.boards) (length (came_from [] (first ∷ rest))) end.states end.note → length end.states ≡ length m.boards
-      by (inl a) = (let size = came_long [] (first ∷ rest) in absurd (omega (arith, size, a.0)))
-      by (inr a) = a.1
+  last_full = search (rules, came_long)
 
   first_none : first.states ≡ []
   first_none = by f.turns.0.row

@@ -1,6 +1,6 @@
 -- The report of a run over links that has no line of a section.
 use Rattle.std.specs.Prelude.{if◌then◌else◌}
-use Rattle.std.proofs.Common.{◌≡◌, ◌∙◌, ℕ, ◌+◌, ◌<◌, ◌≤◌, Bool, true, false, List, [], ◌∷◌, ◌++◌, length, Option, Some, None, ap, sym, refl, subst, arith, append-nil, inl, inr}
+use Rattle.std.proofs.Common.{◌≡◌, ◌∙◌, ℕ, ◌+◌, ◌<◌, ◌≤◌, Bool, true, false, List, [], ◌∷◌, ◌++◌, length, Option, Some, None, ap, sym, refl, subst, arith, append-nil, inl, inr, rules}
 use Rattle.laws_board.proofs.Names.{flat_map-append, eqb_tells, Cause, Machine, IsValidMachine, ReportLine, BoardDef, Scene, Switch, Asking, all_connected, giving_up, listen_all, ready_all, Connecting, Stopping, Known, news_of, noted, IsOwn, known_by, Started, MotionTurn, ReactorTurn, gather, Note, State, reacts, first_lines, machine_line}
 use Rattle.std.proofs.lemmas.Bool.{cases_lt}
 use Rattle.plan_types.specs.declared.cause.Cause.TheVariants as cause
@@ -109,14 +109,7 @@ alone_own m s ts end c f own other answers = by c refl (subst At (f.own own).0 (
 
 -- one that was told to stop before its first turn shows the line of the machine alone
 pub alone_plain : (m : Machine) (switches : List Switch) (end : ReactorTurn) (r : Known) → IsRow (length m.boards) 0 end.states end.note → r.begun ≡ (known_by m switches []).begun → EndsPlain m [] end r → ShowsNone m (gather (λ t. t.lines) (end ∷ []))
-alone_plain m switches end r row same plain =
-    let states : end.states ≡ [] = elim row [ inl a ↦ a.1 | inr a ↦ absurd (omega (arith, a.0)) ] in
-    let note = row_none (length m.boards) end row in
-    let begun = ap (λ (o : Option Note). (noted m o r).begun) note ∙ same in
-    let alone : first_lines m (noted m end.note r) 0 (news_of end.note) end.states ≡ report.Machine m.corexy (length m.boards) (length m.steppers) ∷ [] =
-    ap (λ (o : Option Begun). machine_line m 0 ++ (section_line 0 o ++ (drift_lines (news_of end.note) ++ pulse_lines m 0 end.states))) begun
-    ∙ ap (λ (o : Option Note). machine_line m 0 ++ ([] ++ (drift_lines (news_of o) ++ pulse_lines m 0 end.states))) note ∙ ap (λ (z : List State). machine_line m 0 ++ ([] ++ ([] ++ pulse_lines m 0 z))) states in
-    subst (λ (z : List ReportLine). ShowsNone m z) (sym (append-nil end.lines ∙ plain ∙ alone)) (record { of_run = ((refl, refl, refl), tt); may = (tt, tt); heads = tt })
+alone_plain m switches end r row same plain = search (rules, row_none, noted, first_lines, news_of, machine_line, append-nil)
 
 -- so does one that goes on behind it, as no board is connected yet
 unconnected : (m : Machine) (b : ℕ) (boards : List BoardDef) → 0 < length boards → all_connected (ready_all m b (listen_all (new_askings boards) [])) ≡ false

@@ -1,5 +1,5 @@
 -- A planner that was told no clock lines tells no further ones.
-use Rattle.std.proofs.Common.{◌≡◌, ◌∙◌, ℕ, suc, ◌+◌, ◌*◌, ◌%◌, ◌^◌, ◌<◌, ◌≤◌, Bool, true, false, List, [], ◌∷◌, ◌++◌, ◌⊎◌, All, get_or, length, map, max, ap, sym, refl, subst, arith, inl, inr, Option, None, Some, append_assoc, length-append}
+use Rattle.std.proofs.Common.{◌≡◌, ◌∙◌, ℕ, suc, ◌+◌, ◌*◌, ◌%◌, ◌^◌, ◌<◌, ◌≤◌, Bool, true, false, List, [], ◌∷◌, ◌++◌, ◌⊎◌, All, get_or, length, map, max, ap, sym, refl, subst, arith, inl, inr, Option, None, Some, append_assoc, length-append, rules}
 use Rattle.std.specs.Prelude.{◌==◌, ◌&&◌, nat_le, nat_lt, if◌then◌else◌}
 use Rattle.std.proofs.Math.Nat.{mul-mod_left}
 use Rattle.laws_board.proofs.Names.{eqb_tells, leb_tells, length-map, All-head, Cause, BoardClock, BoardDef, Machine, Line, clock_of, turn_ns, Clocks, one_line, IsValidMachine, board_at, State, WordMsg, Scene, Switch, Asking, listen_all, ready_all, pins_of, Known, Connecting, noted, Reacted, Came, known_by, last_reacted, Told, MotionTurn, ReactorTurn, gather, and_from}
@@ -61,15 +61,7 @@ find_ended m switches before (t ∷ rs) h p q =
     ]
 
 fit_one : (b : BoardDef) (clock : BoardClock) (turns : List BoardTurn) (k : ℕ) (l : Line) → clock.freq ≡ b.freq → length turns ≤ k → IsSampled clock turns l → is_fit b k l ≡ true
-fit_one b clock turns k l freq long x =
-    let s = x.0 in
-    let i = x.1 in
-    let from = i.from in
-    let to = i.to in
-    let got = told_before (i.block + 1) s.clock s.got turns i.told in
-    subst (λ (y : Line). is_fit b k y ≡ true) (sym x.2)
-    (and_from ((clock.freq == b.freq) && nat_le (s.sent * turn_ns) (k * turn_ns)) (s.sent * turn_ns % 1_000_000 == 0) (and_from (clock.freq == b.freq) (nat_le (s.sent * turn_ns) (k * turn_ns)) (is_equal clock.freq b.freq freq) (is_le (s.sent * turn_ns) (k * turn_ns) (omega (arith, got, from, to, long))))
-    (is_equal (s.sent * turn_ns % 1_000_000) 0 (mul-mod_left s.sent 1_000_000)))
+fit_one b clock turns k l freq long x = search (rules, told_before, and_from, nat_le, turn_ns, is_equal, is_le, mul-mod_left)
 
 fit_all : (boards : List BoardDef) (k : ℕ) (lines : List Line) → length lines ≡ length boards → ((b : ℕ) → b < length boards → (l : Line) → line_at b lines ≡ l ∷ [] → is_fit (get_or boards b no_board) k l ≡ true) → are_fit boards k lines ≡ true
 fit_all [] k [] long each = refl
@@ -129,11 +121,7 @@ word_turn m r k states x lines (inr (inl a)) news phase = ap (λ (y : Reacted). 
 word_turn m r k states x lines (inr (inr a)) news phase = absurd (let e : Running ≡ Connecting = sym a.phase ∙ phase in cc)
 
 word_tells : (m : Machine) (w : WordMsg) (k : ℕ) (lines : List Line) → w.turn ≡ k → k < 2 ^ 61 → w.news ≡ word.Lines lines ∷ [] → are_fit m.boards k lines ≡ true → told_of m w ≡ Some (map one_line lines)
-word_tells m w k lines at low news fit =
-    ap (λ n. if nat_lt n (2 ^ 61) then told_in m n w.news else None) at
-    ∙ (ap (λ (ns : List WordNews). if nat_lt k (2 ^ 61) then told_in m k ns else None) news
-    ∙ (ap (λ (b : Bool). if b then told_in m k (word.Lines lines ∷ []) else None) (is_less k (2 ^ 61) low)
-    ∙ ap (λ (b : Bool). first_told (if b then Some (map one_line lines) else None) None) fit))
+word_tells m w k lines at low news fit = search (rules, nat_lt, is_less, one_line)
 
 module _ (m : Machine) (v : IsValidMachine m) (s : Scene) (ts : List MotionTurn) (p : Plans m (length m.boards) ts) (end : ReactorTurn) (c : Cause) (first : ReactorTurn) (rest : List ReactorTurn) (f : Facts m s ts (first ∷ rest) end c) (untold : p.seen.told ≡ None) where
   -- a board's line, where connecting ended in a turn, is that of a sample

@@ -1,5 +1,5 @@
 -- The cut lines of a run have numbers of 64 bits.
-use Rattle.std.proofs.Common.{◌≡◌, ◌∙◌, ◌⊎◌, inl, inr, ℕ, suc, ◌+◌, ◌<◌, ◌^◌, Bool, true, false, cond, All, List, [], ◌∷◌, ◌++◌, length, map, ap, sym, refl, subst, arith, Option, Some, None}
+use Rattle.std.proofs.Common.{◌≡◌, ◌∙◌, ◌⊎◌, inl, inr, ℕ, suc, ◌+◌, ◌<◌, ◌^◌, Bool, true, false, cond, All, List, [], ◌∷◌, ◌++◌, length, map, ap, sym, refl, subst, arith, Option, Some, None, rules}
 use Rattle.std.specs.Prelude.{◌&&◌, ◌==◌, nat_le, nat_lt, if◌then◌else◌}
 use Rattle.laws_board.proofs.Names.{leb_tells, All-head, All-tail, Cause, AxisDef, Machine, ReadStop, SectionKind, Home, Moves, nearest, Clocks, axis_at, turn_tick, Cmd, News, Note, NoteNews, State, ReportLine, Switch, End, Member, Goes, Rests, Sends, Fired, Seen, GroupState, all_fired, phase, unseen, Homing, HomingTurn, answer_in, goes_on_homing, hears_all, homing_after, homing_turn, members_from, Asking, all_connected, giving_up, listen_all, ready_all, stale, Known, Phase, Connecting, Stopping, is_out, news_of, noted, known_behind, told_all, Reacted, by_phase, cut_line, reacts, unless_ended, unless_stale, first_lines, first_cause, stop_of, Came, GoesOn, known_by, ReactorTurn, gather}
 use Rattle.plan_types.specs.declared.plan.ReadStop.TheVariants as read
@@ -47,32 +47,18 @@ first_small None f h low = low
 first_small (Some g) f h low = h
 
 hears_small : (board : ℕ) (s : TrigState) (tick turn : ℕ) (m : Seen) → tick < 2 ^ 64 → HasSmall m.fired → HasSmall (hears_from board s tick turn m).fired
-hears_small board s tick turn m low h = by (m.member.board == board) s.can
-  where
-    by : (a b : Bool) → HasSmall (if a then (if b then record m { heard = Some (later m.heard turn) } else record m { fired = Some (first_fired m.fired (record { reason = s.reason; tick = tick; turn = turn })) }) else m).fired
-    by false b = h
-    by true true = h
-    by true false = first_small m.fired (record { reason = s.reason; tick = tick; turn = turn }) h low
+hears_small board s tick turn m low h = search (rules, first_small)
 
 all_hear : (board : ℕ) (s : TrigState) (tick turn : ℕ) (ms : List Seen) → tick < 2 ^ 64 → AllSmall ms → AllSmall (map (hears_from board s tick turn) ms)
 all_hear board s tick turn [] low h = tt
 all_hear board s tick turn (m ∷ ms) low h = (hears_small board s tick turn m low h.0, all_hear board s tick turn ms low h.1)
 
 came_small : (board : ℕ) (s : TrigState) (tick turn : ℕ) (g : GroupState) → tick < 2 ^ 64 → AllSmall g.members → AllSmall (came board s tick turn g).members
-came_small board s tick turn g low h = by (nat_lt turn g.start)
-  where
-    by : (b : Bool) → AllSmall (if b then g.members else map (hears_from board s tick turn) g.members)
-    by true = h
-    by false = all_hear board s tick turn g.members low h
+came_small board s tick turn g low h = search (rules, nat_lt, all_hear)
 
 -- a report counts only where its tick is one of the run
 report_small : (clocks : Clocks) (b turn : ℕ) (s : TrigState) (g : GroupState) → AllSmall g.members → AllSmall (hears_report clocks b turn s g).members
-report_small clocks b turn s g h = by (is_in_run clocks (nearest (turn_tick clocks turn) s.clock)) refl
-  where
-    by : (c : Bool) → is_in_run clocks (nearest (turn_tick clocks turn) s.clock) ≡ c
-        → AllSmall (came_at b s (nearest (turn_tick clocks turn) s.clock) (if c then Some (lines_turn clocks (nearest (turn_tick clocks turn) s.clock)) else None) g).members
-    by true e = came_small b s (nearest (turn_tick clocks turn) s.clock) (lines_turn clocks (nearest (turn_tick clocks turn) s.clock)) g (was_less (nearest (turn_tick clocks turn) s.clock) (2 ^ 64) (first_of_both _ _ e)) h
-    by false e = h
+report_small clocks b turn s g h = search (rules, nearest, turn_tick, came_small, was_less, first_of_both)
 
 answer_small : (clocks : Clocks) (b turn : ℕ) (c : Cmd) (g : GroupState) → AllSmall g.members → AllSmall (hears_answer clocks b turn c g).members
 answer_small clocks b turn (cmd.TrsyncState oid can_trigger reason clock) g h = report_small clocks b turn _ g h
@@ -83,11 +69,7 @@ news_small clocks b turn [] g h = h
 news_small clocks b turn (n ∷ ns) g h = news_small clocks b turn ns (hears_answer clocks b turn n.answer g) (answer_small clocks b turn n.answer g h)
 
 state_small : (clocks : Clocks) (b start : ℕ) (s : State) (g : GroupState) → AllSmall g.members → AllSmall (hears_state clocks b start s g).members
-state_small clocks b start s g h = by (nat_le start (s.turn + 1))
-  where
-    by : (c : Bool) → AllSmall (if c then hears_news clocks b s.turn s.news g else g).members
-    by true = news_small clocks b s.turn s.news g h
-    by false = h
+state_small clocks b start s g h = search (rules, nat_le, news_small)
 
 states_small : (clocks : List Clocks) (b start : ℕ) (states : List State) (g : GroupState) → AllSmall g.members → AllSmall (hears_states clocks b start states g).members
 states_small [] b start states g h = h
@@ -104,10 +86,7 @@ with_small true section at turn start last ms = unseen_small ms
 with_small false section at turn start last ms = tt
 
 begun_small : (m : Machine) (section : ℕ) (what : SectionKind) (turn last moving : ℕ) → IsSmallHoming (homing_of m section what turn last moving)
-begun_small m section Moves turn last moving = tt
-begun_small m section (Home axis) turn last moving =
-    let ms = members_from m (axis_at m axis) moving 0 m.boards in
-    with_small (may_be (map unseen ms) turn last) section axis turn turn last ms
+begun_small m section what turn last moving = search (rules, members_from, axis_at, with_small, unseen)
 
 told_small : (m : Machine) (r : Known) (n : NoteNews) → IsSmallHoming r.homing → IsSmallHoming (known_behind m r n).homing
 told_small m r (news.Start section kind turn last moving) h = begun_small m section kind turn last moving
@@ -134,10 +113,7 @@ goes_small k h None s = in_small (phase h.group.start h.group.last k) h.group k 
 goes_small k h (Some end) s = tt
 
 after_small : (clocks : List Clocks) (k : ℕ) (states : List State) (o : Option Homing) → IsSmallHoming o → IsSmallHoming (homing_after clocks k states o)
-after_small clocks k states None s = tt
-after_small clocks k states (Some h) s =
-    let g = hears_all clocks states h in
-    goes_small k g (answer_in k g.start g.group) (states_small clocks 0 h.start states h.group s)
+after_small clocks k states o p4 = search (rules, hears_all, goes_small, answer_in, states_small)
 
 known_small : (m : Machine) (switches : List Switch) (came : List Came) → GoesOn m switches came → IsSmallHoming (known_by m switches came).homing
 known_small m switches [] g = tt
@@ -182,28 +158,13 @@ either_end None (Some x) tick e = inr (ap (λ (z : End). Some z) e)
 either_end (Some x) p tick e = inl (ap (λ (z : End). Some z) e)
 
 ended_small : (g : GroupState) (tick : ℕ) → AllSmall g.members → ended g ≡ Some (end.Endstop tick) → tick < 2 ^ 64
-ended_small g tick h e = by (all_fired g.members) e
-  where
-    by : (b : Bool) → (if b then Some (answer g) else None) ≡ Some (end.Endstop tick) → tick < 2 ^ 64
-    by true f =
-        let same : answer g ≡ end.Endstop tick = cc in
-        elim (either_end (first_expired g.last g.members) (first_switched g.members) tick same) [ inl x ↦ absurd (not_expired g.last g.members tick x) | inr x ↦ switch_small g.members tick h x ]
-    by false f = absurd (let z : None ≡ Some (end.Endstop tick) = f in cc)
+ended_small g tick h e = search (rules, all_fired, either_end, not_expired, switch_small)
 
 in_end : (k start : ℕ) (g : GroupState) (tick : ℕ) → answer_in k start g ≡ Some (end.Endstop tick) → ended g ≡ Some (end.Endstop tick)
-in_end k start g tick e = by (nat_le start k) e
-  where
-    by : (b : Bool) → (if b then ended g else None) ≡ Some (end.Endstop tick) → ended g ≡ Some (end.Endstop tick)
-    by true f = f
-    by false f = absurd (let z : None ≡ Some (end.Endstop tick) = f in cc)
+in_end k start g tick e = search (rules, nat_le)
 
 turn_small : (clocks : List Clocks) (k : ℕ) (states : List State) (o : Option Homing) (tick : ℕ) → IsSmallHoming o → (homing_turn clocks k states o).cut ≡ Some tick → tick < 2 ^ 64
-turn_small clocks k states o tick small cut =
-    let a = answer_of clocks k states o tick cut in
-    let h = a.0 in
-    let own : AllSmall h.group.members = subst (λ (z : Option Homing). IsSmallHoming z) a.1 small in
-    let g = hears_all clocks states h in
-    ended_small g.group tick (states_small clocks 0 h.start states h.group own) (in_end k h.start g.group tick a.2)
+turn_small clocks k states o tick small cut = search (rules, answer_of, hears_all, ended_small, states_small, in_end)
 
 -- the lines of the scene
 where_low : (test : Switch → Bool) (switches : List Switch) → All (λ w. w.line < 2 ^ 64) switches → line_of (last_where test switches) < 2 ^ 64
@@ -242,18 +203,10 @@ module _ (m : Machine) (switches : List Switch) (scene : All (λ w. w.line < 2 ^
   finishes_long c r k lines askings turn long = long_both lines (count_lines r.reading) long (long_counts r.reading)
 
   homing_long : (o : Option Cause) (r : Known) (k : ℕ) (states : List State) (lines cut : List ReportLine) (askings : List Asking) (turn : HomingTurn) → HaveLongCuts lines → HaveLongCuts cut → HaveLongCuts (unless_homing_ends o m r k states lines cut askings turn).ordered.lines
-  homing_long (Some cause) r k states lines cut askings turn long own = long
-  homing_long None r k states lines cut askings turn long own = by (is_finished r k states)
-    where
-      by : (b : Bool) → HaveLongCuts (cond b (finishes (stop_of r.reading) m r k (lines ++ cut) askings turn) (carries_on m r k (lines ++ cut) askings turn None)).ordered.lines
-      by true = finishes_long (stop_of r.reading) r k (lines ++ cut) askings turn (long_both lines cut long own)
-      by false = long_both lines cut long own
+  homing_long o r k states lines cut askings turn p8 p9 = search (rules, stop_of, finishes_long, long_both)
 
   stale_long : (o : Option Cause) (r : Known) (k : ℕ) (states : List State) (lines : List ReportLine) (askings : List Asking) → IsSmallHoming r.homing → HaveLongCuts lines → HaveLongCuts (unless_stale o m switches r k states lines askings).ordered.lines
-  stale_long (Some cause) r k states lines askings small long = long
-  stale_long None r k states lines askings small long =
-      let turn = homing_turn r.clocks k states r.homing in
-      homing_long turn.end (after_homing r k states) k states lines (cut_line m switches turn.section (axis_at m turn.axis) turn.cut) askings turn long (cut_long turn.section (axis_at m turn.axis) turn.cut (λ tick e. turn_small r.clocks k states r.homing tick small e))
+  stale_long o r k states lines askings p6 p7 = search (rules, homing_turn, homing_long, cut_line, axis_at, cut_long, turn_small)
 
   given_long : (o : Option Cause) (r : Known) (k : ℕ) (lines : List ReportLine) (askings : List Asking) → HaveLongCuts lines → HaveLongCuts (unless_given_up o m r k lines askings).ordered.lines
   given_long (Some cause) r k lines askings long = long
@@ -268,9 +221,7 @@ module _ (m : Machine) (switches : List Switch) (scene : All (λ w. w.line < 2 ^
   late_long None r k lines line long = long_both lines (count_lines r.reading) long (long_counts r.reading)
 
   phase_long : (p : Phase) (r : Known) (k : ℕ) (states : List State) (lines : List ReportLine) → IsSmallHoming r.homing → HaveLongCuts lines → HaveLongCuts (by_phase p m switches r k states lines).ordered.lines
-  phase_long Connecting r k states lines small long = let askings = ready_all m 0 (listen_all r.askings.items states) in given_long (giving_up k 0 askings) r k lines askings long
-  phase_long Running r k states lines small long = let askings = listen_all r.askings.items states in stale_long (stale k 0 askings) r k states lines askings small long
-  phase_long (Stopping line) r k states lines small long = late_long (stale k 0 (listen_all r.askings.items states)) r k lines line long
+  phase_long p r k states lines p5 p6 = search (rules, ready_all, listen_all, given_long, giving_up, stale_long, stale, late_long)
 
   ended_long : (o : Option Cause) (r : Known) (k : ℕ) (states : List State) (lines : List ReportLine) → IsSmallHoming r.homing → HaveLongCuts lines → HaveLongCuts (unless_ended o m switches r k states lines).ordered.lines
   ended_long (Some cause) r k states lines small long = long

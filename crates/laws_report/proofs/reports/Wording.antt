@@ -1,5 +1,5 @@
 -- Words with spaces between them are read back, and so are the lines that they make.
-use Rattle.std.proofs.Common.{◌≡◌, ◌∙◌, ℕ, ◌<◌, Bool, true, false, List, [], ◌∷◌, ◌++◌, length, ap, sym, refl, arith, append_assoc}
+use Rattle.std.proofs.Common.{◌≡◌, ◌∙◌, ℕ, ◌<◌, Bool, true, false, List, [], ◌∷◌, ◌++◌, length, ap, sym, refl, arith, append_assoc, rules}
 use Rattle.std.specs.Prelude.{◌&&◌, ◌||◌, ◌==◌, nat_lt}
 use Rattle.std.specs.List.{list_all}
 use Rattle.laws_board.proofs.Names.{nat_tests, both_parts, and_from}
@@ -108,12 +108,8 @@ no-return (b ∷ c ∷ cs) printed =
 
 -- the words of a line, as a log takes it
 pub line-back : (words : List Text) → AreWords words → line_words 35 (spaced words []) ≡ words
-line-back words are =
-    let printed = printed-words words are in
-    ap (λ (t : Text). words_of (before 35 t)) (no-return (spaced words []) printed) ∙ (ap words_of (no-comment (spaced words []) printed) ∙ words-back words are)
+line-back words are = search (rules, printed-words, no-return, no-comment, words-back)
 
 -- the first line of a text, and those behind it
 pub lines-back : (words : List Text) (rest : Text) → AreWords words → lines_of (spaced words (10 ∷ []) ++ rest) ≡ spaced words [] ∷ lines_of rest
-lines-back words rest are =
-    let whole : spaced words (10 ∷ []) ++ rest ≡ spaced words [] ++ (10 ∷ rest) = ap (λ (t : Text). t ++ rest) (spaced-behind words (10 ∷ [])) ∙ append_assoc (spaced words []) (10 ∷ []) rest in
-    ap lines_of whole ∙ line-first (spaced words []) rest (printed-words words are)
+lines-back words rest are = search (rules, spaced-behind, append_assoc, line-first, printed-words)

@@ -1,5 +1,5 @@
 -- A board that took the end of its configuration says so where it is asked.
-use Rattle.std.proofs.Common.{◌≡◌, ℕ, ◌+◌, ◌^◌, ◌<◌, ◌≤◌, inl, inr, Bool, true, false, List, [], ◌∷◌, ◌++◌, length, map, take, drop, Some, refl, ap, sym, ◌∙◌, subst, arith, append_assoc, append-nil, length-append}
+use Rattle.std.proofs.Common.{◌≡◌, ℕ, ◌+◌, ◌^◌, ◌<◌, ◌≤◌, inl, inr, Bool, true, false, List, [], ◌∷◌, ◌++◌, length, map, take, drop, Some, refl, ap, sym, ◌∙◌, subst, arith, append_assoc, append-nil, length-append, rules}
 use Rattle.std.specs.Prelude.{◌%◌, slice_index_or, nat_le, if◌then◌else◌}
 use Rattle.laws_board.proofs.Names.{eqb_tells, leb_tells, length-map, take-append-drop, BoardClock, board_tick, own_formats, IsText, Cmd, News, Reply, Down, Up, Meant, commands_of, Rig, takes, takes_all, plain, IsOrdered, Core, Step, Do, Turn, world_after, does, run_world, wire_text, come, run_append}
 use Rattle.msg_code.specs.declared.cmd.Cmd.TheVariants as cmd
@@ -155,11 +155,7 @@ may_drop : (n : ℕ) (ms : List Meant) → AllMay ms → AllMay (drop n ms)
 may_drop n ms k = may_rest (take n ms) (drop n ms) (subst (λ (l : List Meant). AllMay l) (sym (take-append-drop n ms)) k)
 
 block_may : (h : Core) (ds : List ℕ) → AllMay h.queued → AllMay (block_of h ds)
-block_may h [] k = tt
-block_may h (n ∷ ns) k = elim (eqb_tells n h.link.accepted) [
-  | inl p ↦ rw p.0 (may_take (length (slice_index_or h.link.blocks n [])) (drop (length h.link.taken) h.queued) (may_drop (length h.link.taken) h.queued k))
-  | inr p ↦ rw p.0 tt
-]
+block_may h ds p2 = search (rules, eqb_tells, may_take, slice_index_or, may_drop)
 
 -- the board stays ready
 none_taken : (h : Core) → Ready h.taken h.board.controller → Ready (h.taken ++ []) h.board.controller
@@ -187,26 +183,10 @@ ready_along (s ∷ steps) h k r =
 
 -- the board's part of a turn
 come_queues : (h : Core) (s : Step) → IsComing s → (world_after h s).queued ≡ h.queued
-come_queues h (Do event.Arrive) k = append-nil h.queued
-come_queues h (Do event.Repeat) k = append-nil h.queued
-come_queues h (Do event.Lose) k = append-nil h.queued
-come_queues h (Do event.Garble) k = append-nil h.queued
-come_queues h (Do event.Reply) k = absurd k
-come_queues h (Do event.LoseReply) k = absurd k
-come_queues h (Do event.Send) k = absurd k
-come_queues h (Do event.Resend) k = absurd k
-come_queues h (Do (event.Put b)) k = absurd k
-come_queues h (Do (event.Control c)) k = absurd k
-come_queues h (Do (event.Pass t)) k = absurd k
-come_queues h (Turn turn) k = absurd k
+come_queues h s p2 = search (rules, append-nil)
 
 waits_after : (h : Core) (front rest : List Meant) (s : Step) → IsComing s → Waits front rest h → Waits front rest (world_after h s)
-waits_after h front rest s k w = record {
-  queued = come_queues h s k ∙ w.queued;
-  done = w.done;
-  may = subst (λ (l : List Meant). AllMay l) (sym (come_queues h s k)) w.may;
-  ready = ready_after h s w.may w.ready;
-}
+waits_after h front rest s k w = search (rules, come_queues, ready_after)
 
 all_come_by : (h : Core) (front rest : List Meant) (steps : List Step) → AllOf IsComing steps → IsOrdered h → Waits front rest h → Comes h (length front) (length (run_world steps h).taken) (run_world steps h).link
 all_come_by h front rest [] k o w = record { more = []; up = sym (append-nil h.link.up); says = λ low high. absurd (omega arith) }

@@ -1,5 +1,5 @@
 -- What a configuration makes of its boards: clocks of at most nine digits, and at most 49 pins with short names.
-use Rattle.std.proofs.Common.{◌≡◌, ℕ, zero, suc, ℤ, pos, negsuc, neg_ℤ, unsigned_abs, ◌+◌, ◌*◌, ◌/◌, ◌%◌, ◌^◌, ◌<◌, ◌≤◌, ◌==◌, ◌&&◌, nat_lt, nat_le, Bool, true, false, cond, List, [], ◌∷◌, ◌++◌, length, drop, get_or, Option, Some, None, Result, Ok, Err, codes, bytes_eq, refl, sym, ap, ◌∙◌, subst, arith, length-append}
+use Rattle.std.proofs.Common.{◌≡◌, ℕ, zero, suc, ℤ, pos, negsuc, neg_ℤ, unsigned_abs, ◌+◌, ◌*◌, ◌/◌, ◌%◌, ◌^◌, ◌<◌, ◌≤◌, ◌==◌, ◌&&◌, nat_lt, nat_le, Bool, true, false, cond, List, [], ◌∷◌, ◌++◌, length, drop, get_or, Option, Some, None, Result, Ok, Err, codes, bytes_eq, refl, sym, ap, ◌∙◌, subst, arith, length-append, rules}
 use Rattle.std.specs.List.{list_all}
 use Rattle.laws_board.proofs.Names.{and_from, Machine, BoardDef, AxisDef, board_at}
 use Rattle.std.proofs.lemmas.Bool.{and_parts, leb-true, leb-false}
@@ -80,10 +80,7 @@ size_of_negated zero = refl
 size_of_negated (suc n) = refl
 
 offset_judges : (most : ℕ) (z : ℤ) → Judges (kinds.Offset most) (offset_within most z)
-offset_judges most (pos n) = tested (kinds.Offset most) (nat_le (n / 1_000_000) most) (Signed (pos (n / 1_000_000))) OutOfLimit (λ e. (e, tt))
-offset_judges most (negsuc n) =
-    tested (kinds.Offset most) (nat_le ((n + 1) / 1_000_000) most) (Signed (neg_ℤ (pos ((n + 1) / 1_000_000)))) OutOfLimit
-    (λ e. (ap (λ (k : ℕ). nat_le k most) (size_of_negated ((n + 1) / 1_000_000)) ∙ e, tt))
+offset_judges most z = search (rules, tested, nat_le, neg_ℤ, size_of_negated)
 
 offsets_judge : (most : ℕ) (o : Option ℤ) → Judges (kinds.Offset most) (offset most o)
 offsets_judge most None = tt
@@ -121,16 +118,7 @@ pins_judge inverted text =
     (pin_judges inverted (before 58 text) (drop (length (before 58 text) + 1) text)) (pin_judges inverted (codes "mcu") text)
 
 kind_judges : (kind : Kind) (text : List ℕ) → Judges kind (judged_as kind text)
-kind_judges (kinds.Decimal low high) text = decimal_judges low high (spelled 9 text)
-kind_judges (kinds.Whole low high digits step) text = wholes_judge low high digits step (spelled digits text)
-kind_judges (kinds.Offset most) text = offsets_judge most (spelled 9 text)
-kind_judges kinds.Microsteps text = all_microsteps_judge (spelled 9 text)
-kind_judges kinds.Position text = position_judges (spelled 9 text)
-kind_judges kinds.AnyPosition text = any_position_judges (spelled 9 text)
-kind_judges kinds.Kinematics text = words_judge kinds.Kinematics (codes "cartesian") (codes "corexy") text (λ b. refl)
-kind_judges kinds.Truth text = words_judge kinds.Truth (codes "False") (codes "True") text (λ b. refl)
-kind_judges kinds.Pin text = pins_judge (inverts (front is_pin_sign text)) (behind is_pin_sign text)
-kind_judges kinds.Refused text = tt
+kind_judges kind text = search (rules, decimal_judges, wholes_judge, offsets_judge, all_microsteps_judge, position_judges, any_position_judges, words_judge, pins_judge)
 
 key_judges : (key : Key) (text : List ℕ) → Judges (option_row key).kind (judged key text)
 unfolding judged
@@ -173,10 +161,7 @@ continued_good true = tt
 continued_good false = tt
 
 meant_good : (place : Place) (line : ConfigurationLine) → IsGood (meant place line)
-meant_good place (Begins name) = opened_good (section_of name)
-meant_good place Continues = continued_good place.lenient
-meant_good place (Sets name value) = option_good place.section name value
-meant_good place c = tt
+meant_good place line = search (rules, opened_good, continued_good, option_good)
 
 items_good : (place : Place) (lines : List (List ℕ)) → AreGoodItems (items place lines)
 items_good place [] = tt
@@ -332,10 +317,7 @@ not_crowded true count e f = cc
 not_crowded false count e f = leb-false 16 count (sym f)
 
 motor_fits : (b : Bool) (motors : List Motor) (motor : Motor) → crowded b 16 (length motors) ≡ None → length motors ≤ 16 → length (cond b motors (motors ++ motor ∷ [])) ≤ 16
-motor_fits true motors motor e h = h
-motor_fits false motors motor e h =
-    let below = not_crowded (nat_le 16 (length motors)) (length motors) e refl in
-    omega (arith, below, length-append motors (motor ∷ []))
+motor_fits b motors motor p3 p4 = search (rules, not_crowded, nat_le, length-append)
 
 stepper_fits : (names : List (List ℕ)) (motors : List Motor) (item : Item) → fault_of names motors item ≡ None → length motors ≤ 16 → length (with_stepper motors item) ≤ 16
 stepper_fits names motors (Opens (Stepper motor)) e h = motor_fits (has_motor motors motor) motors motor e h
@@ -363,11 +345,7 @@ keeps_behind boards (Ok a) f h = h a
 keeps_behind boards (Err fault) f h = tt
 
 keeps_boards : (es : List Entry) (motors : List Motor) (passed : ℕ) (boards : List BoardDef) → Keeps boards (assembled es motors passed boards)
-keeps_boards es motors passed boards =
-    keeps_behind boards (axes es boards)
-    (λ (a : List AxisDef). stepper_defs es boards [] motors >>= (λ (s : List StepperDef). fan_def es boards >>= (λ (f : Option FanDef). Ok (machine_of es passed boards s a f))))
-    (λ a. keeps_behind boards (stepper_defs es boards [] motors) (λ (s : List StepperDef). fan_def es boards >>= (λ (f : Option FanDef). Ok (machine_of es passed boards s a f)))
-    (λ s. keeps_behind boards (fan_def es boards) (λ (f : Option FanDef). Ok (machine_of es passed boards s a f)) (λ f. refl)))
+keeps_boards es motors passed boards = search (rules, keeps_behind)
 
 -- a machine whose boards are those of lines that say good values of at most 16 steppers
 record IsBuilt (m : Machine) : Type 0 where
@@ -379,23 +357,7 @@ record IsBuilt (m : Machine) : Type 0 where
   boards : m.boards ≡ board_defs es (all_uses es motors) names
 
 items_built : (all : List Item) (m : Machine) → AreGoodItems all → reading_of_items all ≡ Ok m → IsBuilt m
-items_built all m g e =
-    let es = entries 1 all in
-    let names = boards_behind [] all in
-    let motors = steppers_behind [] all in
-    let uses = all_uses es motors in
-    let boards = board_defs es uses names in
-    let lines = unless_ok (first_fault [] [] 1 all) (reading_of_entries es names motors (passed_over all)) m e in
-    let wiring = unless_ok (wiring_fault names es uses) (machine_unless (missing es names motors) (assembled es motors (passed_over all) boards)) m lines.1 in
-    let whole = unless_ok (missing es names motors) (assembled es motors (passed_over all) boards) m wiring.1 in
-    record {
-      es = es;
-      motors = motors;
-      names = names;
-      good = entries_good 1 all g;
-      few = steppers_few [] [] 1 all lines.0 (omega arith);
-      boards = subst (Keeps boards) whole.1 (keeps_boards es motors (passed_over all) boards);
-    }
+items_built all m g e = search (rules, unless_ok, entries_good, steppers_few, keeps_boards)
 
 within : (b : Bool) (r : Result Machine CfgFault) (m : Machine) → cond b (Err (At 0 TooLarge)) r ≡ Ok m → r ≡ Ok m
 within true r m e = cc

@@ -1,5 +1,5 @@
 -- How long the text of a board's own dictionary is, where the board has few pins with short names.
-use Rattle.std.proofs.Common.{◌≡◌, ℕ, ◌+◌, ◌*◌, ◌^◌, ◌<◌, ◌≤◌, Bool, true, false, List, [], ◌∷◌, ◌++◌, length, Ordering, Less, Equal, Greater, refl, arith, codes, decimal, length-append}
+use Rattle.std.proofs.Common.{◌≡◌, ℕ, ◌+◌, ◌*◌, ◌^◌, ◌<◌, ◌≤◌, Bool, true, false, List, [], ◌∷◌, ◌++◌, length, Ordering, Less, Equal, Greater, refl, arith, codes, decimal, length-append, rules}
 use Rattle.std.specs.Ordering.{nat_cmp, match_ordering}
 use Rattle.std.specs.Cmp.Lexicographic.{slice_cmp}
 use Rattle.std.specs.Str.{is_utf8}
@@ -87,26 +87,13 @@ answers_size = refl
 
 -- two members, and four
 two_fit : (a b : List ℕ) (x y : Data) → length (compact_text (object (put a x (put b y no_members)))) ≤ one a x + one b y + 2
-two_fit a b x y =
-    let text = object_fits (put a x (put b y no_members)) in
-    let first = put_fits a x (put b y no_members) in
-    let second = put_fits b y no_members in
-    omega (arith, text, first, second)
+two_fit a b x y = search (rules, object_fits, put_fits)
 
 four_fit : (a b c d : List ℕ) (x y z w : Data) → length (compact_text (object (put a x (put b y (put c z (put d w no_members)))))) ≤ one a x + one b y + one c z + one d w + 2
-four_fit a b c d x y z w =
-    let text = object_fits (put a x (put b y (put c z (put d w no_members)))) in
-    let first = put_fits a x (put b y (put c z (put d w no_members))) in
-    let second = put_fits b y (put c z (put d w no_members)) in
-    let third = put_fits c z (put d w no_members) in
-    let fourth = put_fits d w no_members in
-    omega (arith, text, first, second, third, fourth)
+four_fit a b c d x y z w = search (rules, object_fits, put_fits)
 
 pins_text : (b : BoardDef) → length b.pins ≤ 49 → AreShort b.pins → length (compact_text (object (with_pins 0 b.pins no_members))) ≤ 1_080
-pins_text b few short =
-    let text = object_fits (with_pins 0 b.pins no_members) in
-    let pins = pins_fit 0 b.pins no_members (omega arith) short in
-    omega (arith, text, pins)
+pins_text b few short = search (rules, object_fits, pins_fit)
 
 config_text : (freq : ℕ) → freq < 10 ^ 9 → length (compact_text (object (put (codes "CLOCK_FREQ") (whole freq) no_members))) ≤ 25
 unfolding escape_byte

@@ -1,5 +1,5 @@
 -- For which cause a turn ends a run that nothing ended before.
-use Rattle.std.proofs.Common.{◌≡◌, ℕ, ◌+◌, ◌⊎◌, inl, inr, Bool, true, false, cond, List, [], ◌∷◌, ◌++◌, Option, Some, None, refl, sym, ◌∙◌, subst}
+use Rattle.std.proofs.Common.{◌≡◌, ℕ, ◌+◌, ◌⊎◌, inl, inr, Bool, true, false, cond, List, [], ◌∷◌, ◌++◌, Option, Some, None, refl, sym, ◌∙◌, subst, rules}
 use Rattle.laws_board.proofs.Names.{Cause, Machine, ReadStop, Clocks, axis_at, Note, State, ReportLine, Switch, End, Asking, all_connected, giving_up, listen_all, ready_all, stale, Homing, HomingTurn, answer_in, by_answer, hears_all, homing_turn, Known, Phase, Connecting, Stopping, is_out, news_of, noted, first_lines, first_cause, stop_of, Reacted, by_phase, cut_line, reacts, unless_ended, unless_stale}
 use Rattle.plan_types.specs.declared.cause.Cause.TheVariants as cause
 use Rattle.plan_types.specs.declared.plan.ReadStop.TheVariants as read
@@ -38,10 +38,7 @@ given_up (Some x) m r k lines askings c h = h
 given_up None m r k lines askings c h = neither (all_connected askings) (is_connected_now m r k lines askings) (asks_boards m r k lines askings) c _ refl refl h
 
 answer_other : (k : ℕ) (h : Homing) (o : Option End) (c : Cause) → (by_answer k h o).end ≡ Some c → IsOther c
-answer_other k h None c e = no_end c _ e
-answer_other k h (Some (end.Endstop tick)) c e = no_end c _ e
-answer_other k h (Some end.NoSwitch) c e = other _ c e tt
-answer_other k h (Some (end.Expired b t)) c e = other _ c e tt
+answer_other k h o c p4 = search (rules, no_end, other)
 
 homing_other : (clocks : List Clocks) (k : ℕ) (states : List State) (o : Option Homing) (c : Cause) → (homing_turn clocks k states o).end ≡ Some c → IsOther c
 homing_other clocks k states None c e = no_end c _ e
@@ -57,17 +54,11 @@ either_other false x y c f g h = no_end c _ (sym g ∙ h)
 
 homed_other : (o : Option Cause) (m : Machine) (r : Known) (k : ℕ) (states : List State) (lines cut : List ReportLine) (askings : List Asking) (h : HomingTurn) (c : Cause) → (o ≡ Some c → IsOther c)
     → end_of (unless_homing_ends o m r k states lines cut askings h) ≡ Some c → IsOther c
-homed_other (Some x) m r k states lines cut askings h c f e = f e
-homed_other None m r k states lines cut askings h c f e =
-    either_other (is_finished r k states) (finishes (stop_of r.reading) m r k (lines ++ cut) askings h) (carries_on m r k (lines ++ cut) askings h None) c
-    (finishes_other (stop_of r.reading) m r k (lines ++ cut) askings h c) refl e
+homed_other o m r k states lines cut askings h c p10 p11 = search (rules, either_other, stop_of, finishes_other)
 
 stale_or : (o : Option Cause) (m : Machine) (switches : List Switch) (r : Known) (k : ℕ) (states : List State) (lines : List ReportLine) (askings : List Asking) (c : Cause)
     → end_of (unless_stale o m switches r k states lines askings) ≡ Some c → (o ≡ Some c) ⊎ IsOther c
-stale_or (Some x) m switches r k states lines askings c e = inl e
-stale_or None m switches r k states lines askings c e =
-    let h = homing_turn r.clocks k states r.homing in
-    inr (homed_other h.end m (after_homing r k states) k states lines (cut_line m switches h.section (axis_at m h.axis) h.cut) askings h c (homing_other r.clocks k states r.homing c) e)
+stale_or o m switches r k states lines askings c p9 = search (rules, homing_turn, homed_other, cut_line, axis_at, homing_other)
 
 late_or : (o : Option Cause) (m : Machine) (r : Known) (k : ℕ) (lines : List ReportLine) (line : ℕ) (c : Cause) → end_of (unless_late_stale o m r k lines line) ≡ Some c → (o ≡ Some c) ⊎ IsOther c
 late_or (Some x) m r k lines line c e = inl e

@@ -1,5 +1,5 @@
 -- Over four turns in which a link is clear, what was queued in the first of them is answered.
-use Rattle.std.proofs.Common.{◌≡◌, ℕ, zero, suc, ◌+◌, ◌<◌, ◌≤◌, ◌⊎◌, inl, inr, List, [], ◌∷◌, ◌++◌, length, refl, ap, sym, ◌∙◌, subst, arith, append-nil}
+use Rattle.std.proofs.Common.{◌≡◌, ℕ, zero, suc, ◌+◌, ◌<◌, ◌≤◌, ◌⊎◌, inl, inr, List, [], ◌∷◌, ◌++◌, length, refl, ap, sym, ◌∙◌, subst, arith, append-nil, rules}
 use Rattle.laws_board.proofs.Names.{leb_tells, BoardClock, Level, BoardDef, clock_of, State, Entry, Meant, IsOrdered, Core, queued_in, first_state, orders, IsTurn, LinkState, Orders, turns_are_steps}
 use Rattle.std.proofs.lemmas.List.{length-take}
 use Rattle.wire_scene.specs.Wire.{Copy, Line}
@@ -25,13 +25,7 @@ none_held [] h = refl
 none_held (c ∷ cs) h = absurd (omega arith)
 
 line_or : (since : ℕ) (l : Line) → IsTouched since l ⊎ LineClear since l
-line_or since l = elim (leb_tells (since + 5) l.calm) [
-  | inl p ↦ let q = p.1 in inl (inl (omega arith))
-  | inr p ↦ elim (leb_tells 1 (length l.copies)) [
-    | inl q ↦ inl (inr q.1)
-    | inr q ↦ let r = p.1 in inr (omega arith, none_held l.copies q.1)
-  ]
-]
+line_or since l = search (rules, leb_tells, none_held)
 
 pub link_or : (since : ℕ) (l : LinkState) → IsDisturbed since l ⊎ IsClear since l
 link_or since l = elim (line_or since l.down) [

@@ -1,5 +1,5 @@
 -- An answer that counts ends an asking.
-use Rattle.std.proofs.Common.{◌≡◌, ℕ, ◌+◌, ◌-◌, ◌%◌, ◌^◌, ◌<◌, ◌≤◌, inl, inr, Bool, true, false, cond, List, [], ◌∷◌, length, drop, Option, Some, None, refl, ap, sym, ◌∙◌, subst, arith}
+use Rattle.std.proofs.Common.{◌≡◌, ℕ, ◌+◌, ◌-◌, ◌%◌, ◌^◌, ◌<◌, ◌≤◌, inl, inr, Bool, true, false, cond, List, [], ◌∷◌, length, drop, Option, Some, None, refl, ap, sym, ◌∙◌, subst, arith, rules}
 use Rattle.std.specs.Prelude.{◌==◌, nat_le, nat_lt}
 use Rattle.std.proofs.lemmas.Bool.{le-leb}
 use Rattle.laws_board.proofs.Names.{Cmd, News, State, Asking, Stage, Identify, Uptime, Configure, Config, Connected, Setup, is_question_due, ready}
@@ -22,11 +22,7 @@ out_if true a e = e
 out_if false a e = tt
 
 none_out : (turn : ℕ) (a : Asking) (stage : Stage) (number : ℕ) (c : Cmd) → NoneOut (answered turn a stage number c)
-none_out turn a (Identify offset) number (cmd.IdentifyResponse of bytes) = out_if (offset == of) (after_piece a offset (length bytes.items)) refl
-none_out turn a Uptime number (cmd.Uptime high low) = out_if (tells_clock a number) (after_clock a (sample_of a turn high low)) refl
-none_out turn a Config number (cmd.Config is_config crc is_shutdown move_count) = out_if (is_config == 1) (settled a Connected) refl
-none_out turn a Connected number (cmd.Uptime high low) = out_if (tells_clock a number) (after_drift a (sample_of a turn high low)) refl
-none_out turn a stage number c = tt
+none_out turn a stage number c = search (rules, out_if)
 
 or_none : (o : Option Asking) (b : Asking) → NoneOut o → b.since ≡ None → (or_asking o b).since ≡ None
 or_none None b n e = e
@@ -46,13 +42,7 @@ hears_none turn (x ∷ news) a n (inr k) s =
 -- an asking that is out, as a state with an answer comes in time
 pub answer_ends : (a : Asking) (s : State) (n : News) (k : ℕ) → a.since ≡ Some k → s.turn ≤ k + 3 → IsAmong n s.news
     → (answered s.turn (were_put s.turn s.asked a) a.stage n.number n.answer ≡ None → ⊥) → (listens a s).since ≡ None
-answer_ends a s n k e l among some =
-    let b = were_put s.turn s.asked a in
-    let since : b.since ≡ Some k = since-kept s.turn s.asked a ∙ e in
-    let in_time : is_in_time s.turn b.since ≡ true = ap (is_in_time s.turn) since ∙ le-leb (s.turn - k) 3 (omega arith) in
-    let stage : b.stage ≡ a.stage = were_stage s.turn s.asked a in
-    ap (λ (t : Bool). (cond t (hears_first s.turn s.news b) b).since) in_time
-    ∙ hears_none s.turn s.news b n among (λ none. some (subst (λ (g : Stage). answered s.turn b g n.number n.answer ≡ None) stage none))
+answer_ends a s n k e l among some = search (rules, since-kept, le-leb, were_stage, hears_none)
 
 same_ready : (setups : List Setup) (stage : Stage) → AsksOf stage → ready_stage setups stage ≡ stage
 same_ready setups (Configure n) h = absurd h
@@ -103,16 +93,7 @@ small_either true x y h i = h
 small_either false x y h i = i
 
 small_answer : (turn : ℕ) (a : Asking) (stage : Stage) (number : ℕ) (c : Cmd) → SmallIn (answered turn a stage number c)
-small_answer turn a (Identify offset) number (cmd.IdentifyResponse of bytes) =
-    let size = length bytes.items in
-    let next = (offset + 40) % 2 ^ 32 in
-    let few : next < 2 ^ 32 = omega arith in
-    small_if (offset == of) (after_piece a offset size) (small_either (nat_lt size 40) Uptime (Identify next) tt few)
-small_answer turn a Uptime number (cmd.Uptime high low) =
-    small_if (tells_clock a number) (after_clock a (sample_of a turn high low)) (small_either (nat_le 8 (more a.samples)) (Configure 0) Uptime tt tt)
-small_answer turn a Config number (cmd.Config is_config crc is_shutdown move_count) = small_if (is_config == 1) (settled a Connected) tt
-small_answer turn a Connected number (cmd.Uptime high low) = small_if (tells_clock a number) (after_drift a (sample_of a turn high low)) tt
-small_answer turn a stage number c = tt
+small_answer turn a stage number c = search (rules, small_if, small_either, nat_lt, nat_le)
 
 small_or : (o : Option Asking) (b : Asking) → SmallIn o → SmallStage b.stage → SmallStage (or_asking o b).stage
 small_or None b m h = h
@@ -127,10 +108,7 @@ small_asking true x y h i = h
 small_asking false x y h i = i
 
 small_listens : (a : Asking) (s : State) → SmallStage a.stage → SmallStage (listens a s).stage
-small_listens a s h =
-    let b = were_put s.turn s.asked a in
-    let i : SmallStage b.stage = subst SmallStage (sym (were_stage s.turn s.asked a)) h in
-    small_asking (is_in_time s.turn b.since) (hears_first s.turn s.news b) b (small_hears s.turn s.news b i) i
+small_listens a s h = search (rules, were_stage, small_asking, small_hears)
 
 small_ready : (setups : List Setup) (stage : Stage) → SmallStage stage → SmallStage (ready_stage setups stage)
 small_ready setups (Identify offset) h = h

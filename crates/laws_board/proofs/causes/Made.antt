@@ -1,5 +1,5 @@
 -- A board that takes the commands of connecting runs, and is configured once it took their end.
-use Rattle.std.proofs.Common.{◌≡◌, ℕ, zero, suc, ◌+◌, ◌/◌, inl, inr, Bool, true, false, not, List, [], ◌∷◌, ◌++◌, Option, Some, None, refl, ap, sym, ◌∙◌, subst, append_assoc, append-nil}
+use Rattle.std.proofs.Common.{◌≡◌, ℕ, zero, suc, ◌+◌, ◌/◌, inl, inr, Bool, true, false, not, List, [], ◌∷◌, ◌++◌, Option, Some, None, refl, ap, sym, ◌∙◌, subst, append_assoc, append-nil, rules}
 use Rattle.std.specs.Prelude.{◌&&◌, ◌||◌, ◌%◌, ◌^◌, slice_index_or}
 use Rattle.laws_board.proofs.Names.{leb_tells, BoardState, Running, Shut, Pending, Cmd, Controller, Meant, commands_of, Passed, Rig, Slot, acts, acts_running, all_left, at_of, earliest_moment, goes_on, happens_to, pass, passes, passes_by, rests_to, runs_to, slot_at, takes, takes_all}
 use Rattle.msg_code.specs.Units.{bit}
@@ -36,11 +36,7 @@ happens_same r t oid (Some s) = halts_same (s.trigger.can && not (trig.advanced 
 
 goes_same : (o : Option (ℕ × ℕ)) (r : Rig) (t : ℕ) (rest : Passed) → Same rest.rig.controller (happens_at r t (at_of o)).rig.controller
     → Same (goes_on o (rests_to r t) (passes_by (happens_at r t (at_of o)) rest)).rig.controller r.controller
-goes_same None r t rest e = run_same r.controller t
-goes_same (Some at) r t rest e =
-    let ran = (runs_to r (at.0 / 3)).rig in
-    same_both rest.rig.controller (happens_at r t at).rig.controller r.controller e
-    (same_both (happens_at r t at).rig.controller ran.controller r.controller (happens_same ran t at.1 (slot_at ran at.1)) (run_same r.controller (at.0 / 3)))
+goes_same o r t rest p4 = search (rules, run_same, runs_to, same_both, happens_same, slot_at)
 
 steps_same : (n : ℕ) (r : Rig) (t : ℕ) → Same (pass n r t).rig.controller r.controller
 steps_same zero r t = record { complete = refl; crc = refl; dictionary = refl }
@@ -134,21 +130,7 @@ by_board b c e f s same =
     subst (λ (x : Controller). Steps x b (ends_config c)) (sym is) s
 
 acts_so : (r : Rig) (c : Cmd) → MayTake c → r.controller.state ≡ Running → r.controller.crc ≡ 0 → Steps (acts r c).rig.controller r.controller (ends_config c)
-acts_so r (cmd.Identify offset count) k e f = unchanged r.controller r.controller refl e f
-acts_so r cmd.GetUptime k e f = unchanged r.controller r.controller refl e f
-acts_so r cmd.GetConfig k e f = unchanged r.controller r.controller refl e f
-acts_so r (cmd.AllocateOids count) k e f =
-    let b = r.controller in
-    by_board b (cmd.AllocateOids count) e f (record { running = e; crc = f; complete = λ g. cc; still = λ g. g }) refl
-acts_so r (cmd.ConfigStepper oid step dir invert width) k e f =
-    let b = r.controller in
-    by_board b (cmd.ConfigStepper oid step dir invert width) e f (by_make b oid (stepper_at b oid) e f) refl
-acts_so r (cmd.ConfigTrsync oid) k e f = unchanged _ r.controller (made_same r oid (slot_at r oid)) e f
-acts_so r (cmd.ConfigEndstop oid pin pull) k e f = unchanged _ r.controller (endstop_same r oid pin (slice_index_or r.endstops oid None)) e f
-acts_so r (cmd.FinalizeConfig crc) k e f =
-    let b = r.controller in
-    by_board b (cmd.FinalizeConfig crc) e f (record { running = e; crc = k; complete = λ g. refl; still = λ g. refl }) refl
-acts_so r c k e f = absurd k
+acts_so r c p2 p3 p4 = search (rules, unchanged, by_board, by_make, made_same, slot_at, endstop_same, slice_index_or)
 
 takes_so : (r : Rig) (c : Cmd) → MayTake c → r.controller.state ≡ Running → r.controller.crc ≡ 0 → Steps (takes r c).rig.controller r.controller (ends_config c)
 takes_so r c k e f = subst (λ (s : BoardState). Steps (acts_running s r c).rig.controller r.controller (ends_config c)) (sym e) (acts_so r c k e f)
@@ -158,14 +140,7 @@ either_true true b A e f g = f refl
 either_true false b A e f g = g e
 
 ready_one : (taken : List Meant) (r : Rig) (m : Meant) → MayTake m.command → Ready taken r.controller → Ready (taken ++ m ∷ []) (takes r m.command).rig.controller
-ready_one taken r m k d =
-    let s = takes_so r m.command k d.running d.crc in
-    record {
-      running = s.running;
-      crc = s.crc;
-      complete = λ e. either_true (finished taken) (ends_config m.command || false) _ (sym (finished_both taken (m ∷ [])) ∙ e) (λ g. s.still (d.complete g))
-          (λ g. either_true (ends_config m.command) false _ g (λ h. s.complete h) (λ h. cc));
-    }
+ready_one taken r m k d = search (rules, takes_so, either_true, finished_both)
 
 pub ready_all : (taken : List Meant) (r : Rig) (ms : List Meant) → AllMay ms → Ready taken r.controller → Ready (taken ++ ms) (takes_all r (commands_of ms)).rig.controller
 ready_all taken r [] k d = subst (λ (l : List Meant). Ready l r.controller) (sym (append-nil taken)) d
@@ -180,9 +155,4 @@ ready_passes taken r t d =
 
 -- such a board answers that it is configured
 pub config_by : (r : Rig) (taken : List Meant) → Ready taken r.controller → finished taken ≡ true → (takes r cmd.GetConfig).answers ≡ cmd.Config 1 0 0 (r.controller.slots % 2 ^ 16) ∷ []
-config_by r taken d e =
-    let b = r.controller in
-    ap (λ (s : BoardState). (acts_running s r cmd.GetConfig).answers) d.running
-    ∙ ap (λ (x : Bool). cmd.Config (bit x) b.crc (bit (board.is_shut b.state)) (b.slots % 2 ^ 16) ∷ []) (d.complete e)
-    ∙ ap (λ (x : ℕ). cmd.Config 1 x (bit (board.is_shut b.state)) (b.slots % 2 ^ 16) ∷ []) d.crc
-    ∙ ap (λ (s : BoardState). cmd.Config 1 0 (bit (board.is_shut s)) (b.slots % 2 ^ 16) ∷ []) d.running
+config_by r taken d e = search (rules, acts_running)

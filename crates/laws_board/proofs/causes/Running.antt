@@ -1,5 +1,5 @@
 -- The askings of a board that drifts, over the turns of a run.
-use Rattle.std.proofs.Common.{◌≡◌, ℕ, ◌⊎◌, inl, inr, Bool, true, false, cond, List, [], ◌∷◌, length, drop, Option, Some, None, refl, ap, sym, ◌∙◌, subst}
+use Rattle.std.proofs.Common.{◌≡◌, ℕ, ◌⊎◌, inl, inr, Bool, true, false, cond, List, [], ◌∷◌, length, drop, Option, Some, None, refl, ap, sym, ◌∙◌, subst, rules}
 use Rattle.std.specs.Prelude.{◌==◌}
 use Rattle.laws_board.proofs.Names.{Cmd, News, State, Asking, Stage, Identify, Uptime, Configure, Config, Connected, Setup, is_question_due, ready}
 use Rattle.msg_code.specs.declared.cmd.Cmd.TheVariants as cmd
@@ -35,11 +35,7 @@ rests_if true x r = r
 rests_if false x r = tt
 
 rests_answer : (turn : ℕ) (a : Asking) (stage : Stage) (number : ℕ) (c : Cmd) → RestsIn (answered turn a stage number c)
-rests_answer turn a (Identify offset) number (cmd.IdentifyResponse of bytes) = rests_if (offset == of) (after_piece a offset (length bytes.items)) (record { since = refl; missed = refl })
-rests_answer turn a Uptime number (cmd.Uptime high low) = rests_if (tells_clock a number) (after_clock a (sample_of a turn high low)) (record { since = refl; missed = refl })
-rests_answer turn a Config number (cmd.Config is_config crc is_shutdown move_count) = rests_if (is_config == 1) (settled a Connected) (record { since = refl; missed = refl })
-rests_answer turn a Connected number (cmd.Uptime high low) = rests_if (tells_clock a number) (after_drift a (sample_of a turn high low)) (record { since = refl; missed = refl })
-rests_answer turn a stage number c = tt
+rests_answer turn a stage number c = search (rules, rests_if)
 
 abbrev Either : Asking → Asking → Type 0
 Either x a = (x ≡ a) ⊎ Rests x
@@ -60,10 +56,7 @@ listens_if false turn news w a s = inl s
 listens_if true turn news w a s = elim (hears_either turn news w) [ inl e ↦ inl (stays_by (hears_first turn news w) w a e s) | inr r ↦ inr r ]
 
 pub heard_either : (a : Asking) (states : List State) → Stays (heard_now a states) a ⊎ Rests (heard_now a states)
-heard_either a [] = inl (record { stage = refl; since = refl; missed = refl; first = refl; waits = refl })
-heard_either a (s ∷ states) =
-    let w = were_put s.turn s.asked a in
-    listens_if (is_in_time s.turn w.since) s.turn s.news w a (were_stays s.turn s.asked a)
+heard_either a states = search (rules, listens_if, were_stays)
 
 -- whether an asking waits, no answer changes
 abbrev WaitsIn : Option Asking → Bool → Type 0
@@ -75,11 +68,7 @@ waits_if true x w e = e
 waits_if false x w e = tt
 
 waits_answer : (turn : ℕ) (a : Asking) (stage : Stage) (number : ℕ) (c : Cmd) → WaitsIn (answered turn a stage number c) a.waits
-waits_answer turn a (Identify offset) number (cmd.IdentifyResponse of bytes) = waits_if (offset == of) (after_piece a offset (length bytes.items)) a.waits refl
-waits_answer turn a Uptime number (cmd.Uptime high low) = waits_if (tells_clock a number) (after_clock a (sample_of a turn high low)) a.waits refl
-waits_answer turn a Config number (cmd.Config is_config crc is_shutdown move_count) = waits_if (is_config == 1) (settled a Connected) a.waits refl
-waits_answer turn a Connected number (cmd.Uptime high low) = waits_if (tells_clock a number) (after_drift a (sample_of a turn high low)) a.waits refl
-waits_answer turn a stage number c = tt
+waits_answer turn a stage number c = search (rules, waits_if)
 
 waits_or : (o : Option Asking) (b : Asking) (w : Bool) → WaitsIn o w → b.waits ≡ w → (or_asking o b).waits ≡ w
 waits_or None b w k e = e
@@ -94,11 +83,7 @@ waits_either true x y w e f = e
 waits_either false x y w e f = f
 
 pub heard_waits : (a : Asking) (states : List State) → (heard_now a states).waits ≡ a.waits
-heard_waits a [] = refl
-heard_waits a (s ∷ states) =
-    let w = were_put s.turn s.asked a in
-    let same = (were_stays s.turn s.asked a).waits in
-    waits_either (is_in_time s.turn w.since) (hears_first s.turn s.news w) w a.waits (waits_hears s.turn s.news w ∙ same) same
+heard_waits a states = search (rules, were_stays, waits_either, waits_hears)
 
 -- what is heard too late, or where nothing is out, changes nothing
 late_if : (b : Bool) (turn : ℕ) (news : List News) (w a : Asking) → b ≡ false → Stays w a → Stays (cond b (hears_first turn news w) w) a
@@ -106,10 +91,7 @@ late_if false turn news w a e s = s
 late_if true turn news w a e s = cc
 
 pub heard_late : (a : Asking) (states : List State) → ((s : State) (rest : List State) → states ≡ s ∷ rest → is_in_time s.turn a.since ≡ false) → Stays (heard_now a states) a
-heard_late a [] l = record { stage = refl; since = refl; missed = refl; first = refl; waits = refl }
-heard_late a (s ∷ states) l =
-    let w = were_put s.turn s.asked a in
-    late_if (is_in_time s.turn w.since) s.turn s.news w a (ap (is_in_time s.turn) (since-kept s.turn s.asked a) ∙ l s states refl) (were_stays s.turn s.asked a)
+heard_late a states p2 = search (rules, late_if, since-kept, were_stays)
 
 -- a board that is connected has nothing out, and while connecting nothing waits
 pub record IsSettled (a : Asking) : Type 0 where
@@ -117,13 +99,7 @@ pub record IsSettled (a : Asking) : Type 0 where
   pub rests : is_connected a.stage ≡ true → Rests a
 
 pub settled_now : (a : Asking) (states : List State) → IsSettled a → IsSettled (heard_now a states)
-settled_now a states s = record {
-  waits = heard_waits a states ∙ s.waits;
-  rests = λ c. elim (heard_either a states) [
-    | inl k ↦ let r = s.rests (ap is_connected (sym k.stage) ∙ c) in record { since = k.since ∙ r.since; missed = k.missed ∙ r.missed }
-    | inr r ↦ r
-  ];
-}
+settled_now a states s = search (rules, heard_waits, heard_either)
 
 pub settled_ready : (setups : List Setup) (a : Asking) → IsSettled a → IsSettled (ready setups a)
 settled_ready setups a s = record { waits = s.waits; rests = λ c. let r = s.rests (ready-connects setups a.stage c) in record { since = r.since; missed = r.missed } }

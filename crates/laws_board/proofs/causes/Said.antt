@@ -1,5 +1,5 @@
 -- What a board answers to the askings of connecting, and that it can be told in bytes.
-use Rattle.std.proofs.Common.{◌≡◌, ℕ, ◌+◌, ◌<◌, ◌≤◌, ◌^◌, ◌%◌, List, [], ◌∷◌, ◌++◌, length, take, drop, refl, ap, sym, ◌∙◌, arith, inl, subst}
+use Rattle.std.proofs.Common.{◌≡◌, ℕ, ◌+◌, ◌<◌, ◌≤◌, ◌^◌, ◌%◌, List, [], ◌∷◌, ◌++◌, length, take, drop, refl, ap, sym, ◌∙◌, arith, inl, subst, rules}
 use Rattle.std.proofs.lemmas.List.{length-take}
 use Rattle.arrayvec.specs.ArrayVec.{ArrayVec}
 use Rattle.vlq_code.specs.Spelling.{spelling}
@@ -19,19 +19,7 @@ use Rattle.link_work.specs.Answers.{IsAmong, IsAnswered}
 use Rattle.link_work.proofs.Answered.{differ}
 
 piece_spells : (offset : ℕ) (bytes : ArrayVec ℕ) → offset < 2 ^ 32 → length bytes.items ≤ 40 → SpellsEach (param.Number offset ∷ param.Bytes bytes ∷ []) (params_text (param.Number offset ∷ param.Bytes bytes ∷ []))
-piece_spells offset bytes a few = record {
-  first = spelling offset;
-  rest = params_text (param.Bytes bytes ∷ []);
-  is_first = spelling_spells offset a;
-  is_rest = record {
-    first = spelling (length bytes.items) ++ bytes.items;
-    rest = [];
-    is_first = record { number = spelling (length bytes.items); spelled = spelling_spells (length bytes.items) (omega arith); few = few; joined = refl };
-    is_rest = refl;
-    joined = refl;
-  };
-  joined = refl;
-}
+piece_spells offset bytes a few = search (rules, spelling_spells)
 
 pub piece_text : (offset : ℕ) (bytes : ArrayVec ℕ) → offset < 2 ^ 32 → length bytes.items ≤ 40 → IsText own_formats (cmd.IdentifyResponse offset bytes) (wire_text (cmd.IdentifyResponse offset bytes))
 piece_text offset bytes a few =
@@ -58,25 +46,7 @@ piece_heard clock turn place offset l news a is small =
 -- four numbers
 config_spells : (a b c d : ℕ) → a < 2 ^ 32 → b < 2 ^ 32 → c < 2 ^ 32 → d < 2 ^ 32
     → SpellsEach (param.Number a ∷ param.Number b ∷ param.Number c ∷ param.Number d ∷ []) (params_text (param.Number a ∷ param.Number b ∷ param.Number c ∷ param.Number d ∷ []))
-config_spells a b c d h i j k = record {
-  first = spelling a;
-  rest = params_text (param.Number b ∷ param.Number c ∷ param.Number d ∷ []);
-  is_first = spelling_spells a h;
-  is_rest = record {
-    first = spelling b;
-    rest = params_text (param.Number c ∷ param.Number d ∷ []);
-    is_first = spelling_spells b i;
-    is_rest = record {
-      first = spelling c;
-      rest = params_text (param.Number d ∷ []);
-      is_first = spelling_spells c j;
-      is_rest = record { first = spelling d; rest = []; is_first = spelling_spells d k; is_rest = refl; joined = refl };
-      joined = refl;
-    };
-    joined = refl;
-  };
-  joined = refl;
-}
+config_spells a b c d h i j k = search (rules, spelling_spells)
 
 pub config_text : (moves : ℕ) → IsText own_formats (cmd.Config 1 0 0 (moves % 2 ^ 16)) (wire_text (cmd.Config 1 0 0 (moves % 2 ^ 16)))
 config_text moves =

@@ -1,5 +1,5 @@
 -- The dictionaries of a configuration's boards are short: nothing in a pin's name is escaped.
-use Rattle.std.proofs.Common.{◌≡◌, ℕ, ◌<◌, ◌≤◌, ◌++◌, ◌&&◌, nat_lt, nat_le, true, false, List, [], ◌∷◌, length, Ok, refl, sym, ap, ◌∙◌, inl, inr, arith, length-append}
+use Rattle.std.proofs.Common.{◌≡◌, ℕ, ◌<◌, ◌≤◌, ◌++◌, ◌&&◌, nat_lt, nat_le, true, false, List, [], ◌∷◌, length, Ok, refl, sym, ap, ◌∙◌, inl, inr, arith, length-append, rules}
 use Rattle.std.specs.List.{list_all}
 use Rattle.std.proofs.lemmas.Bool.{agree_below_at, and_parts, cases_lt, false≢true, leb-true}
 use Rattle.json.specs.Print.{escape, escape_byte, quoted}
@@ -20,10 +20,7 @@ no_backslash : (b : ℕ) → is_pin_byte b ≡ true → b ≡ 92 → ⊥
 no_backslash b e same = false≢true (sym (ap is_pin_byte same) ∙ e)
 
 byte_kept : (b : ℕ) → is_pin_byte b ≡ true → escape_byte b ≡ b ∷ []
-byte_kept b e = elim (cases_lt b 45) [
-  | inl below ↦ absurd (none_below b e below)
-  | inr above ↦ escape_byte_plain b (λ same. omega arith) (no_backslash b e) (omega arith)
-]
+byte_kept b e = search (rules, cases_lt, none_below, escape_byte_plain, no_backslash)
 
 name_kept : (name : List ℕ) → list_all is_pin_byte name ≡ true → escape name ≡ name
 name_kept [] e = refl
@@ -32,11 +29,7 @@ name_kept (b ∷ name) e =
     ap (λ (l : List ℕ). l ++ escape name) (byte_kept b parts.0) ∙ ap (λ (l : List ℕ). b ∷ l) (name_kept name parts.1)
 
 name_short : (name : List ℕ) → is_pin_name name ≡ true → length (quoted name) ≤ 18
-name_short name e =
-    let parts = and_parts (nat_lt 0 (length name) && nat_le (length name) 16) (list_all is_pin_byte name) e in
-    let few = leb-true (length name) 16 (and_parts (nat_lt 0 (length name)) (nat_le (length name) 16) parts.0).1 in
-    let kept = ap length (name_kept name parts.1) in
-    omega (arith, few, kept, length-append (escape name) (34 ∷ []))
+name_short name e = search (rules, and_parts, nat_lt, nat_le, list_all, leb-true, name_kept, length-append)
 
 names_short : (names : List (List ℕ)) → AreShortNames names → AreShort names
 names_short [] h = tt

@@ -1,5 +1,5 @@
 -- What holds of a board's asking over the turns of its link: its sample is one of the board's clock.
-use Rattle.std.proofs.Common.{◌≡◌, ℕ, ◌+◌, ◌-◌, ◌*◌, ◌^◌, ◌<◌, ◌≤◌, ◌⊎◌, inl, inr, Bool, true, false, cond, List, [], ◌∷◌, drop, length, Option, Some, None, refl, ap, sym, ◌∙◌, subst, arith}
+use Rattle.std.proofs.Common.{◌≡◌, ℕ, ◌+◌, ◌-◌, ◌*◌, ◌^◌, ◌<◌, ◌≤◌, ◌⊎◌, inl, inr, Bool, true, false, cond, List, [], ◌∷◌, drop, length, Option, Some, None, refl, ap, sym, ◌∙◌, subst, arith, rules}
 use Rattle.std.specs.Prelude.{◌&&◌, ◌==◌, ◌%◌, nat_le, nat_lt}
 use Rattle.laws_board.proofs.Names.{eqb-true, BoardClock, board_tick, Cmd, News, State, Asking, Stage, Identify, Uptime, Configure, Config, Connected, Setup, ready, is_question_due, asks_now, waits_in, both_parts}
 use Rattle.std.proofs.lemmas.Bool.{leb-true}
@@ -119,12 +119,7 @@ piece_sampled true offset best = tt
 piece_sampled false offset best = tt
 
 best_kept : (clock : BoardClock) (turns : List BoardTurn) (o : Option Sample) (s : Sample) → BestIs clock turns o → IsSample clock turns s → IsSample clock turns (best_of o s)
-best_kept clock turns None s k l = l
-best_kept clock turns (Some b) s k l = either (nat_lt (took s) (took b)) k l
-  where
-    either : (c : Bool) → IsSample clock turns b → IsSample clock turns s → IsSample clock turns (cond c s b)
-    either true k l = l
-    either false k l = k
+best_kept clock turns o s p4 p5 = search (rules, nat_lt)
 
 -- what is known of an answer in time: the turn, and each clock that is told in it
 pub record InTime (clock : BoardClock) (turns : List BoardTurn) (turn : ℕ) (news : List News) : Type 0 where
@@ -261,19 +256,10 @@ either_asking clock turns k false x y i j = j
 
 pub asks_kept : (clock : BoardClock) (turns : List BoardTurn) (k : ℕ) (setups : List Setup) (a : Asking) (stage : Stage) → a.stage ≡ stage → IsAsking clock turns k a
     → IsAsking clock turns (k + 1) (after_asks setups k a stage)
-asks_kept clock turns k setups a (Configure n) e i =
-    record { put = i.put; best = i.best; since = later_since k (k + 1) a.since (omega arith) i.since; owes = tt; sampled = subst (λ (g : Stage). Sampled g a.best) e i.sampled }
-asks_kept clock turns k setups a Connected e i = next_turn clock turns k a i
-asks_kept clock turns k setups a c e i =
-    either_asking clock turns (k + 1) (is_question_due k a.since) (asked k a) a (asked_kept clock turns k a c e refl i) (next_turn clock turns k a i)
+asks_kept clock turns k setups a stage p6 p7 = search (rules, later_since, next_turn, either_asking, is_question_due, asked_kept)
 
 pub waits_kept : (clock : BoardClock) (turns : List BoardTurn) (k n : ℕ) (drifting : Bool) (a : Asking) → IsAsking clock turns k a → IsAsking clock turns k (waits_in drifting n a)
-waits_kept clock turns k n drifting a i =
-    let missed = record a { missed = more a.missed; waits = true } in
-    let waiting = record a { waits = true } in
-    either_asking clock turns k (is_unanswered n a.since) missed (cond (is_asked_now drifting n a.since) waiting a)
-    (record { put = i.put; best = i.best; since = i.since; owes = i.owes; sampled = i.sampled })
-    (either_asking clock turns k (is_asked_now drifting n a.since) waiting a (record { put = i.put; best = i.best; since = i.since; owes = i.owes; sampled = i.sampled }) i)
+waits_kept clock turns k n drifting a i = search (rules, either_asking)
 
 owes_more : (stage : Stage) (owed k : ℕ) (put : Option Put) → Owes stage (more owed) (Some k) put
 owes_more Uptime owed k put = owed_now (more owed) k put (omega arith)
@@ -281,10 +267,7 @@ owes_more Connected owed k put = owed_now (more owed) k put (omega arith)
 owes_more c owed k put = tt
 
 pub question_kept : (clock : BoardClock) (turns : List BoardTurn) (k : ℕ) (commands : List Cmd) (a : Asking) → IsAsking clock turns k a → IsAsking clock turns (k + 1) (after_question k commands a)
-question_kept clock turns k commands a i =
-    let now = record a { since = Some k; first = cond (a.missed == 0) k a.first; owed = more a.owed; waits = false } in
-    either_asking clock turns (k + 1) (asks_now commands a) now a
-    (record { put = i.put; best = i.best; since = omega arith; owes = owes_more a.stage a.owed k a.put; sampled = i.sampled }) (next_turn clock turns k a i)
+question_kept clock turns k commands a i = search (rules, either_asking, asks_now, owes_more, next_turn)
 
 -- a board that is connected has a sample
 best_sample : (clock : BoardClock) (turns : List BoardTurn) (best : Option Sample) → HasBest best → BestIs clock turns best → IsSample clock turns (sample_or_none best)

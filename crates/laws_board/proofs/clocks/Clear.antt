@@ -1,5 +1,5 @@
 -- A link on which no entry is used while connecting: each clock comes in the turn in which it was asked for.
-use Rattle.std.proofs.Common.{◌≡◌, ℕ, suc, ◌+◌, ◌^◌, ◌<◌, ◌≤◌, inl, inr, Bool, true, false, cond, List, [], ◌∷◌, ◌++◌, map, length, Option, Some, None, refl, ap, sym, ◌∙◌, subst, arith}
+use Rattle.std.proofs.Common.{◌≡◌, ℕ, suc, ◌+◌, ◌^◌, ◌<◌, ◌≤◌, inl, inr, Bool, true, false, cond, List, [], ◌∷◌, ◌++◌, map, length, Option, Some, None, refl, ap, sym, ◌∙◌, subst, arith, rules}
 use Rattle.std.specs.Prelude.{◌&&◌, nat_le, nat_lt}
 use Rattle.laws_board.proofs.Names.{and_from, leb_tells, BoardClock, BoardDef, Level, board_tick, clock_of, Entry, Down, Up, Reply, Core, Step, Do, world_after, after_event, run_world, first_state, orders, IsTurn, LinkState, Orders, after_board, after_host, come}
 use Rattle.std.proofs.lemmas.Bool.{le-leb}
@@ -85,25 +85,11 @@ kept_line c x e = ap (λ (b : Bool). line_for b x) e
 
 -- where none was used by the end of a turn, none was by its beginning
 undisturbed_before : (clock : BoardClock) (turn : ℕ) (o : Orders) (l m : LinkState) → IsTurn clock turn o l m → o.control.connected ≡ false → IsUndisturbed m → IsUndisturbed l
-undisturbed_before clock turn o l m t c u =
-    let l1 = after_host turn o t.resent l in
-    let l2 = after_board clock turn l1 in
-    let v = subst IsUndisturbed t.becomes u in
-    let down = none_in_all (line_for o.control.connected l.down) turn (newly Down l.core (run_world (host_steps turn o t.resent) l.core)) v.down in
-    let up = none_in_all (line_for o.control.connected l.up) turn (newly Up l1.core (run_world (board_steps clock turn l1.down.copies) l1.core)) v.up in
-    record { down = ap (λ (x : Line). x.calm) (sym (kept_line o.control.connected l.down c)) ∙ down; up = ap (λ (x : Line). x.calm) (sym (kept_line o.control.connected l.up c)) ∙ up }
+undisturbed_before clock turn o l m t c u = search (rules, after_host, after_board, none_in_all, run_world, kept_line)
 
 clear_turn : (clock : BoardClock) (turn : ℕ) (o : Orders) (l m : LinkState) → IsTurn clock turn o l m → o.control.connected ≡ false → IsUndisturbed m → IsClear l.down turn → IsClear l.up turn
     → IsClear m.down (turn + 1) × IsClear m.up (turn + 1)
-clear_turn clock turn o l m t c u d w =
-    let l1 = after_host turn o t.resent l in
-    let l2 = after_board clock turn l1 in
-    let v = subst IsUndisturbed t.becomes u in
-    let down0 : IsFree (line_for o.control.connected l.down) turn = subst (λ (x : Line). IsFree x turn) (sym (kept_line o.control.connected l.down c)) (clear_free l.down turn d) in
-    let up0 : IsFree (line_for o.control.connected l.up) turn = subst (λ (x : Line). IsFree x turn) (sym (kept_line o.control.connected l.up c)) (clear_free l.up turn w) in
-    let down1 = free_all (line_for o.control.connected l.down) turn (newly Down l.core (run_world (host_steps turn o t.resent) l.core)) v.down down0 in
-    let up1 = free_all (line_for o.control.connected l.up) turn (newly Up l1.core (run_world (board_steps clock turn l1.down.copies) l1.core)) v.up up0 in
-    subst (λ (x : LinkState). IsClear x.down (turn + 1) × IsClear x.up (turn + 1)) (sym t.becomes) (free_clear l1.down turn down1, free_clear l2.up turn up1)
+clear_turn clock turn o l m t c u d w = search (rules, after_host, after_board, kept_line, clear_free, free_all, run_world, free_clear)
 
 module _ (b : BoardDef) (pins : List (List Level)) (board : ℕ) (entries : List Entry) where
   -- no entry was used on the link by the end of some turns
@@ -138,11 +124,7 @@ bare_all l turn [] f = f
 bare_all l turn (b ∷ bs) f = bare_all (put_on l turn b) turn bs (bare_with l turn b (deed_of l.number l.entries) (ap (deed_of l.number) f.entries) f)
 
 bare_turn : (clock : BoardClock) (turn : ℕ) (o : Orders) (l m : LinkState) → IsTurn clock turn o l m → o.control.connected ≡ false → IsBare l.down → IsBare l.up → IsBare m.down × IsBare m.up
-bare_turn clock turn o l m t c d u =
-    let l1 = after_host turn o t.resent l in
-    let down = bare_all (line_for o.control.connected l.down) turn (newly Down l.core (run_world (host_steps turn o t.resent) l.core)) (subst IsBare (sym (kept_line o.control.connected l.down c)) d) in
-    let up = bare_all (line_for o.control.connected l.up) turn (newly Up l1.core (run_world (board_steps clock turn l1.down.copies) l1.core)) (subst IsBare (sym (kept_line o.control.connected l.up c)) u) in
-    subst (λ (x : LinkState). IsBare x.down × IsBare x.up) (sym t.becomes) (record { entries = down.entries; calm = down.calm }, record { entries = up.entries; calm = up.calm })
+bare_turn clock turn o l m t c d u = search (rules, after_host, bare_all, run_world, kept_line)
 
 bare_lines : (b : BoardDef) (pins : List (List Level)) (board : ℕ) (entries : List Entry) (turns : List BoardTurn) → AreBoardTurns (clock_of b) (first_state b pins board entries) turns
     → entries_of board Down true entries ≡ [] → entries_of board Up true entries ≡ [] → AllConnecting turns
@@ -158,10 +140,7 @@ unused b pins board entries turns are d u c = let r = bare_lines b pins board en
 
 -- at the end of each turn all was taken, and nothing is under way
 quiet_now : (l : Line) (turn : ℕ) → l.copies ≡ [] → l.calm ≡ 0 → is_quiet_line l turn ≡ true
-quiet_now l turn e c =
-    let none : no_copies l.copies ≡ true = ap no_copies e in
-    let calm : nat_le l.calm turn ≡ true = le-leb l.calm turn (omega arith) in
-    ap (λ (b : Bool). b && nat_le l.calm turn) none ∙ calm
+quiet_now l turn e c = search (rules, nat_le, le-leb)
 
 all_taken : (b : BoardDef) (pins : List (List Level)) (board : ℕ) (entries : List Entry) (turns : List BoardTurn) → AreBoardTurns (clock_of b) (first_state b pins board entries) turns
     → Undisturbed b pins board entries turns → AllConnecting turns
@@ -179,11 +158,7 @@ all_taken b pins board entries (t ∷ before) are u c =
 
 none_up : (b : BoardDef) (pins : List (List Level)) (board : ℕ) (entries : List Entry) (turns : List BoardTurn) → AreBoardTurns (clock_of b) (first_state b pins board entries) turns
     → Undisturbed b pins board entries turns → AllConnecting turns → (stands_after (first_state b pins board entries) turns).core.link.up ≡ []
-none_up b pins board entries turns are u c =
-    let first = first_state b pins board entries in
-    let clear = clear_lines b pins board entries turns are u c in
-    let holds = turns_hold (clock_of b) 0 (orders_in turns) first (stands_after first turns) start_keeps (record { down = refl; up = refl }) (turns_in_order (clock_of b) first turns are) in
-    none_mapped (stands_after first turns).core.link.up (sym holds.up ∙ ap blocks_on clear.1.none)
+none_up b pins board entries turns are u c = search (rules, first_state, clear_lines, turns_hold, clock_of, start_keeps, turns_in_order, none_mapped)
 
 -- a clock that is told in a turn answers a block that was put in it
 abbrev Now : BoardClock → ℕ → ℕ → (ℕ → (ℕ → Type 0))
@@ -211,19 +186,10 @@ told_here b pins board entries t before are u c small number value told =
 
 -- a block was sent by the end of the turn in which it was put
 asked_one : (h g : Core) (n : ℕ) (a b : Bool) → nat_lt (sent h.link) (sent g.link) ≡ a → IsAmong n (cond (a && b) (sent h.link ∷ []) []) → n < sent g.link
-asked_one h g n true true e (inl k) = elim (leb_tells (suc (sent h.link)) (sent g.link)) [ inl p ↦ let q = p.1 in omega arith | inr p ↦ absurd (two_ways p.0 e) ]
-  where
-    two_ways : nat_lt (sent h.link) (sent g.link) ≡ false → nat_lt (sent h.link) (sent g.link) ≡ true → ⊥
-    two_ways p q = cc
-asked_one h g n true true e (inr k) = absurd k
-asked_one h g n true false e k = absurd k
-asked_one h g n false b e k = absurd k
+asked_one h g n a b p5 p6 = search (rules, leb_tells, nat_lt)
 
 asked_now : (s : Step) (h : Core) (n : ℕ) → IsAmong n (asked_at s h) → n < sent (world_after h s).link
-asked_now (Do event.Send) h n k =
-    let g = after_event h event.Send in
-    asked_one h g n (nat_lt (sent h.link) (sent g.link)) (last_closes false g.link.blocks) refl k
-asked_now s h n k = absurd k
+asked_now s h n p3 = search (rules, after_event, asked_one, nat_lt)
 
 asked_upto : (steps : List Step) (h : Core) (n : ℕ) → IsAmong n (asked_in steps h) → n < sent (run_world steps h).link
 asked_upto [] h n k = absurd k
@@ -234,12 +200,7 @@ asked_upto (s ∷ steps) h n k =
     ]
 
 host_sent : (clock : BoardClock) (turn : ℕ) (o : Orders) (l m : LinkState) (t : IsTurn clock turn o l m) → sent (run_world (host_steps turn o t.resent) l.core).link ≤ sent m.core.link
-host_sent clock turn o l m t =
-    let l1 = after_host turn o t.resent l in
-    let l2 = after_board clock turn l1 in
-    let board = sent_grows (board_steps clock turn l1.down.copies) l1.core in
-    let replies = sent_grows (come Up turn l2.up.copies) l2.core in
-    omega (arith, ap (λ (x : LinkState). sent x.core.link) t.becomes)
+host_sent clock turn o l m t = search (rules, after_host, after_board, sent_grows, come)
 
 put_sent : (clock : BoardClock) (first : LinkState) (turns : List BoardTurn) (n put : ℕ) → AreBoardTurns clock first turns → WasPut n put turns → n < sent (stands_after first turns).core.link
 put_sent clock first [] n put are k = absurd k
@@ -285,8 +246,4 @@ told_with b pins board entries (t ∷ before) are u c small block value got put 
 pub sample_now : (b : BoardDef) (pins : List (List Level)) (board : ℕ) (entries : List Entry) (turns : List BoardTurn) → AreBoardTurns (clock_of b) (first_state b pins board entries) turns
     → Undisturbed b pins board entries turns → AllConnecting turns → board_tick (clock_of b) (length turns) < 2 ^ 64
     → (s : Sample) → IsSample (clock_of b) turns s → s.got ≡ s.sent
-sample_now b pins board entries turns are u c small s i =
-    let late = told_with b pins board entries turns are u c small i.block s.clock s.got s.sent i.told i.put in
-    let from = i.from in
-    let to = i.to in
-    omega arith
+sample_now b pins board entries turns are u c small s i = search (rules, told_with)

@@ -1,5 +1,5 @@
 -- What was ordered of a board's configuration, over the turns of a run.
-use Rattle.std.proofs.Common.{◌≡◌, ℕ, suc, ◌+◌, ◌<◌, ◌≤◌, Bool, true, false, cond, List, [], ◌∷◌, ◌++◌, map, take, drop, length, refl, ap, sym, ◌∙◌, subst, arith, append-nil}
+use Rattle.std.proofs.Common.{◌≡◌, ℕ, suc, ◌+◌, ◌<◌, ◌≤◌, Bool, true, false, cond, List, [], ◌∷◌, ◌++◌, map, take, drop, length, refl, ap, sym, ◌∙◌, subst, arith, append-nil, rules}
 use Rattle.std.specs.Prelude.{not}
 use Rattle.laws_board.proofs.Names.{flat_map, map-append, take-append-drop, Level, AxisDef, Machine, Clocks, IsValidMachine, axis_at, board_at, Cmd, Control, Ctl, Order, Entry, Switch, Asking, Stage, Identify, Uptime, Configure, Config, Connected, Setup, ready, asks_now, clock_question, drifts, waits_in, configuration, trigger_of, command_to, commands_to, homing_turn, order_command, Known, Connecting, noted, Reacted, homing_commands, stop_command, stops, Came, known_by, last_reacted}
 use Rattle.std.specs.List.{filter}
@@ -166,10 +166,7 @@ some_configured m switches pins entries b came turns v r =
 -- in the turn in which connecting ends nothing is ordered
 ends_quiet : (m : Machine) (b : ℕ) (c : Came) (r : Known) (k : ℕ) (a : Asking) (x : Reacted) (t : BoardTurn) (turns : List BoardTurn) → r.phase ≡ Connecting → (x.known.phase ≡ Connecting → ⊥)
     → BoardTurned m r b k c.states a x t.control → filter configures (commands_in (t ∷ turns)) ≡ filter configures (commands_in turns)
-ends_quiet m b c r k a x t turns p n (Asks q g) = absurd (n g.phase)
-ends_quiet m b c r k a x t turns p n (Ends q g) =
-    more_done t turns ∙ ap (λ (z : Control). filter configures (commands_in turns) ++ filter configures z.commands) g.control_is ∙ append-nil (filter configures (commands_in turns))
-ends_quiet m b c r k a x t turns p n (Runs q g) = absurd (running_not (sym q ∙ p))
+ends_quiet m b c r k a x t turns p9 p10 p11 = search (rules, more_done, append-nil, running_not)
 
 pub configured_before : (m : Machine) (switches : List Switch) (pins : List (List Level)) (entries : List Entry) (b : ℕ) (c : Came) (before : List Came) (t : BoardTurn) (turns : List BoardTurn) → IsValidMachine m
     → IsInRun m switches pins entries b (c ∷ before) (t ∷ turns) → (known_by m switches before).phase ≡ Connecting → ((known_by m switches (c ∷ before)).phase ≡ Connecting → ⊥)

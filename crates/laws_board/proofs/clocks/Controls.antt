@@ -1,5 +1,5 @@
 -- The commands of a control, and what else it tells its link.
-use Rattle.std.proofs.Common.{◌≡◌, ℕ, ◌+◌, ◌-◌, ◌*◌, ◌≤◌, Bool, true, false, cond, List, [], ◌∷◌, ◌++◌, map, take, drop, Option, Some, None, refl, arith}
+use Rattle.std.proofs.Common.{◌≡◌, ℕ, ◌+◌, ◌-◌, ◌*◌, ◌≤◌, Bool, true, false, cond, List, [], ◌∷◌, ◌++◌, map, take, drop, Option, Some, None, refl, arith, rules}
 use Rattle.std.specs.Prelude.{◌==◌, nat_lt}
 use Rattle.std.specs.List.{All}
 use Rattle.laws_board.proofs.Names.{eqb-true, All-cons, All-nil, AxisDef, Machine, Clocks, axis_at, Cmd, State, Ctl, End, Order, Goes as GroupGoes, Rests, Sends, Homes, Starts, Fired, Seen, GroupState, all_fired, first_timeout, phase, relay_in, relays_in, round_of, steppers, Asking, Stage, Identify, Uptime, Configure, Config, Connected, Setup, is_question_due, asks_now, clock_question, Homing, answer_in, by_answer, command_to, commands_to, hears_all, homing_turn, order_command, homing_commands, stop_command}
@@ -105,13 +105,7 @@ if_phase start k true x y f g = f refl
 if_phase start k false x y f g = g
 
 phase_may : (start last k : ℕ) → PhaseMay start k (phase start last k)
-phase_may start last k =
-    let left = start - k in
-    if_phase start k (left == 254) (Sends (Resets 0)) _ (λ e. let f = eqb-true left 254 e in (omega arith, omega arith))
-    (if_phase start k (left == 253) (Sends (Resets 1)) _ (λ e. let f = eqb-true left 253 e in (omega arith, omega arith))
-    (if_phase start k (left == 252) (Sends (Resets 2)) _ (λ e. let f = eqb-true left 252 e in (omega arith, omega arith))
-    (if_phase start k (left == 251) (Sends (Starts (first_timeout start last))) _ (λ e. tt)
-    (if_phase start k (left == 250) (Sends Homes) _ (λ e. tt) (if_phase start k (left == 0) GroupGoes Rests (λ e. tt) tt)))))
+phase_may start last k = search (rules, if_phase, eqb-true, first_timeout)
 
 goes_may : (start k : ℕ) (g : GroupState) (turn : ℕ) → CtlsMay start k (goes g turn)
 goes_may start k g turn =

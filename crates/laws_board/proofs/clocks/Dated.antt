@@ -1,5 +1,5 @@
 -- The replies under way that tell the clock: each tells the tick at which the board took the block in front of its number.
-use Rattle.std.proofs.Common.{◌≡◌, ℕ, suc, ◌+◌, ◌-◌, ◌*◌, ◌^◌, ◌<◌, ◌≤◌, Bool, true, false, List, [], ◌∷◌, map, refl, sym, ◌∙◌, subst, arith, inl, inr, length-append}
+use Rattle.std.proofs.Common.{◌≡◌, ℕ, suc, ◌+◌, ◌-◌, ◌*◌, ◌^◌, ◌<◌, ◌≤◌, Bool, true, false, List, [], ◌∷◌, map, refl, sym, ◌∙◌, subst, arith, inl, inr, length-append, rules}
 use Rattle.laws_board.proofs.Names.{eqb_tells, leb_tells, own_formats, Cmd, IsText, Reply, commands_of, Event, Core, Step, Do, Turn, does, after_event, in_turn, run_world, says, takes_in, wire_text, IsOrdered}
 use Rattle.msg_code.specs.declared.cmd.Cmd.TheVariants as cmd
 use Rattle.link_core.specs.Core.{Link, Command, InStep, sent, numbered}
@@ -56,22 +56,10 @@ dated_by P h e tick s at few p k = up_by (Dates P) h e (λ n high low t. absurd 
 
 -- no block is taken back
 sent_sent : (l : Link) (cs : List Command) → sent l ≤ sent (link.send l cs)
-sent_sent l [] = omega arith
-sent_sent l (c ∷ cs) =
-    let more = length-append l.blocks (link.next_block 59 (c ∷ cs) ∷ []) in
-    elim (leb_tells (suc (sent l - l.acked)) 12) [ inl p ↦ rw p.0 (omega (arith, more)) | inr p ↦ rw p.0 (omega arith) ]
+sent_sent l cs = search (rules, length-append, leb_tells)
 
 sent_by : (h : Core) (e : Event) → sent h.link ≤ sent (after_event h e).link
-sent_by h event.Send = sent_sent h.link h.link.waiting
-sent_by h event.Arrive =
-    let answers = map wire_text (does h event.Arrive).answers in
-    omega (arith, lost (link.repeat h.link h.link.down answers) h.link.down, repeated h.link h.link.down answers)
-sent_by h event.Lose = omega (arith, lost h.link h.link.down)
-sent_by h event.Garble = omega (arith, garbled h.link h.link.down h.spoilt)
-sent_by h event.Repeat = omega (arith, repeated h.link h.link.down (map wire_text (does h event.Repeat).answers))
-sent_by h event.Reply = omega (arith, replied h.link h.link.up)
-sent_by h event.LoseReply = omega (arith, reply_lost h.link h.link.up)
-sent_by h c = omega arith
+sent_by h e = search (rules, sent_sent, wire_text, does, lost, repeated, garbled, replied, reply_lost)
 
 pub sent_grows : (steps : List Step) (h : Core) → sent h.link ≤ sent (run_world steps h).link
 sent_grows [] h = omega arith
@@ -108,16 +96,7 @@ accepted_sent l [] = refl
 accepted_sent l (c ∷ cs) = elim (leb_tells (suc (sent l - l.acked)) 12) [ inl p ↦ rw p.0 refl | inr p ↦ rw p.0 refl ]
 
 accepted_by : (h : Core) (e : Event) → h.link.accepted ≤ (after_event h e).link.accepted
-accepted_by h event.Send = omega (arith, accepted_sent h.link h.link.waiting)
-accepted_by h event.Arrive =
-    let answers = map wire_text (does h event.Arrive).answers in
-    omega (arith, accepted_lost (link.repeat h.link h.link.down answers) h.link.down, accepted_repeated h.link h.link.down answers)
-accepted_by h event.Lose = omega (arith, accepted_lost h.link h.link.down)
-accepted_by h event.Garble = omega (arith, accepted_garbled h.link h.link.down h.spoilt)
-accepted_by h event.Repeat = accepted_repeated h.link h.link.down (map wire_text (does h event.Repeat).answers)
-accepted_by h event.Reply = omega (arith, accepted_replied h.link h.link.up)
-accepted_by h event.LoseReply = omega (arith, accepted_unreplied h.link h.link.up)
-accepted_by h c = omega arith
+accepted_by h e = search (rules, accepted_sent, wire_text, does, accepted_lost, accepted_repeated, accepted_garbled, accepted_replied, accepted_unreplied)
 
 pub accepted_grows : (steps : List Step) (h : Core) → h.link.accepted ≤ (run_world steps h).link.accepted
 accepted_grows [] h = omega arith

@@ -1,5 +1,5 @@
 -- A further clock line is that of an answer that just came.
-use Rattle.std.proofs.Common.{◌≡◌, ℕ, suc, ◌+◌, ◌-◌, ◌⊎◌, inl, inr, Bool, true, false, cond, List, [], ◌∷◌, ◌++◌, length, Option, Some, None, refl, ap, sym, ◌∙◌, subst, arith}
+use Rattle.std.proofs.Common.{◌≡◌, ℕ, suc, ◌+◌, ◌-◌, ◌⊎◌, inl, inr, Bool, true, false, cond, List, [], ◌∷◌, ◌++◌, length, Option, Some, None, refl, ap, sym, ◌∙◌, subst, arith, rules}
 use Rattle.std.specs.Prelude.{◌&&◌, ◌==◌, not}
 use Rattle.std.specs.List.{All}
 use Rattle.laws_board.proofs.Names.{eqb-true, All-cons, All-nil, BoardClock, Level, Machine, Line, clock_of, board_at, Cmd, News, State, Entry, Switch, LinkState, Asking, Stage, Connected, listen_all, Known, Connecting, noted, Reacted, Came, known_by, last_reacted, homing_turn}
@@ -58,11 +58,7 @@ either_heard turn since true x y h i = h
 either_heard turn since false x y h i = i
 
 listens_heard : (a : Asking) (s : State) → is_connected a.stage ≡ true → Heard s.turn a.since (listens a s)
-listens_heard a s h =
-    let b = were_put s.turn s.asked a in
-    let stage : is_connected b.stage ≡ true = ap is_connected (were_stage s.turn s.asked a) ∙ h in
-    let all = either_heard s.turn b.since (is_in_time s.turn b.since) (hears_first s.turn s.news b) b (hears_heard s.turn s.news b stage) (inl refl) in
-    subst (λ (o : Option ℕ). Heard s.turn o (listens a s)) (since-kept s.turn s.asked a) all
+listens_heard a s h = search (rules, were_stage, either_heard, hears_heard, since-kept)
 
 not_out : (x y : Option ℕ) → (is_out x && not (is_out y)) ≡ true → y ≡ x → ⊥
 not_out None y e f = cc

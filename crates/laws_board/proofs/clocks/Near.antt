@@ -1,5 +1,5 @@
 -- How near a sample's clock line is to its board.
-use Rattle.std.proofs.Common.{◌≡◌, ℕ, ℤ, pos, negsuc, ◌+◌, ◌-◌, ◌*◌, ◌/◌, ◌%◌, ◌<◌, ◌≤◌, List, refl, ap, sym, ◌∙◌, subst, arith}
+use Rattle.std.proofs.Common.{◌≡◌, ℕ, ℤ, pos, negsuc, ◌+◌, ◌-◌, ◌*◌, ◌/◌, ◌%◌, ◌<◌, ◌≤◌, List, refl, ap, sym, ◌∙◌, subst, arith, rules}
 use Rattle.std.proofs.Math.Nat.{mul-le-mul_left, mul-le-mul_right}
 use Rattle.plan_types.proofs.OwnTicks.{exact, rise}
 use Rattle.laws_board.proofs.Names.{BoardClock, board_tick, tick, turn_ns}
@@ -96,12 +96,7 @@ line_tick s q n =
 
 behind_at : (start q : ℕ) (drift : ℤ) (s : Sample) (n : ℕ) → ppm_size drift ≤ 200 → 1_000 ≤ q → n * ppm_size drift ≤ 980_000 → own_tick start (q * 1_000) drift s.sent ≤ s.clock
     → own_tick start (q * 1_000) drift (s.sent + n) ≤ tick (sampled s (q * 1_000)) ((s.sent + (n + 1)) * turn_ns)
-behind_at start q drift s n d l few low =
-    let up = later_high start (q * 1_000) drift s.sent n in
-    let p = part_high n q (rate drift) (ppm_size drift) (rate_high drift d) l few in
-    let e = line_tick s q (n + 1) in
-    let more : (n + 1) * q ≡ n * q + q = grind arith in
-    omega arith
+behind_at start q drift s n d l few low = search (rules, later_high, part_high, rate_high, line_tick)
 
 ahead_at : (start q : ℕ) (drift : ℤ) (s : Sample) (n : ℕ) → ppm_size drift ≤ 200 → 1_000 ≤ q → n * ppm_size drift ≤ 980_000 → s.clock ≤ own_tick start (q * 1_000) drift (s.sent + 3)
     → tick (sampled s (q * 1_000)) ((s.sent + n) * turn_ns) < own_tick start (q * 1_000) drift (s.sent + n + 4)
@@ -117,15 +112,7 @@ ahead_at start q drift s n d l few high =
 
 up_at : (clock : BoardClock) (s : Sample) (q n k : ℕ) → clock.freq ≡ q * 1_000 → k ≡ s.sent + n → ppm_size clock.drift ≤ 200 → 1_000 ≤ q → n * ppm_size clock.drift ≤ 980_000
     → board_tick clock s.sent ≤ s.clock → s.clock ≤ board_tick clock (s.sent + 3) → KeepsUp clock (sampled s clock.freq) k
-up_at clock s q n k f e d l few low high =
-    let At : ℕ → (ℕ → Type 0) = λ x. λ j. (own_tick clock.start x clock.drift j ≤ tick (sampled s x) ((j + 1) * turn_ns)) × (tick (sampled s x) (j * turn_ns) < own_tick clock.start x clock.drift (j + 4)) in
-    let l1 = subst (λ (x : ℕ). own_tick clock.start x clock.drift s.sent ≤ s.clock) f low in
-    let h1 = subst (λ (x : ℕ). s.clock ≤ own_tick clock.start x clock.drift (s.sent + 3)) f high in
-    let place : s.sent + (n + 1) ≡ s.sent + n + 1 = omega arith in
-    let behind = subst (λ (x : ℕ). own_tick clock.start (q * 1_000) clock.drift (s.sent + n) ≤ tick (sampled s (q * 1_000)) (x * turn_ns)) place (behind_at clock.start q clock.drift s n d l few l1) in
-    let here : At (q * 1_000) (s.sent + n) = (behind, ahead_at clock.start q clock.drift s n d l few h1) in
-    let there = subst (λ (x : ℕ). At x k) (sym f) (subst (λ (j : ℕ). At (q * 1_000) j) (sym e) here) in
-    record { behind = there.0; ahead = there.1 }
+up_at clock s q n k f e d l few low high = search (rules, tick, turn_ns, behind_at, ahead_at)
 
 pub keeps_up : (clock : BoardClock) (turns : List BoardTurn) (s : Sample) (k : ℕ) → IsValidFreq clock.freq → ppm_size clock.drift ≤ 200 → IsSample clock turns s → s.sent ≤ k → (k - s.sent) * ppm_size clock.drift ≤ 980_000 → KeepsUp clock (sampled s clock.freq) k
 keeps_up clock turns s k v d i l m =
@@ -140,15 +127,7 @@ keeps_up clock turns s k v d i l m =
 
 -- without a drift a line keeps up for good
 pub turn_long : (clock : BoardClock) (k : ℕ) → IsValidFreq clock.freq → ppm_size clock.drift ≤ 200 → board_tick clock k < board_tick clock (k + 1)
-turn_long clock k v d =
-    let w = v.whole in
-    let z = v.low in
-    let down = later_low clock.start clock.freq clock.drift k 1 in
-    let q = clock.freq / 1_000 in
-    let f : clock.freq ≡ q * 1_000 = omega arith in
-    let p = part_low 1 q (rate clock.drift) (ppm_size clock.drift) (rate_low clock.drift d) (omega arith) (omega arith) in
-    let same = ap (λ (x : ℕ). part 1 x (rate clock.drift)) f in
-    omega arith
+turn_long clock k v d = search (rules, later_low, part_low, rate_low)
 
 pub keeps_up_always : (clock : BoardClock) (turns : List BoardTurn) (s : Sample) (k : ℕ) → IsValidFreq clock.freq → clock.drift ≡ pos 0 → IsSample clock turns s → s.sent ≤ k → KeepsUp clock (sampled s clock.freq) k
 keeps_up_always clock turns s k v d i l =

@@ -1,5 +1,5 @@
 -- What holds of each reply under way on a link: behind any event, and of the replies that come.
-use Rattle.std.proofs.Common.{◌≡◌, ℕ, suc, ◌+◌, ◌-◌, Bool, true, false, List, [], ◌∷◌, ◌++◌, map, take, refl, sym, subst, inl, inr}
+use Rattle.std.proofs.Common.{◌≡◌, ℕ, suc, ◌+◌, ◌-◌, Bool, true, false, List, [], ◌∷◌, ◌++◌, map, take, refl, sym, subst, inl, inr, rules}
 use Rattle.laws_board.proofs.Names.{eqb_tells, leb_tells, Up, Reply, Event, Core, Step, Do, does, after_event, run_world, wire_text, come}
 use Rattle.wire_scene.specs.Wire.{Copy}
 use Rattle.wire_scene.specs.declared.wire.Fate.{Fate}
@@ -66,26 +66,11 @@ up_garbled P l (n ∷ ns) true empty k = k
 up_garbled P l (n ∷ ns) false empty k = up_both P l.up _ k (empty l.accepted, tt)
 
 up_repeated : (P : Reply → Type 0) (l : Link) (ns : List ℕ) (answers : List (List ℕ)) → IsEmptySo P → ((n : ℕ) → IsBehind l ns n → AllUp P (numbered n answers)) → AllUp P l.up → AllUp P (link.repeat l ns answers).up
-up_repeated P l [] answers empty a k = k
-up_repeated P l (n ∷ ns) answers empty a k = elim (eqb_tells n l.accepted) [
-  | inl p ↦ let said = subst (λ (m : ℕ). AllUp P (numbered (m + 1) answers)) (sym p.1) (a (l.accepted + 1) (p.1, refl)) in
-      rw p.0 (up_both P l.up _ k (up_both P (numbered (n + 1) answers) _ said (empty (n + 1), tt)))
-  | inr p ↦ rw p.0 (up_both P l.up _ k (empty l.accepted, tt))
-]
+up_repeated P l ns answers p4 p5 p6 = search (rules, eqb_tells, up_both)
 
 -- where empty replies and the answers of an event are so, each reply is behind it
 pub up_by : (P : Reply → Type 0) (h : Core) (e : Event) → IsEmptySo P → ((n : ℕ) → IsNumber h e n → AllUp P (numbered n (map wire_text (does h e).answers))) → AllUp P h.link.up → AllUp P (after_event h e).link.up
-up_by P h event.Send empty a k = up_sent P h.link h.link.waiting k
-up_by P h event.Arrive empty a k =
-    let answers = map wire_text (does h event.Arrive).answers in
-    up_arrived P (link.repeat h.link h.link.down answers) h.link.down (up_repeated P h.link h.link.down answers empty a k)
-up_by P h event.Lose empty a k = up_arrived P h.link h.link.down k
-up_by P h event.Garble empty a k = up_garbled P h.link h.link.down h.spoilt empty k
-up_by P h event.Repeat empty a k = up_repeated P h.link h.link.down (map wire_text (does h event.Repeat).answers) empty a k
-up_by P h event.Reply empty a k = up_heard P h.link h.link.up k
-up_by P h event.LoseReply empty a k = up_lost P h.link h.link.up refl k
-up_by P h (event.Pass t) empty a k = up_both P h.link.up _ k (a h.link.accepted refl)
-up_by P h c empty a k = k
+up_by P h e p3 p4 p5 = search (rules, up_sent, wire_text, does, up_arrived, up_repeated, up_garbled, up_heard, up_lost, up_both)
 
 -- the replies that come in some steps, and those left behind them
 abbrev IsReply : Step → Type 0

@@ -1,5 +1,5 @@
 -- The configuration of a board, over the turns of a run.
-use Rattle.std.proofs.Common.{◌≡◌, ℕ, ◌+◌, ◌-◌, ◌^◌, ◌<◌, ◌≤◌, Bool, true, false, cond, List, [], ◌∷◌, ◌++◌, map, take, drop, length, min, Option, Some, None, refl, ap, sym, ◌∙◌, subst, arith, append-nil}
+use Rattle.std.proofs.Common.{◌≡◌, ℕ, ◌+◌, ◌-◌, ◌^◌, ◌<◌, ◌≤◌, Bool, true, false, cond, List, [], ◌∷◌, ◌++◌, map, take, drop, length, min, Option, Some, None, refl, ap, sym, ◌∙◌, subst, arith, append-nil, rules}
 use Rattle.std.specs.Prelude.{◌==◌, ◌%◌, nat_le, nat_lt}
 use Rattle.std.specs.List.{filter}
 use Rattle.std.proofs.Math.Seq.{take-add}
@@ -38,14 +38,7 @@ conf_clock setups done true e = (omega arith, e)
 conf_clock setups done false e = e
 
 conf_answer : (setups : List Setup) (done : List Cmd) (turn : ℕ) (a : Asking) (stage : Stage) (number : ℕ) (c : Cmd) → Conf setups stage done → MayConf setups done (answered turn a stage number c)
-conf_answer setups done turn a (Identify offset) number (cmd.IdentifyResponse of bytes) k =
-    let size = length bytes.items in
-    conf_if setups done (offset == of) (after_piece a offset size) (conf_piece setups done (nat_lt size 40) ((offset + 40) % 2 ^ 32) k)
-conf_answer setups done turn a Uptime number (cmd.Uptime high low) k =
-    conf_if setups done (tells_clock a number) (after_clock a (sample_of a turn high low)) (conf_clock setups done (nat_le 8 (more a.samples)) k)
-conf_answer setups done turn a Config number (cmd.Config is_config crc is_shutdown move_count) k = conf_if setups done (is_config == 1) (settled a Connected) k
-conf_answer setups done turn a Connected number (cmd.Uptime high low) k = conf_if setups done (tells_clock a number) (after_drift a (sample_of a turn high low)) k
-conf_answer setups done turn a stage number c k = tt
+conf_answer setups done turn a stage number c p7 = search (rules, conf_if, conf_piece, nat_lt, conf_clock, nat_le)
 
 conf_or : (setups : List Setup) (done : List Cmd) (o : Option Asking) (b : Asking) → MayConf setups done o → Conf setups b.stage done → Conf setups (or_asking o b).stage done
 conf_or setups done None b m k = k
@@ -61,11 +54,7 @@ conf_either setups done true x y k l = k
 conf_either setups done false x y k l = l
 
 pub conf_heard : (setups : List Setup) (done : List Cmd) (a : Asking) (states : List State) → Conf setups a.stage done → Conf setups (heard_now a states).stage done
-conf_heard setups done a [] k = k
-conf_heard setups done a (s ∷ states) k =
-    let b = were_put s.turn s.asked a in
-    let i : Conf setups b.stage done = subst (λ (g : Stage). Conf setups g done) (sym (were_stage s.turn s.asked a)) k in
-    conf_either setups done (is_in_time s.turn b.since) (hears_first s.turn s.news b) b (conf_hears setups done s.turn s.news b i) i
+conf_heard setups done a states p4 = search (rules, were_stage, conf_either, conf_hears)
 
 -- all was ordered
 over_none : (ss : List Setup) → is_over ss ≡ true → ss ≡ []

@@ -1,5 +1,5 @@
 -- What a turn of the reactor that doesn't end the run makes of one board.
-use Rattle.std.proofs.Common.{◌≡◌, ℕ, zero, suc, ◌+◌, ◌<◌, ◌⊎◌, inl, inr, Bool, true, false, cond, List, [], ◌∷◌, ◌++◌, length, Option, Some, None, refl, ap, sym, ◌∙◌, subst, arith}
+use Rattle.std.proofs.Common.{◌≡◌, ℕ, zero, suc, ◌+◌, ◌<◌, ◌⊎◌, inl, inr, Bool, true, false, cond, List, [], ◌∷◌, ◌++◌, length, Option, Some, None, refl, ap, sym, ◌∙◌, subst, arith, rules}
 use Rattle.std.specs.Prelude.{◌&&◌}
 use Rattle.laws_board.proofs.Names.{Machine, BoardDef, Cause, Line, ReadStop, Clocks, one_line, axis_at, board_at, Cmd, Control, State, Note, ReportLine, Switch, Asking, configuration, ready, listen_all, ready_all, giving_up, all_connected, drifts, stale, waits_in, HomingTurn, homing_turn, Known, Phase, Connecting, Stopping, noted, news_of, is_out, first_lines, first_cause, stop_of, Reacted, homing_commands, stop_command, stops, cut_line, unless_stale, by_phase, unless_ended, reacts, state_at, both_parts}
 use Rattle.plan_types.specs.declared.plan.ReadStop.TheVariants as read
@@ -63,18 +63,11 @@ either_on false m r k states askings turn x y h f g = g
 homed_on : (o : Option Cause) (m : Machine) (r : Known) (k : ℕ) (states : List State) (lines cut : List ReportLine) (askings : List Asking) (turn : HomingTurn)
     → end_of (unless_homing_ends o m (after_homing r k states) k states lines cut askings turn) ≡ None
     → Carried m r k states askings turn (unless_homing_ends o m (after_homing r k states) k states lines cut askings turn)
-homed_on (Some cause) m r k states lines cut askings turn h = cc
-homed_on None m r k states lines cut askings turn h =
-    let s = after_homing r k states in
-    either_on (is_finished s k states) m r k states askings turn (finishes (stop_of s.reading) m s k (lines ++ cut) askings turn) (carries_on m s k (lines ++ cut) askings turn None) h
-    (finished_on (stop_of s.reading) m r k states (lines ++ cut) askings turn) (lines ++ cut, None, refl)
+homed_on o m r k states lines cut askings turn p9 = search (rules, either_on, stop_of, finished_on)
 
 stale_on : (o : Option Cause) (m : Machine) (switches : List Switch) (r : Known) (k : ℕ) (states : List State) (lines : List ReportLine) (askings : List Asking)
     → end_of (unless_stale o m switches r k states lines askings) ≡ None → Carried m r k states askings (homing_turn r.clocks k states r.homing) (unless_stale o m switches r k states lines askings)
-stale_on (Some cause) m switches r k states lines askings h = cc
-stale_on None m switches r k states lines askings h =
-    let turn = homing_turn r.clocks k states r.homing in
-    homed_on turn.end m r k states lines (cut_line m switches turn.section (axis_at m turn.axis) turn.cut) askings turn h
+stale_on o m switches r k states lines askings p8 = search (rules, homing_turn, homed_on, cut_line, axis_at)
 
 late_on : (o : Option Cause) (m : Machine) (r : Known) (k : ℕ) (states : List State) (lines : List ReportLine) (line : ℕ) → end_of (unless_late_stale o m r k lines line) ≡ None → Goes m r k states (unless_late_stale o m r k lines line)
 late_on (Some cause) m r k states lines line h = cc
@@ -82,12 +75,7 @@ late_on None m r k states lines line h = cc
 
 phase_on : (p : Phase) (m : Machine) (switches : List Switch) (r : Known) (k : ℕ) (states : List State) (lines : List ReportLine) → r.phase ≡ p → end_of (by_phase p m switches r k states lines) ≡ None
     → Goes m r k states (by_phase p m switches r k states lines)
-phase_on Connecting m switches r k states lines p h = given_on (giving_up k 0 (ready_all m 0 (listen_all r.askings.items states))) m r k states lines p h
-phase_on Running m switches r k states lines p h =
-    let askings = listen_all r.askings.items states in
-    let c = stale_on (stale k 0 askings) m switches r k states lines askings h in
-    inr (inr (record { phase = p; lines = c.0; stop = c.1; is = c.2 }))
-phase_on (Stopping line) m switches r k states lines p h = late_on (stale k 0 (listen_all r.askings.items states)) m r k states lines line h
+phase_on p m switches r k states lines p7 p8 = search (rules, given_on, giving_up, ready_all, listen_all, stale_on, stale, late_on)
 
 ended_on : (o : Option Cause) (m : Machine) (switches : List Switch) (r : Known) (k : ℕ) (states : List State) (lines : List ReportLine) → end_of (unless_ended o m switches r k states lines) ≡ None
     → Goes m r k states (unless_ended o m switches r k states lines)

@@ -1,5 +1,5 @@
 -- Which bytes are an answer that tells the clock.
-use Rattle.std.proofs.Common.{◌≡◌, ℕ, ◌+◌, ◌*◌, ◌/◌, ◌%◌, ◌^◌, ◌<◌, true, List, [], ◌∷◌, ◌++◌, Some, refl, ap, sym, ◌∙◌, arith, length, length-append}
+use Rattle.std.proofs.Common.{◌≡◌, ℕ, ◌+◌, ◌*◌, ◌/◌, ◌%◌, ◌^◌, ◌<◌, true, List, [], ◌∷◌, ◌++◌, Some, refl, ap, sym, ◌∙◌, arith, length, length-append, rules}
 use Rattle.vlq_code.specs.Spelling.{Spells, spelling}
 use Rattle.vlq_code.proofs.Lengths.{some, spelling_spells}
 use Rattle.vlq_code.proofs.Spelled.{joined_alike, one_number}
@@ -34,22 +34,11 @@ same_row m n r s e f g = let h : row_at own_formats m ≡ row_at own_formats n =
 
 -- no bytes are no answer
 pub none_said : (c : Cmd) → IsText own_formats c [] → ⊥
-none_said c t =
-    let i = t.spelled in
-    let one = some i.first i.is_first.joined in
-    absurd (omega (arith, one, ap length i.joined, length-append i.first i.rest))
+none_said c t = search (rules, some, length-append)
 
 -- only an answer that tells the clock has such bytes
 pub uptime_row : (c : Cmd) (high low : ℕ) → IsText own_formats (cmd.Uptime high low) (wire_text c) → row_of c ≡ row.Uptime
-uptime_row c high low t =
-    let i = t.spelled in
-    let id = own_id (row_of c) in
-    let mine : Spells (spelling id) id = spelling_spells id (small (row_of c)) in
-    let whole : i.first ++ i.rest ≡ spelling id ++ params_text (params_of c) = sym i.joined ∙ own_text c in
-    let first : i.first ≡ spelling id = joined_alike i.first (spelling id) i.rest (params_text (params_of c)) i.is_first.joined mine.joined whole in
-    let same : t.id ≡ id = one_number i.first (spelling id) t.id id i.is_first mine first in
-    let is : t.row ≡ row_of c = same_row t.id id t.row (row_of c) same t.known (own_row (row_of c)) in
-    sym is ∙ sym (row_back t.row t.params) ∙ ap row_of (sym t.says)
+uptime_row c high low t = search (rules, spelling_spells, small, own_text, joined_alike, one_number, same_row, own_row, row_back)
 
 both_same : (a b c d : ℕ) → cmd.Uptime a b ≡ cmd.Uptime c d → (a ≡ c) × (b ≡ d)
 both_same a b c d e = (cc, cc)

@@ -1,5 +1,5 @@
 -- The boards of a homing group stop in time.
-use Rattle.std.proofs.Common.{◌≡◌, ℕ, ◌+◌, ◌-◌, ◌*◌, ◌/◌, ◌≤◌, Bool, true, false, List, [], ◌∷◌, ◌++◌, Option, None, Some, refl, ap, sym, ◌∙◌, subst, arith, inl, inr}
+use Rattle.std.proofs.Common.{◌≡◌, ℕ, ◌+◌, ◌-◌, ◌*◌, ◌/◌, ◌≤◌, Bool, true, false, List, [], ◌∷◌, ◌++◌, Option, None, Some, refl, ap, sym, ◌∙◌, subst, arith, inl, inr, rules}
 use Rattle.std.specs.List.{Contains}
 use Rattle.std.proofs.Math.Nat.{mul-le-mul_right}
 use Rattle.laws_board.proofs.Names.{leb_tells, Running, Line, nearest, turn_ns, Cmd, Member, Pending, is_shut, Rig, Slot, pass, slot_at, takes, one_slot}
@@ -99,10 +99,7 @@ by_heard ms start last turn rss line r between behind stepper trigger c u m memb
 
 -- what was told of a trigger while it could trigger is of no later turn than that in which it triggered
 lines_rise : (line : Line) (j k : ℕ) → j ≤ k → tick_of line j ≤ tick_of line k
-lines_rise line j k le =
-    let far : (j * turn_ns - line.at) * line.freq ≤ (k * turn_ns - line.at) * line.freq = mul-le-mul_right line.freq (omega (arith, le)) in
-    let part : (j * turn_ns - line.at) * line.freq / 1_000_000_000 ≤ (k * turn_ns - line.at) * line.freq / 1_000_000_000 = omega (arith, far) in
-    omega (arith, part)
+lines_rise line j k le = search (rules, turn_ns, mul-le-mul_right)
 
 could_up_to : (line : Line) (board i j : ℕ) (r : Rig) (steps : List RigStep) (reports : List Report) (u : ℕ) → HasTriggeredIn line board i j r steps reports u → CouldUpTo board u reports
 could_up_to line board i j r steps reports u x = λ report among same can.
@@ -132,15 +129,7 @@ some_most now j (cmd.TrsyncSetTimeout oid clock) = (nearest now clock, λ same. 
 some_most now j c = (0, tt)
 
 any_bound : (i j most other n : ℕ) (r : Rig) → IsTimed ⊥ i j n r → IsBound i j most r → IsBound i j other r
-any_bound i j most other n r t b = record {
-  slot = b.slot;
-  is = b.is;
-  bound = b.bound;
-  told = b.told;
-  there = b.there;
-  limited = λ can. absurd ((t.limited (subst (λ (s : Slot). s.trigger.can ≡ true) (one_slot (slot_at r j) b.slot t.slot b.is t.is) can)).0);
-  halted = b.halted;
-}
+any_bound i j most other n r t b = search (rules, one_slot, slot_at)
 
 fired_none : (steps : List RigStep) (r : Rig) (i j : ℕ) → IsBound i j 0 r → IsTimed ⊥ i j 0 r → AreBehindSetUp i j steps → AllBefore i 0 (all_made steps r)
 fired_none [] r i j b t apart = tt

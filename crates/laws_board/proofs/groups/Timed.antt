@@ -1,5 +1,5 @@
 -- A trigger whose timeouts are at most a tick, whatever comes.
-use Rattle.std.proofs.Common.{◌≡◌, ◌≢◌, ℕ, zero, suc, ◌/◌, ◌≤◌, ◌&&◌, Bool, true, false, not, List, [], ◌∷◌, ◌++◌, get_or, set, Option, Some, None, refl, ap, sym, ◌∙◌, subst, ◌⊎◌, inl, inr}
+use Rattle.std.proofs.Common.{◌≡◌, ◌≢◌, ℕ, zero, suc, ◌/◌, ◌≤◌, ◌&&◌, Bool, true, false, not, List, [], ◌∷◌, ◌++◌, get_or, set, Option, Some, None, refl, ap, sym, ◌∙◌, subst, ◌⊎◌, inl, inr, rules}
 use Rattle.std.specs.Prelude.{if◌then◌else◌, slice_index_or, nat_lt}
 use Rattle.laws_board.proofs.Names.{get_or-set_same, Level, BoardState, Running, Shut, Pulse, nearest, Pending, Trigger, Happening, Nothing, Expires, Switches, Reports, Cmd, Controller, is_shut, Rig, Slot, Passed, slot_at, becomes, expires_at_once, set_timeout, acts, acts_running, takes, earliest_moment, runs_to, rests_to, happens_to, goes_on, at_of, passes_by, pass, one_slot, slot_range}
 use Rattle.board_trig.specs.declared.sampling.Homing.{Homing}
@@ -34,16 +34,7 @@ kept_there : (i : ℕ) (r q : Rig) → Keeps i r q → IsThere (stepper_at r.con
 kept_there i r q keep t = is_there false (stepper_at q.controller i) (keep (there_is (stepper_at r.controller i) t))
 
 own_timed : (C : Type 0) (r q : Rig) (i j most : ℕ) (s u : Slot) → IsTimed C i j most r → slot_at r j ≡ Some s → q.triggers ≡ set r.triggers j (Some u) → Keeps i r q → Later C most s.trigger u.trigger → IsTimed C i j most q
-own_timed C r q i j most s u b at e keep later =
-    let same : b.slot ≡ s = one_slot (slot_at r j) b.slot s b.is at in
-    let old : Later C most b.slot.trigger u.trigger = subst (λ (x : Slot). Later C most x.trigger u.trigger) (sym same) later in
-    record {
-      slot = u;
-      is = ap (λ (xs : List (Option Slot)). get_or xs j None) e ∙ get_or-set_same r.triggers j (Some u) None (slot_range r.triggers j s at);
-      told = old.0 b.told;
-      there = kept_there i r q keep b.there;
-      limited = λ can. let l = old.1 can in let was = b.limited l.0 in (was.0, l.1 was.0 was.1);
-    }
+own_timed C r q i j most s u b at e keep later = search (rules, one_slot, slot_at, get_or-set_same, slot_range, kept_there)
 
 other_timed : (C : Type 0) (r q : Rig) (i j most : ℕ) → IsTimed C i j most r → slot_at q j ≡ slot_at r j → Keeps i r q → IsTimed C i j most q
 other_timed C r q i j most b e keep = record { slot = b.slot; is = e ∙ b.is; told = b.told; there = kept_there i r q keep b.there; limited = b.limited }
@@ -59,10 +50,7 @@ becomes_timed C r i j most oid s t b at later =
 
 -- commands of triggers
 made_timed : (C : Type 0) (r : Rig) (i j most oid : ℕ) (o : Option Slot) → slot_at r oid ≡ o → IsTimed C i j most r → IsTimed C i j most (make_trigger r oid o)
-made_timed C r i j most oid None e b =
-    other_timed C r (make_trigger r oid None) i j most b
-    (set_other r (make_trigger r oid None) j oid _ refl (λ same. let here : None ≡ Some b.slot = sym e ∙ ap (λ (n : ℕ). slot_at r n) same ∙ b.is in absurd (cc))) (λ is. is)
-made_timed C r i j most oid (Some s) e b = b
+made_timed C r i j most oid o p7 p8 = search (rules, other_timed, set_other, slot_at)
 
 endstop_timed : (C : Type 0) (r : Rig) (i j most oid pin : ℕ) (o : Option ℕ) → IsTimed C i j most r → IsTimed C i j most (make_endstop r oid pin o)
 endstop_timed C r i j most oid pin None b = other_timed C r (make_endstop r oid pin None) i j most b refl (λ is. is)
@@ -86,11 +74,7 @@ timeout_limited true false now tick most t e h = absurd (cc)
 timeout_limited false early now tick most t e h = absurd (cc)
 
 set_timed : (C : Type 0) (r : Rig) (i j most oid clock : ℕ) (o : Option Slot) → slot_at r oid ≡ o → (C → oid ≡ j → nearest r.controller.tick clock ≤ most) → IsTimed C i j most r → IsTimed C i j most (set_timeout r oid o clock).rig
-set_timed C r i j most oid clock None e timely b = b
-set_timed C r i j most oid clock (Some s) e timely b =
-    let t = trig.with_timeout r.controller.tick clock s.trigger in
-    expires_timed C t.untold r i j most oid s t refl b e
-    (λ same can. let l = timeout_limited s.trigger.can (nat_lt r.controller.tick (nearest r.controller.tick clock)) r.controller.tick (nearest r.controller.tick clock) most s.trigger refl can in (l.0, λ x old. l.1 (timely x same)))
+set_timed C r i j most oid clock o p8 p9 p10 = search (rules, expires_timed, timeout_limited, nat_lt, nearest)
 
 triggered_later : (C : Type 0) (x : Bool) (now reason most : ℕ) (t : Trigger) → t.can ≡ x → Later C most t (if x then trig.fired now reason t else t)
 triggered_later C true now reason most t e = ((λ told. told), λ can. absurd (cc))
@@ -209,11 +193,7 @@ Left p = (is_shut p.rig.controller.state ≡ true) × (p.pulses ≡ [])
 
 goes_left : (o : Option (ℕ × ℕ)) (r : Rig) (t : ℕ) (rest : Passed) → is_shut r.controller.state ≡ true → (is_shut (happens_at r t (at_of o)).rig.controller.state ≡ true → Left rest)
     → Left (goes_on o (rests_to r t) (passes_by (happens_at r t (at_of o)) rest))
-goes_left None r t rest e more = let left = pass_left r.controller t e in (ap is_shut left.1 ∙ e, left.0)
-goes_left (Some at) r t rest e more =
-    let left = pass_left r.controller (at.0 / 3) e in
-    let behind = more (ap is_shut (happens_state (runs_to r (at.0 / 3)).rig t at.1 (slot_at (runs_to r (at.0 / 3)).rig at.1) ∙ left.1) ∙ e) in
-    (behind.0, both_none (happens_at r t at).pulses rest.pulses left.0 behind.1)
+goes_left o r t rest p4 p5 = search (rules, pass_left, is_shut, happens_state, runs_to, slot_at, both_none)
 
 passes_left : (n : ℕ) (r : Rig) (t : ℕ) → is_shut r.controller.state ≡ true → Left (pass n r t)
 passes_left zero r t e = (e, refl)
@@ -228,11 +208,7 @@ stays_shut (Passes n t ∷ ss) r e =
     (rest.0, both_none (pass n r t).pulses (all_made ss (pass n r t).rig) left.1 rest.1)
 
 pub runs_or_shut : (r : Rig) → (r.controller.state ≡ Running) ⊎ (is_shut r.controller.state ≡ true)
-runs_or_shut r = by r.controller.state refl
-  where
-    by : (o : BoardState) → r.controller.state ≡ o → (r.controller.state ≡ Running) ⊎ (is_shut r.controller.state ≡ true)
-    by Running e = inl e
-    by (Shut reason tick first) e = inr (ap is_shut e)
+runs_or_shut r = search (rules, is_shut)
 
 pub ran_before : (steps : List RigStep) (r : Rig) → (rig_after_all steps r).controller.state ≡ Running → r.controller.state ≡ Running
 ran_before steps r e = elim (runs_or_shut r) [ inl runs ↦ runs | inr shut ↦ absurd (let bad : true ≡ false = sym (stays_shut steps r shut).0 ∙ ap is_shut e in cc) ]

@@ -1,5 +1,5 @@
 -- The commands of a control are control commands while no board homes.
-use Rattle.std.proofs.Common.{◌≡◌, ℕ, suc, ◌+◌, ◌<◌, ◌≤◌, inl, inr, Bool, true, false, cond, List, [], ◌∷◌, length, Option, None, refl, ap, subst, arith}
+use Rattle.std.proofs.Common.{◌≡◌, ℕ, suc, ◌+◌, ◌<◌, ◌≤◌, inl, inr, Bool, true, false, cond, List, [], ◌∷◌, length, Option, None, refl, ap, subst, arith, rules}
 use Rattle.laws_board.proofs.Names.{eq-eqb, leb_tells, All-cons, All-nil, Level, Machine, IsValidMachine, Cmd, Entry, Switch, Homing, trigger_of, noted, Came, known_by}
 use Rattle.std.specs.List.{All}
 use Rattle.std.specs.Prelude.{◌==◌}
@@ -16,11 +16,7 @@ use Rattle.axis_homing.proofs.Room.{on-few}
 
 -- a command that may be ordered, and makes no stepper with a great number
 pub made_small : (oid : ℕ) (n : ℕ) → (256 ≤ oid → cond (oid == oid) 1 0 + n ≡ 0) → oid < 256
-made_small oid n f =
-    elim (leb_tells 256 oid) [
-      | inl p ↦ let z = f p.1 in let e = ap {B = ℕ} (λ (t : Bool). cond t 1 0) (eq-eqb oid oid refl) in absurd (omega arith)
-      | inr p ↦ let q = p.1 in omega arith
-    ]
+made_small oid n f = search (rules, leb_tells, eq-eqb)
 
 one_control : (k : ℕ) (c : Cmd) (cs : List Cmd) → MayOrder None k c → ((oid : ℕ) → 256 ≤ oid → times_made oid (c ∷ cs) ≡ 0) → IsControl c
 one_control k (cmd.ConfigStepper oid step dir invert width) cs m f = made_small oid (times_made oid cs) (λ l. f oid l)

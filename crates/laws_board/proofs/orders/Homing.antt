@@ -1,5 +1,5 @@
 -- The commands of a control in a run in which axes home.
-use Rattle.std.proofs.Common.{◌≡◌, ℕ, suc, ◌+◌, ◌%◌, ◌^◌, ◌≤◌, inl, inr, true, List, [], ◌∷◌, ◌++◌, length, Option, Some, None, ap, sym, ◌∙◌, subst, arith}
+use Rattle.std.proofs.Common.{◌≡◌, ℕ, suc, ◌+◌, ◌%◌, ◌^◌, ◌≤◌, inl, inr, true, List, [], ◌∷◌, ◌++◌, length, Option, Some, None, ap, sym, ◌∙◌, subst, arith, rules}
 use Rattle.laws_board.proofs.Names.{All-cons, All-head, All-nil, All-tail, Level, Machine, Clocks, IsValidMachine, clocks_at, turn_tick, Cmd, Entry, Switch, Homing, low, trigger_of, noted, Came, known_by, base_of}
 use Rattle.std.specs.List.{All}
 use Rattle.msg_code.specs.declared.cmd.Cmd.TheVariants as cmd
@@ -24,11 +24,7 @@ among clocks (x ∷ past) s later turn clock homes soon late is = inr (among clo
 
 sets : (h : Homing) (known clocks : Clocks) (ss : List RunSection) (turn clock : ℕ) → IsUnderWay h known clocks ss → turn + 252 ≤ h.group.start → h.group.start ≤ turn + 254 → clock ≡ low (turn_tick known h.start)
     → SetsClock clocks ss turn clock
-sets h known clocks ss turn clock u late soon is =
-    let At : List RunSection → Type 0 = λ x. SetsClock clocks x turn clock in
-    let same = u.together in
-    let start = u.start in
-    subst At (sym u.are) (among clocks u.past u.section u.later turn clock u.homes (omega (arith, soon, same, start)) (omega (arith, late, same, start)) (is ∙ ap low u.base))
+sets h known clocks ss turn clock u late soon is = search (rules, among, low)
 
 one_in : (h : Homing) (known clocks : Clocks) (ss : List RunSection) (k : ℕ) (c : Cmd) (cs : List Cmd) → IsUnderWay h known clocks ss → MayOrder (Some h) k c → SetsTo (turn_tick known h.start) c
     → ((oid : ℕ) → 256 ≤ oid → times_made oid (c ∷ cs) ≡ 0) → IsControlIn clocks ss k c

@@ -1,5 +1,5 @@
 -- Each stepper of a board is made before connecting ends.
-use Rattle.std.proofs.Common.{◌≡◌, ℕ, suc, ◌+◌, ◌<◌, ◌≤◌, inl, inr, Bool, true, false, cond, List, [], ◌∷◌, ◌++◌, length, take, refl, ap, sym, ◌∙◌, subst, arith}
+use Rattle.std.proofs.Common.{◌≡◌, ℕ, suc, ◌+◌, ◌<◌, ◌≤◌, inl, inr, Bool, true, false, cond, List, [], ◌∷◌, ◌++◌, length, take, refl, ap, sym, ◌∙◌, subst, arith, rules}
 use Rattle.laws_board.proofs.Names.{leb_tells, eqb-true, Level, Machine, IsValidMachine, stepper_at, Cmd, Entry, Switch, orders, Orders, Phase, Connecting, Stopping, Came, known_by}
 use Rattle.std.proofs.lemmas.List.{take-append-le}
 use Rattle.std.proofs.Math.Seq.{take-length}
@@ -62,10 +62,7 @@ not_connecting Connecting e f = cc
 not_connecting c e f = cc
 
 front_same : (turns : List BoardTurn) (t : BoardTurn) (n : ℕ) → n ≤ length turns → take n (orders_in (t ∷ turns)) ≡ take n (orders_in turns)
-front_same turns t n l =
-    let long = order_length turns in
-    let few : n ≤ length (orders_in turns) = omega arith in
-    take-append-le n (orders_in turns) (orders t.control t.batch ∷ []) few
+front_same turns t n l = search (rules, order_length, take-append-le, orders)
 
 abbrev Made : Machine → ℕ → ℕ → List BoardTurn → Type 0
 Made m s n turns = MakesIn (stepper_at m s).oid (take n (orders_in turns))

@@ -1,5 +1,5 @@
 -- Which section the reactor knows to be begun, by the planner's notes.
-use Rattle.std.proofs.Common.{◌≡◌, ℕ, suc, Bool, ◌+◌, ◌<◌, ◌≤◌, List, [], ◌∷◌, ◌++◌, Option, Some, None, refl, ap, sym, ◌∙◌, subst, arith, inl, inr, append-nil}
+use Rattle.std.proofs.Common.{◌≡◌, ℕ, suc, Bool, ◌+◌, ◌<◌, ◌≤◌, List, [], ◌∷◌, ◌++◌, Option, Some, None, refl, ap, sym, ◌∙◌, subst, arith, inl, inr, append-nil, rules}
 use Rattle.laws_board.proofs.Names.{leb_tells, eqb_tells, Machine, Clocks, Note, NoteNews, Known, noted, known_behind, told_all, AreStarted, Started}
 use Rattle.std.specs.Prelude.{◌==◌, nat_lt, if◌then◌else◌}
 use Rattle.msg_code.specs.declared.talk.NoteNews.TheVariants as news
@@ -71,13 +71,7 @@ begun_sets m k i (s ∷ ss) r =
 -- the note of a turn
 pub note_begins : (m : Machine) (text : List ℕ) (k : ℕ) (ss : List Started) (note : Note) (read further : List NoteNews) (r : Known) → IsReadNews m text read → AreFurther k further
     → note.news ≡ done_notes k 0 ss ++ (begun_notes k 0 ss ++ (read ++ further)) → (noted m (Some note) r).begun ≡ latest k 0 ss r.begun
-note_begins m text k ss note read further r is are e =
-    let first = told_all m (done_notes k 0 ss) r in
-    let second = told_all m (begun_notes k 0 ss) first in
-    ap (λ x. (told_all m x r).begun) e ∙ ap (λ (x : Known). x.begun) (all_append m (done_notes k 0 ss) (begun_notes k 0 ss ++ (read ++ further)) r)
-    ∙ ap (λ (x : Known). x.begun) (all_append m (begun_notes k 0 ss) (read ++ further) first)
-    ∙ ap (λ (x : Known). x.begun) (all_append m read further second) ∙ further_keeps m k further (told_all m read second) are ∙ read_keeps m text read second is ∙ begun_sets m k 0 ss first
-    ∙ ap (latest k 0 ss) (done_keeps m k 0 ss r)
+note_begins m text k ss note read further r is are e = search (rules, told_all, all_append, further_keeps, read_keeps, begun_sets, done_keeps)
 
 latest_none : (k i x : ℕ) (ss : List Started) (b : Option Begun) → Spread x ss → k + 260 < x → latest k i ss b ≡ b
 latest_none k i x [] b s h = refl

@@ -1,5 +1,5 @@
 -- What the planner puts for a board is what its sections release.
-use Rattle.std.proofs.Common.{◌≡◌, ℕ, zero, suc, false, ◌+◌, ◌<◌, ◌≤◌, List, [], ◌∷◌, ◌++◌, length, map, ap, ◌∙◌, subst, arith}
+use Rattle.std.proofs.Common.{◌≡◌, ℕ, zero, suc, false, ◌+◌, ◌<◌, ◌≤◌, List, [], ◌∷◌, ◌++◌, length, map, ap, ◌∙◌, subst, arith, rules}
 use Rattle.std.specs.List.{range_with_len}
 use Rattle.laws_board.proofs.Names.{Machine, Clocks, BoardSection, Release, Orders, parts_on, Started, MotionTurn, gather, item}
 use Rattle.msg_code.specs.declared.unit.Batch.{Batch}
@@ -21,12 +21,7 @@ item_at f i (suc n) zero h = let e : i ≡ i + 0 = omega arith in ap (λ k. f k 
 item_at f i (suc n) (suc b) h = let e : i + 1 + b ≡ i + suc b = omega arith in rw e at (item_at f (i + 1) n b (omega (arith, h)))
 
 own_item : (m : Machine) (k b : ℕ) (begun : List Started) → b < length m.boards → item b (batches_at (length m.boards) k (map (λ s. s.boards) begun)) ≡ batch_of k (map (λ s. s.boards) begun) b ∷ []
-own_item m k b begun h =
-    let sections : List (List (List Release)) = map (λ s. s.boards) begun in
-    let f : ℕ → Batch = λ i. record { turn = k; units = units_at i k sections; end = false } in
-    let e : 0 + b ≡ b = omega arith in
-    let At : ℕ → Type 0 = λ i. item b (map f (range_with_len 0 (length m.boards))) ≡ f i ∷ [] in
-    subst At e (item_at f 0 (length m.boards) b h)
+own_item m k b begun h = search (rules, item, range_with_len, item_at)
 
 pub first_same : (x y : Batch) (xs ys : List Batch) → x ∷ xs ≡ y ∷ ys → (x ≡ y) × (xs ≡ ys)
 first_same x y xs ys e = (cc, cc)

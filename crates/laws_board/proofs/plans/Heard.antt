@@ -1,5 +1,5 @@
 -- The turns whose words a planner heard.
-use Rattle.std.proofs.Common.{◌≡◌, ℕ, ◌+◌, ◌≤◌, List, [], ◌∷◌, ◌++◌, length, Option, ap, sym, ◌∙◌, subst, arith, inl, inr, append_assoc, append-nil, length-append}
+use Rattle.std.proofs.Common.{◌≡◌, ℕ, ◌+◌, ◌≤◌, List, [], ◌∷◌, ◌++◌, length, Option, ap, sym, ◌∙◌, subst, arith, inl, inr, append_assoc, append-nil, length-append, rules}
 use Rattle.laws_board.proofs.Names.{Machine, Started, Told, MotionTurn}
 use Rattle.laws_board.specs.plans.Answers.{TookNoneAhead}
 use Rattle.laws_board.specs.plans.Planned.{Plans, StopsAt, words_in}
@@ -34,9 +34,4 @@ heard_all m n ts p = by_stops ts p.made p.bare p.last p.seen.told p.seen.begun p
 
 -- they are those that it made, and one more at most
 pub heard_few : (m : Machine) (n : ℕ) (ts : List MotionTurn) (p : Plans m n ts) → length (p.made ++ p.last) ≤ length p.made + 1
-heard_few m n ts p = by p.bare p.stops
-  where
-    by : (bare : List MotionTurn) → StopsAt (0 + length p.made) (0 + length (words_in p.made)) p.seen.told p.seen.begun bare p.last → length (p.made ++ p.last) ≤ length p.made + 1
-    by [] none = let e = ap length none in omega (arith, length-append p.made p.last, e)
-    by (t ∷ bare) (inl dead) = let e = ap length dead.1 in omega (arith, length-append p.made p.last, e)
-    by (t ∷ bare) (inr unread) = let e = ap length unread.1 in omega (arith, length-append p.made p.last, e)
+heard_few m n ts p = search (rules, length-append)

@@ -1,5 +1,5 @@
 -- The clock lines of a board that a planner was told.
-use Rattle.std.proofs.Common.{◌≡◌, ℕ, zero, suc, ◌+◌, ◌^◌, ◌<◌, List, [], ◌∷◌, length, set, get_or, Option, None, Some, refl, sym, ◌∙◌, subst, arith}
+use Rattle.std.proofs.Common.{◌≡◌, ℕ, zero, suc, ◌+◌, ◌^◌, ◌<◌, List, [], ◌∷◌, length, set, get_or, Option, None, Some, refl, sym, ◌∙◌, subst, arith, rules}
 use Rattle.laws_board.proofs.Names.{Machine, Line, Clocks, clocks_at, AreKept, NoteNews, Told, MotionTurn}
 use Rattle.plan_types.specs.Lines.{last_from}
 use Rattle.clock_line.specs.Kept.{added}
@@ -36,13 +36,4 @@ range_of m k [] o h all = h
 range_of m k (t ∷ ts) o h all = range_of m (k + 1) ts (told_on t.note.news (connecting_heard m k t.words o)) (range_on m t.note.news (connecting_heard m k t.words o) all.0) all.1
 
 pub lines_last : (m : Machine) (n : ℕ) (ts : List MotionTurn) (p : Plans m n ts) (t : Told) (b : ℕ) → p.seen.told ≡ Some t → b < length m.boards → AreLasting t.clocks b
-lines_last m n ts p t b told small =
-    let known = subst (AreKnown m) told p.known in
-    let count = known.0.count in
-    let range = subst (BeginInRange m) (sym p.told_is ∙ told) (range_of m 0 p.made None tt p.in_range) in
-    let early = range b small in
-    record {
-      inside = omega (arith, count, small);
-      kept = known.1 b small early;
-      soon = (known.0.lasting b small early).soon;
-    }
+lines_last m n ts p t b told small = search (rules, range_of)

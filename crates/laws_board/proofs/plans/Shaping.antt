@@ -1,5 +1,5 @@
 -- What stands in the lines of a turn of the reactor beside sections and pulses.
-use Rattle.std.proofs.Common.{◌≡◌, ℕ, ◌+◌, Bool, true, false, List, [], ◌∷◌, ◌++◌, Option, Some, None, refl, sym, ◌∙◌, append_assoc, append-nil}
+use Rattle.std.proofs.Common.{◌≡◌, ℕ, ◌+◌, Bool, true, false, List, [], ◌∷◌, ◌++◌, Option, Some, None, refl, sym, ◌∙◌, append_assoc, append-nil, rules}
 use Rattle.std.specs.Prelude.{if◌then◌else◌}
 use Rattle.laws_board.proofs.Names.{Cause, AxisDef, Machine, Line, ReadStop, axis_at, Note, State, ReportLine, Switch, Asking, listen_all, ready_all, giving_up, all_connected, stale, HomingTurn, homing_turn, Known, Phase, Connecting, Stopping, noted, news_of, is_out, Reacted, by_phase, cut_line, reacts, unless_ended, unless_stale, first_lines, first_cause, stop_of}
 use Rattle.plan_types.specs.declared.plan.ReadStop.TheVariants as read
@@ -44,11 +44,7 @@ plain_boards k b [] = tt
 plain_boards k b (l ∷ ls) = (tt, plain_boards k (b + 1) ls)
 
 connecting : (o : Option Cause) (m : Machine) (r : Known) (k : ℕ) (lines : List ReportLine) (askings : List Asking) → Shaped lines r (unless_given_up o m r k lines askings)
-connecting (Some cause) m r k lines askings = ended m r k lines cause
-connecting None m r k lines askings =
-    one_of (all_connected askings) lines r (is_connected_now m r k lines askings) (asks_boards m r k lines askings)
-    (record { extra = connected_lines k 0 (board_lines m 0 askings); are = refl; plain = plain_boards k 0 (board_lines m 0 askings); begun = refl })
-    (record { extra = []; are = sym (append-nil lines); plain = tt; begun = refl })
+connecting o m r k lines askings = search (rules, ended, one_of, all_connected, plain_boards, append-nil)
 
 plain_count : (o : Option Reading) → ArePlain (count_lines o)
 plain_count None = tt
@@ -62,17 +58,11 @@ goes_on : (m : Machine) (r : Known) (k : ℕ) (lines cut : List ReportLine) (ask
 goes_on m r k lines cut askings turn stop p = record { extra = cut; are = refl; plain = p; begun = refl }
 
 finishing : (s : ReadStop) (m : Machine) (r : Known) (k : ℕ) (lines cut : List ReportLine) (askings : List Asking) (turn : HomingTurn) → ArePlain cut → Shaped lines r (finishes s m r k (lines ++ cut) askings turn)
-finishing (read.Stop line) m r k lines cut askings turn p = goes_on m r k lines cut askings turn (Some line) p
-finishing read.End m r k lines cut askings turn p = record { extra = cut ++ count_lines r.reading; are = append_assoc lines cut (count_lines r.reading); plain = plain_append cut (count_lines r.reading) p (plain_count r.reading); begun = refl }
-finishing (read.Refused line kind) m r k lines cut askings turn p =
-    record { extra = cut ++ count_lines r.reading; are = append_assoc lines cut (count_lines r.reading); plain = plain_append cut (count_lines r.reading) p (plain_count r.reading); begun = refl }
+finishing s m r k lines cut askings turn p8 = search (rules, goes_on, append_assoc, plain_append, plain_count)
 
 homing : (o : Option Cause) (m : Machine) (r : Known) (k : ℕ) (states : List State) (lines cut : List ReportLine) (askings : List Asking) (turn : HomingTurn) → ArePlain cut
     → Shaped lines r (unless_homing_ends o m r k states lines cut askings turn)
-homing (Some cause) m r k states lines cut askings turn p = ended m r k lines cause
-homing None m r k states lines cut askings turn p =
-    one_of (is_finished r k states) lines r (finishes (stop_of r.reading) m r k (lines ++ cut) askings turn) (carries_on m r k (lines ++ cut) askings turn None)
-    (finishing (stop_of r.reading) m r k lines cut askings turn p) (goes_on m r k lines cut askings turn None p)
+homing o m r k states lines cut askings turn p9 = search (rules, ended, one_of, stop_of, finishing, goes_on)
 
 as_known : (lines : List ReportLine) (r s : Known) (x : Reacted) → s.begun ≡ r.begun → Shaped lines s x → Shaped lines r x
 as_known lines r s x e h = record { extra = h.extra; are = h.are; plain = h.plain; begun = h.begun ∙ e }
@@ -91,13 +81,7 @@ stopping (Some cause) m r k lines line = ended m r k lines cause
 stopping None m r k lines line = record { extra = count_lines r.reading; are = refl; plain = plain_count r.reading; begun = refl }
 
 phases : (p : Phase) (m : Machine) (switches : List Switch) (r : Known) (k : ℕ) (states : List State) (lines : List ReportLine) → Shaped lines r (by_phase p m switches r k states lines)
-phases Connecting m switches r k states lines =
-    let askings = ready_all m 0 (listen_all r.askings.items states) in
-    connecting (giving_up k 0 askings) m r k lines askings
-phases Running m switches r k states lines =
-    let askings = listen_all r.askings.items states in
-    running (stale k 0 askings) m switches r k states lines askings
-phases (Stopping line) m switches r k states lines = stopping (stale k 0 (listen_all r.askings.items states)) m r k lines line
+phases p m switches r k states lines = search (rules, ready_all, listen_all, connecting, giving_up, running, stale, stopping)
 
 unless : (o : Option Cause) (m : Machine) (switches : List Switch) (r : Known) (k : ℕ) (states : List State) (lines : List ReportLine) → Shaped lines r (unless_ended o m switches r k states lines)
 unless (Some cause) m switches r k states lines = ended m r k lines cause

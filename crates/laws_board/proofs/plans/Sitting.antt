@@ -1,5 +1,5 @@
 -- Units of a stepper have steps; and an object id that has a plan on a board is that of a stepper of the board.
-use Rattle.std.proofs.Common.{◌≡◌, ◌≢◌, ℕ, zero, suc, ◌+◌, ◌<◌, ◌≤◌, Bool, true, false, cond, List, [], ◌∷◌, ◌++◌, get_or, map, take, length, refl, ap, sym, ◌∙◌, arith, inl, inr}
+use Rattle.std.proofs.Common.{◌≡◌, ◌≢◌, ℕ, zero, suc, ◌+◌, ◌<◌, ◌≤◌, Bool, true, false, cond, List, [], ◌∷◌, ◌++◌, get_or, map, take, length, refl, ap, sym, ◌∙◌, arith, inl, inr, rules}
 use Rattle.std.specs.Prelude.{◌==◌}
 use Rattle.laws_board.proofs.Names.{eqb_tells, Planned, Pulse, Clocks, StepUnit}
 use Rattle.plan_types.specs.Plan.{pulse_of}
@@ -17,12 +17,7 @@ some_steps oid up [] more h = absurd (omega (arith, h))
 some_steps oid up (t ∷ ticks) more h = omega arith
 
 pub have_steps : (homing : Bool) (oid : ℕ) (clocks : Clocks) (base : ℕ) (us : List StepUnit) → AreBegunBy homing clocks base us → us ≢ [] → 0 < length (steps_said oid false us)
-have_steps homing oid clocks base [] h n = absurd (n refl)
-have_steps homing oid clocks base (u ∷ us) h n =
-    let of = h.2.expands.ticks_of in
-    let count = of.number in
-    let some = of.some in
-    some_steps oid (dir_after false u.up) (ticks_meant u) (steps_said oid (dir_after false u.up) us) (omega arith)
+have_steps homing oid clocks base us p5 p6 = search (rules, some_steps)
 
 -- the stepper of a number on a board
 pub place_on : (b : ℕ) (ss : List StepperDef) (o : ℕ) → o < count_on b ss → (j : ℕ) × (j < length ss) × ((get_or ss j no_stepper).board ≡ b) × (count_on b (take j ss) ≡ o)

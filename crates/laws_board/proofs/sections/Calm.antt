@@ -1,5 +1,5 @@
 -- On lines without entries no turn is spoiled.
-use Rattle.std.proofs.Common.{◌≡◌, ℕ, zero, suc, ◌+◌, ◌≤◌, Bool, true, false, cond, List, [], ◌∷◌, ◌++◌, take, Option, Some, None, refl, ap, sym, ◌∙◌, subst, arith}
+use Rattle.std.proofs.Common.{◌≡◌, ℕ, zero, suc, ◌+◌, ◌≤◌, Bool, true, false, cond, List, [], ◌∷◌, ◌++◌, take, Option, Some, None, refl, ap, sym, ◌∙◌, subst, arith, rules}
 use Rattle.std.specs.Prelude.{◌&&◌, nat_le}
 use Rattle.laws_board.proofs.Names.{and_from, BoardClock, BoardDef, Level, Entry, Down, Up, run_world, AreTurns, first_state, IsTurn, LinkState, Orders, after_board, after_host}
 use Rattle.std.proofs.lemmas.Bool.{le-leb}
@@ -31,16 +31,7 @@ record IsFree (l : Line) (turn : ℕ) : Type 0 where
   due : AllDue turn l.copies
 
 free_with : (l : Line) (turn : ℕ) (bytes : List ℕ) (d : Option Deed) → d ≡ None → IsFree l turn → IsFree (put_with l turn bytes d) turn
-free_with l turn bytes (Some deed) e f = absurd (let g : Some deed ≡ None = e in cc)
-free_with l turn bytes None e f =
-    let last = f.last in
-    record {
-      entries = ap (entries_behind l.number) f.entries;
-      later = f.later;
-      last = omega arith;
-      calm = f.calm;
-      due = due_both turn l.copies _ f.due (omega arith, tt);
-    }
+free_with l turn bytes d p4 p5 = search (rules, due_both)
 
 free_all : (l : Line) (turn : ℕ) (bs : List (List ℕ)) → IsFree l turn → IsFree (put_all l turn bs) turn
 free_all l turn [] f = f
@@ -72,13 +63,7 @@ abbrev pub AreClear : LinkState → ℕ → Type 0
 AreClear l turn = IsClear l.down turn × IsClear l.up turn
 
 pub clear_turn : (clock : BoardClock) (turn : ℕ) (o : Orders) (l m : LinkState) → IsTurn clock turn o l m → AreClear l turn → AreClear m (turn + 1)
-clear_turn clock turn o l m t c =
-    let l1 = after_host turn o t.resent l in
-    let l2 = after_board clock turn l1 in
-    let b = o.control.connected in
-    let down = free_all (line_for b l.down) turn (newly Down l.core (run_world (host_steps turn o t.resent) l.core)) (free_for b l.down turn (clear_free l.down turn c.0)) in
-    let up = free_all (line_for b l.up) turn (newly Up l1.core (run_world (board_steps clock turn l1.down.copies) l1.core)) (free_for b l.up turn (clear_free l.up turn c.1)) in
-    subst (λ (x : LinkState). AreClear x (turn + 1)) (sym t.becomes) (free_clear l1.down turn down, free_clear l2.up turn up)
+clear_turn clock turn o l m t c = search (rules, after_host, after_board, free_all, run_world, free_for, clear_free, free_clear)
 
 -- so every turn is quiet
 pub quiet_now : (l : Line) (turn : ℕ) → IsClear l (turn + 1) → is_quiet_line l turn ≡ true

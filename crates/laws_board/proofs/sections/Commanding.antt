@@ -1,5 +1,5 @@
 -- A board takes good commands, those of triggers among them, one behind the other.
-use Rattle.std.proofs.Common.{◌≡◌, ℕ, Bool, true, false, cond, ◌≤◌, ◌==◌, ◌⊎◌, List, [], ◌∷◌, ◌++◌, Option, Some, refl, ap, sym, ◌∙◌, subst, arith, inl, inr, append-nil}
+use Rattle.std.proofs.Common.{◌≡◌, ℕ, Bool, true, false, cond, ◌≤◌, ◌==◌, ◌⊎◌, List, [], ◌∷◌, ◌++◌, Option, Some, refl, ap, sym, ◌∙◌, subst, arith, inl, inr, append-nil, rules}
 use Rattle.laws_board.proofs.Names.{eq-eqb, BoardState, Running, Pulse, Cmd, Controller, is_shut, Rig, acts_running, takes, takes_all, Meant, commands_of}
 use Rattle.msg_code.specs.declared.cmd.Cmd.TheVariants as cmd
 use Rattle.board_sim.specs.Board.{stepper_at, acts, command_request}
@@ -41,14 +41,7 @@ either (cmd.EndstopHome oid clock sample count rest value other reason) = inl tt
 either c = inr tt
 
 rig_acts : (r : Rig) (c : Cmd) → r.controller.state ≡ Running → IsOther c → (rig.acts r c).rig.controller ≡ (acts r.controller c).board
-rig_acts r (cmd.ConfigTrsync oid) e i = absurd i
-rig_acts r (cmd.TrsyncStart oid clock every reason) e i = absurd i
-rig_acts r (cmd.TrsyncSetTimeout oid clock) e i = absurd i
-rig_acts r (cmd.TrsyncTrigger oid reason) e i = absurd i
-rig_acts r (cmd.StepperStopOnTrigger oid other) e i = absurd i
-rig_acts r (cmd.ConfigEndstop oid pin pull) e i = absurd i
-rig_acts r (cmd.EndstopHome oid clock sample count rest value other reason) e i = absurd i
-rig_acts r c e i = board_acts r.controller c e
+rig_acts r c p2 p3 = search (rules, board_acts)
 
 takes_acts : (r : Rig) (c : Cmd) → r.controller.state ≡ Running → IsOther c → (takes r c).rig.controller ≡ (acts r.controller c).board
 takes_acts r c e i = ap (λ o. (acts_running o r c).rig.controller) e ∙ rig_acts r c e i
@@ -84,11 +77,7 @@ acts_stand own stops slots by queued turn cs r _ ticks f h k good timely time fi
 -- a board that halts steppers at most
 moves_stand : (own : ℕ → ℕ) (stops : ℕ → Option ℕ) (slots by turn : ℕ) (cs : ℕ → Course) (b c : Controller) → BoardStands own stops slots by turn cs b → BoardMoves b c [] → c.tick ≡ b.tick
     → StandsOn own stops slots by turn cs cs b c
-moves_stand own stops slots by turn cs b c f m same =
-    inl (
-      board_moved own stops slots by turn cs b c [] f m same,
-      λ oid ms k. rw append-nil at (made_moved own stops oid b.tick c.tick (stepper_at b oid) (stepper_at c oid) (cs oid) ms [] k (m.each oid) (stop_none own stops (cs oid).since)),
-    )
+moves_stand own stops slots by turn cs b c f m same = search (rules, board_moved, append-nil, made_moved, stop_none)
 
 -- a command of triggers means no steps
 trigger_next : (queued : ℕ) (cs : ℕ → Course) (c : Cmd) (ticks : List ℕ) → IsOfTriggers c → (oid : ℕ) → next_of queued cs c ticks oid ≡ cs oid
@@ -123,10 +112,7 @@ stands_same own stops slots by turn cs ds b e f = record {
 }
 
 on_same : (own : ℕ → ℕ) (stops : ℕ → Option ℕ) (slots by turn : ℕ) (cs ds : ℕ → Course) (b c : Controller) → ((oid : ℕ) → ds oid ≡ cs oid) → StandsOn own stops slots by turn cs cs b c → StandsOn own stops slots by turn cs ds b c
-on_same own stops slots by turn cs ds b c e s = elim s [
-  | inl x ↦ inl (stands_same own stops slots by turn cs ds c e x.0, λ oid m k. rw (e oid) (x.1 oid m k))
-  | inr x ↦ inr x
-]
+on_same own stops slots by turn cs ds b c e s = search (rules, stands_same)
 
 abbrev OneStands : (ℕ → ℕ) → (ℕ → Option ℕ) → ℕ → ℕ → ℕ → ℕ → (ℕ → Course) → Rig → Cmd → List ℕ → Type 0
 OneStands own stops slots by queued turn cs r c ticks =
@@ -161,11 +147,7 @@ AllStand own stops slots by turn cs r ss =
 -- a part that is stopped behind a command was so before it, and the command sets no clock of its stepper
 set_since : (t : Bool) (stops : ℕ → Option ℕ) (by queued oid other clock : ℕ) (c : Course) → (other == oid) ≡ t → (IsStopped stops by (Some queued) → ⊥) → IsStopped stops by (cond t (next_part queued clock c) c).since
     → IsStopped stops by c.since × (other ≡ oid → ⊥)
-set_since true stops by queued oid other clock c e time st = absurd (time st)
-set_since false stops by queued oid other clock c e time st = (st, λ same. clash (other == oid) (eq-eqb other oid same) e)
-  where
-    clash : (x : Bool) → x ≡ true → x ≡ false → ⊥
-    clash x e f = cc
+set_since t stops by queued oid other clock c p8 p9 p10 = search (rules, eq-eqb)
 
 since_one : (stops : ℕ → Option ℕ) (by queued oid : ℕ) (c : Course) (m : Cmd) (ticks : List ℕ) → IsInTime stops by queued m → IsStopped stops by (course_of oid queued c m ticks).since → IsStopped stops by c.since × SetsNot oid m
 since_one stops by queued oid c (cmd.ResetStepClock other clock) ticks time st = set_since (other == oid) stops by queued oid other clock c refl time st

@@ -1,5 +1,5 @@
 -- Counting triples that have steps at or after a tick.
-use Rattle.std.proofs.Common.{◌≡◌, ℕ, suc, ◌+◌, ◌<◌, ◌≤◌, List, [], ◌∷◌, ◌++◌, length, refl, ap, sym, ◌∙◌, arith, inl, inr, append-nil}
+use Rattle.std.proofs.Common.{◌≡◌, ℕ, suc, ◌+◌, ◌<◌, ◌≤◌, List, [], ◌∷◌, ◌++◌, length, refl, ap, sym, ◌∙◌, arith, inl, inr, append-nil, rules}
 use Rattle.laws_board.proofs.Names.{leb_tells}
 use Rattle.std.specs.Prelude.{Bool}
 use Rattle.plan_types.specs.Numbers.{UpFrom}
@@ -16,11 +16,7 @@ ends_from x [] = 0
 ends_from x (g ∷ gs) = one_from x (last_of 0 g.ticks) + ends_from x gs
 
 pub one_falls : (x y e : ℕ) → x ≤ y → one_from y e ≤ one_from x e
-one_falls x y e h =
-    elim (leb_tells y e) [
-      | inl p ↦ omega (arith, one-behind y e p.1, one-behind x e (omega (arith, p.1, h)))
-      | inr p ↦ omega (arith, one-before y e (omega (arith, p.1)))
-    ]
+one_falls x y e h = search (rules, leb_tells, one-behind, one-before)
 
 pub counts_fall : (x y : ℕ) (es : List ℕ) → x ≤ y → count_from y es ≤ count_from x es
 counts_fall x y [] h = omega arith

@@ -1,5 +1,5 @@
 -- Turns keep what steps keep, and the pulses of a turn lie within it.
-use Rattle.std.proofs.Common.{◌≡◌, ℕ, ◌+◌, ◌≤◌, ◌⊎◌, List, [], ◌∷◌, ◌++◌, length, map, Option, Some, None, refl, ap, sym, ◌∙◌, subst, arith, inl, inr, append_assoc, append-nil}
+use Rattle.std.proofs.Common.{◌≡◌, ℕ, ◌+◌, ◌≤◌, ◌⊎◌, List, [], ◌∷◌, ◌++◌, length, map, Option, Some, None, refl, ap, sym, ◌∙◌, subst, arith, inl, inr, append_assoc, append-nil, rules}
 use Rattle.laws_board.proofs.Names.{Level, BoardDef, Pulse, Cmd, is_shut, only, plain, units_orders, Core, Step, Do, Turn, does, after_event, world_after, run_world, new_world, Orders, queued_in, run_append}
 use Rattle.msg_code.specs.declared.cmd.Cmd.TheVariants as cmd
 use Rattle.board_sim.specs.Board.{new_controller, stepper_at}
@@ -33,17 +33,7 @@ PlaceMoves p turn h oid =
 -- time passes on a board that runs
 going_moves : (p : Script) (turn : ℕ) (sent : List Sent) (h : Core) → Keeps p turn turn sent h → (r : Going p turn turn sent h) → (after_event h (Pass (p.own (turn + 1)))).board.controller.tick ≡ p.own (turn + 1)
     → BoardMoves h.board.controller (after_event h (Pass (p.own (turn + 1)))).board.controller (does h (Pass (p.own (turn + 1)))).pulses × ((oid : ℕ) → PlaceMoves p turn h oid)
-going_moves p turn sent h k r tick =
-    let t = p.own (turn + 1) in
-    let m = passes_move h.board t h.made k.kept.kept r.stands.running k.kept.is in
-    let ps = (does h (Pass t)).pulses in
-    let q = after_event h (Pass t) in (
-      m,
-      λ oid.
-          let From : ℕ → Type 0 = λ n. SlotMoves oid n q.board.controller.tick (stepper_at h.board.controller oid) (stepper_at q.board.controller oid) (only oid ps) in
-          let To : ℕ → Type 0 = λ n. SlotMoves oid (p.own turn) n (stepper_at h.board.controller oid) (stepper_at q.board.controller oid) (only oid ps) in
-          subst To tick (subst From k.tick (m.each oid)),
-    )
+going_moves p turn sent h k r tick = search (rules, passes_move, does, after_event, only)
 
 going_passes : (p : Script) (turn : ℕ) (sent : List Sent) (h : Core) → Keeps p turn turn sent h → Going p turn turn sent h → (after_event h (Pass (p.own (turn + 1)))).board.controller.tick ≡ p.own (turn + 1)
     → Going p turn (turn + 1) sent (after_event h (Pass (p.own (turn + 1)))) × ((oid : ℕ) → AreBetween (p.own turn) (p.own (turn + 1)) (only oid (does h (Pass (p.own (turn + 1)))).pulses))

@@ -1,5 +1,5 @@
 -- What the laws say of a run.
-use Rattle.std.proofs.Common.{◌≡◌, ◌+◌, ◌-◌, List, [], ◌++◌, length, take, ap, sym, ◌∙◌, arith, append-nil}
+use Rattle.std.proofs.Common.{◌≡◌, ◌+◌, ◌-◌, List, [], ◌++◌, length, take, ap, sym, ◌∙◌, arith, append-nil, rules}
 use Rattle.laws_board.proofs.Names.{length-map, flat_map, Level, BoardDef, Step, run_world, new_world}
 use Rattle.std.proofs.lemmas.List.{take_all}
 use Rattle.board_world.specs.World.{on_wire}
@@ -8,10 +8,7 @@ use Rattle.link_core.specs.Core.{Link, queued, sent, InStep}
 
 -- An idle link.
 all_taken : (l : Link) → InStep l → l.waiting ≡ [] → l.acked ≡ sent l → l.taken ≡ queued l
-all_taken l s none idle =
-    let all : l.accepted ≡ length l.blocks = omega (arith, s.acked_accepted, s.accepted_sent, idle) in
-    s.each_once ∙ ap (λ n. flat_map (λ cs. cs) (take n l.blocks)) all ∙ ap (flat_map (λ cs. cs)) (take_all (length l.blocks) l.blocks (omega arith))
-    ∙ sym (ap (λ w. flat_map (λ cs. cs) l.blocks ++ w) none ∙ append-nil (flat_map (λ cs. cs) l.blocks))
+all_taken l s none idle = search (rules, flat_map, take_all, append-nil)
 
 pub idle_took : (b : BoardDef) (pins : List (List Level)) (steps : List Step) → (run_world steps (new_world b pins)).link.waiting ≡ [] → (run_world steps (new_world b pins)).link.acked ≡ sent (run_world steps (new_world b pins)).link
     → (run_world steps (new_world b pins)).taken ≡ (run_world steps (new_world b pins)).queued

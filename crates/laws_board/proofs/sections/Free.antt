@@ -1,5 +1,5 @@
 -- A board of which no trigger has a stepper bound: its triggers leave the steppers alone.
-use Rattle.std.proofs.Common.{◌≡◌, ℕ, Bool, true, false, ◌&&◌, not, List, [], ◌∷◌, Option, Some, None, refl, ap, ◌∙◌, inl, inr}
+use Rattle.std.proofs.Common.{◌≡◌, ℕ, Bool, true, false, ◌&&◌, not, List, [], ◌∷◌, Option, Some, None, refl, ap, ◌∙◌, inl, inr, rules}
 use Rattle.std.specs.Prelude.{slice_index_or}
 use Rattle.laws_board.proofs.Names.{eqb_tells, Running, Trigger, Cmd, Controller, Rig, Slot, slot_at, becomes, expires_at_once, set_timeout, happens_to, acts, acts_running, takes}
 use Rattle.board_trig.specs.declared.sampling.Homing.{Homing}
@@ -46,10 +46,7 @@ expires_same None r oid s t free at = becomes_same r oid s t free at
 expires_same (Some n) r oid s t free at = becomes_same r oid s (record t { untold = None }) free at
 
 timeout_same : (r : Rig) (oid : ℕ) (o : Option Slot) (clock : ℕ) → IsFree r → slot_at r oid ≡ o → (set_timeout r oid o clock).rig.controller ≡ r.controller
-timeout_same r oid None clock free at = refl
-timeout_same r oid (Some s) clock free at =
-    let t = trig.with_timeout r.controller.tick clock s.trigger in
-    expires_same t.untold r oid s t free at
+timeout_same r oid o clock p4 p5 = search (rules, expires_same)
 
 trigger_same : (r : Rig) (oid : ℕ) (o : Option Slot) (reason : ℕ) → IsFree r → slot_at r oid ≡ o → (trigger r oid o reason).rig.controller ≡ r.controller
 trigger_same r oid None reason free at = refl

@@ -1,6 +1,6 @@
 -- In a run in which axes home, a board takes all its units in time for the 32-bit clock, as long as it runs, where few turns of each busy
 -- stretch are spoiled.
-use Rattle.std.proofs.Common.{◌≡◌, ℕ, suc, true, ◌+◌, ◌^◌, ◌<◌, ◌≤◌, ◌⊎◌, List, [], ◌∷◌, ◌++◌, length, map, take, drop, Option, refl, ap, sym, ◌∙◌, subst, arith, inl, inr, append_assoc, append-nil, length-append}
+use Rattle.std.proofs.Common.{◌≡◌, ℕ, suc, true, ◌+◌, ◌^◌, ◌<◌, ◌≤◌, ◌⊎◌, List, [], ◌∷◌, ◌++◌, length, map, take, drop, Option, refl, ap, sym, ◌∙◌, subst, arith, inl, inr, append_assoc, append-nil, length-append, rules}
 use Rattle.laws_board.proofs.Names.{leb_tells, flat_map-append, append_cancel_left, take-append-drop, flat_map, Level, BoardDef, BoardState, Running, clock_of, Clocks, is_shut, Meant, Core, Step, Do, Turn, world_after, run_world, new_world, Entry, AreTurns, queued_in, first_state, LinkState, Orders}
 use Rattle.std.proofs.lemmas.List.{length-take-le}
 use Rattle.link_work.specs.Ends.{spoiled}
@@ -114,16 +114,7 @@ record IsWalked (os : List Orders) (front : List Sent) : Type 0 where
   full : count < length os → length front < length (flat_map queued_in (take count os))
 
 walked : (os : List Orders) (front tail : List Sent) → ((k : ℕ) → k ≤ length os → k ≤ lost_at (length os) tail + 1 → AreFew (take k os)) → sent_in 0 os ≡ front ++ tail → IsWalked os front
-walked os front [] few is = record { count = length os; short = omega arith; few = few (length os) (omega arith) (omega arith); full = λ h. absurd (omega (arith, h)) }
-walked os front (t ∷ tail) few is = elim (leb_tells (suc t.turn) (length os)) [
-  | inl p ↦ record {
-    count = suc t.turn;
-    short = p.1;
-    few = few (suc t.turn) p.1 (omega arith);
-    full = λ h. reach_more (suc t.turn) os front (t ∷ tail) is h (omega arith);
-  }
-  | inr p ↦ record { count = length os; short = omega arith; few = few (length os) (omega arith) (omega (arith, p.1)); full = λ h. absurd (omega (arith, h)) }
-]
+walked os front tail p3 p4 = search (rules, leb_tells, reach_more)
 
 -- a whole run
 pub home_timely : (b : BoardDef) (pins : List (List Level)) (board : ℕ) (entries : List Entry) (own : ℕ → ℕ) (clocks : Clocks) (ready n m turns : ℕ) (stops : ℕ → Option ℕ) (ss : List RunSection) (os : List Orders) (l : LinkState)

@@ -1,5 +1,5 @@
 -- The sections of a run, of moves or homing, one behind the other: what is queued for a stepper is good, and its parts are those of the sections.
-use Rattle.std.proofs.Common.{◌≡◌, ◌≢◌, ℕ, zero, suc, Bool, true, false, ◌+◌, ◌-◌, ◌≤◌, ◌⊎◌, List, [], ◌∷◌, ◌++◌, All, length, map, Option, Some, refl, ap, sym, ◌∙◌, subst, arith, inl, inr, append_assoc, append-nil, ◌<◌, drop}
+use Rattle.std.proofs.Common.{◌≡◌, ◌≢◌, ℕ, zero, suc, Bool, true, false, ◌+◌, ◌-◌, ◌≤◌, ◌⊎◌, List, [], ◌∷◌, ◌++◌, All, length, map, Option, Some, refl, ap, sym, ◌∙◌, subst, arith, inl, inr, append_assoc, append-nil, ◌<◌, drop, rules}
 use Rattle.laws_board.proofs.Names.{eqb_tells, All-nil, All-cons, All-head, All-tail, flat_map, Pulse, Clocks, Cmd, StepUnit, Release, batch_at, AreBefore, BoardSection, section_steps, Orders, plain, units_orders, queued_in}
 use Rattle.msg_code.specs.declared.cmd.Cmd.TheVariants as cmd
 use Rattle.section_units.specs.Sections.{steps_said}
@@ -87,19 +87,7 @@ split_until ss (suc m) turn (o ∷ os) = ahead (sent_at turn (queued_in o)) (spl
 -- good commands ahead of others
 pub ahead_sound : (own : ℕ → ℕ) (stops : ℕ → Option ℕ) (slots oid : ℕ) (c0 c d : Course) (first sent : List Sent) (ss : List RunSection) → AreGoodOn own stops slots oid c first → course_from oid c first ≡ d
     → (z : Split) → Sound own stops slots oid c0 d sent z ss → Sound own stops slots oid c0 c (first ++ sent) (ahead first z) ss
-ahead_sound own stops slots oid c0 c d first sent ss good is z x =
-    let At : Course → Type 0 = λ y. AreGoodOn own stops slots oid y z.front in
-    let same : course_from oid c (first ++ z.front) ≡ course_from oid d z.front = course_append oid c first z.front ∙ ap (λ y. course_from oid y z.front) is in
-    let Lost : Course → Type 0 = λ y. LostOn own stops slots oid y z.tail in
-    let Made : List Pulse → Course → Type 0 = λ ps y. AreMadeFor own stops (course_parts y) ps in
-    record {
-      are = append_assoc first z.front z.tail ∙ ap (λ y. first ++ y) x.are;
-      good = good_on_append own stops slots oid c first z.front good (subst At (sym is) x.good);
-      lost = subst Lost (sym same) x.lost;
-      begun = (let Left : Course → Type 0 = λ y. LeftOn ss oid y.since z.tail in subst Left (sym same) x.begun);
-      fronts = λ ps k. x.fronts ps (subst (Made ps) same k);
-      whole = x.whole;
-    }
+ahead_sound own stops slots oid c0 c d first sent ss good is z x = search (rules, course_append, append_assoc, good_on_append)
 
 -- control commands and units, as they are queued turn by turn, of sections whose releases go on
 abbrev pub OrdersOn : Clocks → List RunSection → List BoardSection → ℕ → List Orders → Type 0

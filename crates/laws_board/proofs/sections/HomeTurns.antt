@@ -1,5 +1,5 @@
 -- A stepper in a section, of moves or homing, turn by turn.
-use Rattle.std.proofs.Common.{◌≡◌, ◌≢◌, ℕ, Bool, true, false, ◌+◌, ◌%◌, ◌^◌, ◌<◌, ◌≤◌, ◌⊎◌, List, [], ◌∷◌, ◌++◌, Option, Some, None, refl, ap, sym, ◌∙◌, subst, arith, inl, inr, append-nil}
+use Rattle.std.proofs.Common.{◌≡◌, ◌≢◌, ℕ, Bool, true, false, ◌+◌, ◌%◌, ◌^◌, ◌<◌, ◌≤◌, ◌⊎◌, List, [], ◌∷◌, ◌++◌, Option, Some, None, refl, ap, sym, ◌∙◌, subst, arith, inl, inr, append-nil, rules}
 use Rattle.laws_board.proofs.Names.{eqb_tells, Pulse, Clocks, unit_orders, units_orders, StepUnit, Release, batch_at, units_of, BoardSection, of_stepper, section_steps}
 use Rattle.step_feed.specs.Pacing.{ArePaced, pending}
 use Rattle.step_feed.specs.Rings.{count_from}
@@ -55,14 +55,7 @@ low_clock : (b : ℕ) → b % 2 ^ 32 ≤ b
 low_clock b = omega arith
 
 wrapped_unit : (clocks : Clocks) (b : ℕ) (u : StepUnit) → IsUnit clocks b u → IsUnit clocks (b % 2 ^ 32) u
-wrapped_unit clocks b u i = record {
-  expands = record { ticks_of = i.expands.ticks_of; behind = omega (arith, i.expands.behind, low_clock b); continues = omega (arith, i.expands.continues) };
-  rise = i.rise;
-  small = i.small;
-  first = i.first;
-  last = i.last;
-  due = i.due;
-}
+wrapped_unit clocks b u i = search (rules, low_clock)
 
 -- units behind a clock that a command has set
 chained_apart : (clocks : Clocks) (b : ℕ) (us : List StepUnit) → AreBegunBy true clocks b us → AreChained clocks (b % 2 ^ 32) us
@@ -76,29 +69,11 @@ no_list x xs e = cc
 pub begins_apart : (f : Frame) (stops : ℕ → Option ℕ) (oid : ℕ) (s : BoardSection) (c0 c : Course) (us : List StepUnit) (turn : ℕ) → AreBegunBy true f.clocks (base f) us → steps_said oid false us ≡ section_steps oid s
     → (us ≢ [] → c.known.made ≡ true) → stops turn ≡ Some s.end → ((ps : List Pulse) → AreMadeFor f.own stops (course_parts c) ps → AreMadeFor f.own stops (course_parts c0) ps)
     → Begun f stops oid true s c0 (next_part turn (base f % 2 ^ 32) c) [] us
-begins_apart f stops oid s c0 c us turn units all made stop past = record {
-  goes = record {
-    made = made;
-    chain = chained_apart f.clocks (base f) us units;
-    ends = refl;
-    said = said_told true f.clocks (base f) oid c.known.up false us units ∙ all;
-  };
-  turn = turn;
-  since = refl;
-  soon = λ e. absurd (true_false e);
-  stop = stop;
-  past = past;
-  again = λ _ _. (units, all, refl);
-}
+begins_apart f stops oid s c0 c us turn units all made stop past = search (rules, chained_apart, said_told, true_false)
 
 pub empty_part : (own : ℕ → ℕ) (stops : ℕ → Option ℕ) (since : Option ℕ) (steps : List Pulse) (past : List Part) (ps : List Pulse) → steps ≡ [] → AreMadeFor own stops (record { since = since; steps = steps } ∷ past) ps
     → AreMadeFor own stops past ps
-empty_part own stops since steps past ps none (early, late, is, old, begins, before) =
-    let (rest, same) = begins in
-    let nothing : late ≡ [] = no_front late rest (same ∙ none) in
-    let all : ps ≡ early = is ∙ ap (λ x. early ++ x) nothing ∙ append-nil early in
-    let At : List Pulse → Type 0 = λ x. AreMadeFor own stops past x in
-    subst At (sym all) old
+empty_part own stops since steps past ps none p7 = search (rules, no_front, append-nil)
 
 some_units : (u : StepUnit) (us : List StepUnit) → u ∷ us ≢ []
 some_units u us e = cc
@@ -168,16 +143,7 @@ one_and_more : (f : Frame) (stops : ℕ → Option ℕ) (oid : ℕ) (homes : Boo
     → AreGoodOn f.own stops f.slots oid c (sent_at turn (unit_orders r.unit)) → course_from oid c (sent_at turn (unit_orders r.unit)) ≡ next → TurnOn f stops oid homes s c0 Q turn next (r ∷ before) rs
     → AreGoodOn f.own stops f.slots oid c (sent_at turn (units_orders (r.unit ∷ batch_at turn rs)))
     × StageWith f stops oid homes s c0 Q (course_from oid c (sent_at turn (units_orders (r.unit ∷ batch_at turn rs)))) (lasts oid (pushed turn (r ∷ before) rs)) (of_stepper oid (units_of (after_turn turn rs)))
-one_and_more f stops oid homes s c0 Q turn c next r before rs good is rest =
-    let first = sent_at turn (unit_orders r.unit) in
-    let others = sent_at turn (units_orders (batch_at turn rs)) in
-    let split = sent_append turn (unit_orders r.unit) (units_orders (batch_at turn rs)) in
-    let At : List Sent → Type 0 = λ x. AreGoodOn f.own stops f.slots oid c x in
-    let On : Course → Type 0 = λ x. AreGoodOn f.own stops f.slots oid x others in
-    let last : course_from oid c (sent_at turn (units_orders (r.unit ∷ batch_at turn rs))) ≡ course_from oid next others =
-    ap (course_from oid c) split ∙ course_append oid c first others ∙ ap (λ x. course_from oid x others) is in
-    let Then : Course → Type 0 = λ x. StageWith f stops oid homes s c0 Q x (lasts oid (pushed turn (r ∷ before) rs)) (of_stepper oid (units_of (after_turn turn rs))) in
-    (subst At (sym split) (good_on_append f.own stops f.slots oid c first others good (subst On (sym is) rest.0)), subst Then (sym last) rest.1)
+one_and_more f stops oid homes s c0 Q turn c next r before rs good is rest = search (rules, unit_orders, units_orders, batch_at, sent_append, course_append, of_stepper, units_of, good_on_append)
 
 -- of another stepper nothing more is known
 stage_other : (f : Frame) (stops : ℕ → Option ℕ) (oid : ℕ) (homes : Bool) (s : BoardSection) (c0 : Course) (Q : List StepUnit → Type 0) (c : Course) (ls ms : List ℕ) (us : List StepUnit) → ms ≡ ls → StageWith f stops oid homes s c0 Q c ls us

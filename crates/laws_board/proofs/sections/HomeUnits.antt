@@ -1,5 +1,5 @@
 -- The commands of a unit, for a stepper whose steps go part by part.
-use Rattle.std.proofs.Common.{◌≡◌, ◌≢◌, ℕ, true, ◌+◌, ◌%◌, ◌^◌, ◌<◌, ◌≤◌, List, [], ◌∷◌, ◌++◌, length, map, Bool, Option, Some, None, refl, ap, sym, ◌∙◌, subst, arith, inr, append-nil}
+use Rattle.std.proofs.Common.{◌≡◌, ◌≢◌, ℕ, true, ◌+◌, ◌%◌, ◌^◌, ◌<◌, ◌≤◌, List, [], ◌∷◌, ◌++◌, length, map, Bool, Option, Some, None, refl, ap, sym, ◌∙◌, subst, arith, inr, append-nil, rules}
 use Rattle.laws_board.proofs.Names.{Pulse, Cmd, reset_commands, dir_commands, step_command, plain, unit_orders, StepUnit}
 use Rattle.plan_types.specs.Board.{last_of}
 use Rattle.msg_code.specs.declared.cmd.Cmd.TheVariants as cmd
@@ -71,10 +71,7 @@ clock_first turn u =
     ∙ ap (λ x. sent_at turn (map plain (reset_commands u.stepper u.reset)) ++ x) (sent_append turn (map plain (dir_commands u.stepper u.up)) (record { command = step_command u; ticks = ticks_meant u } ∷ []))
 
 pub unit_plain : (turn : ℕ) (u : StepUnit) → u.reset ≡ None → ArePlain (sent_at turn (unit_orders u))
-unit_plain turn u e =
-    let rest = dirs_of turn u ++ step_of turn u ∷ [] in
-    let is : sent_at turn (unit_orders u) ≡ rest = clock_first turn u ∙ ap (λ x. x ++ rest) (no_resets turn u.stepper u.reset e) in
-    subst ArePlain (sym is) (plain_dirs turn u.stepper u.up (step_of turn u ∷ []) (tt, tt))
+unit_plain turn u e = search (rules, unit_orders, clock_first, no_resets, plain_dirs)
 
 -- without its clock
 abbrev pub unclocked : StepUnit → StepUnit
@@ -103,22 +100,7 @@ dir_other own stops slots turn oid other c (Some up) ne = ((λ e. absurd (ne e),
 
 pub other_unit : (own : ℕ → ℕ) (stops : ℕ → Option ℕ) (slots turn oid : ℕ) (c : Course) (u : StepUnit) → u.stepper ≢ oid
     → AreGoodOn own stops slots oid c (sent_at turn (unit_orders u)) × (course_from oid c (sent_at turn (unit_orders u)) ≡ c)
-other_unit own stops slots turn oid c u ne =
-    let resets = sent_at turn (map plain (reset_commands u.stepper u.reset)) in
-    let dirs = dirs_of turn u in
-    let step = step_of turn u in
-    let a = one_other own stops slots turn oid u.stepper c u.reset ne in
-    let b = dir_other own stops slots turn oid u.stepper c u.up ne in
-    let is = clock_first turn u in
-    let last : course_from oid c (step ∷ []) ≡ c = ap (λ (k : Known). record c { known = k }) (at_others u.stepper oid _ c.known ne) in
-    let Good : List Sent → Type 0 = λ x. AreGoodOn own stops slots oid c x in
-    let From : Course → Type 0 = λ x. AreGoodOn own stops slots oid x (dirs ++ step ∷ []) in
-    let Then : Course → Type 0 = λ x. AreGoodOn own stops slots oid x (step ∷ []) in (
-      subst Good (sym is) (good_on_append own stops slots oid c resets (dirs ++ step ∷ []) a.0 (subst From (sym a.1)
-          (good_on_append own stops slots oid c dirs (step ∷ []) b.0 (subst Then (sym b.1) (λ e. absurd (ne e), tt))))),
-      ap (course_from oid c) is ∙ course_append oid c resets (dirs ++ step ∷ []) ∙ ap (λ x. course_from oid x (dirs ++ step ∷ [])) a.1
-          ∙ course_append oid c dirs (step ∷ []) ∙ ap (λ x. course_from oid x (step ∷ [])) b.1 ∙ last,
-    )
+other_unit own stops slots turn oid c u ne = search (rules, plain, reset_commands, one_other, dir_other, clock_first, at_others, good_on_append, course_append)
 
 -- a stepper that has begun its part in a section, and of which these units wait
 pub record Goes (f : Frame) (oid : ℕ) (total : List Pulse) (k : Known) (ls : List ℕ) (us : List StepUnit) : Type 0 where

@@ -1,5 +1,5 @@
 -- The units of a turn keep their limit.
-use Rattle.std.proofs.Common.{◌≡◌, ◌⊎◌, ℕ, suc, ◌+◌, ◌<◌, ◌≤◌, List, [], ◌∷◌, ◌++◌, All, length, map, refl, ap, ◌∙◌, subst, arith, inl, inr, append-nil, length-append}
+use Rattle.std.proofs.Common.{◌≡◌, ◌⊎◌, ℕ, suc, ◌+◌, ◌<◌, ◌≤◌, List, [], ◌∷◌, ◌++◌, All, length, map, refl, ap, ◌∙◌, subst, arith, inl, inr, append-nil, length-append, rules}
 use Rattle.laws_board.proofs.Names.{flat_map, eqb_tells, leb_tells, All-cons, All-head, All-nil, All-tail, Clocks, units_orders, StepUnit, Release, batch_at, AreBefore, BoardSection}
 use Rattle.std.specs.Prelude.{if◌then◌else◌}
 use Rattle.msg_code.specs.Units.{unit_text}
@@ -63,10 +63,7 @@ none_later clocks freq slots until e k (s ∷ ss) i row late =
 
 -- a section that is over gives none in a turn
 over_or_on : (k end : ℕ) (rs : List Release) → (end < k → AreBefore k rs) → (batch_at k rs ≡ []) ⊎ (k ≤ end)
-over_or_on k end rs b = elim (leb_tells (suc end) k) [
-  | inl p ↦ elim (gives k k rs (b (omega (arith, p.1)))) [ inl none ↦ inl none | inr l ↦ absurd (omega (arith, l)) ]
-  | inr p ↦ inr (omega (arith, p.1))
-]
+over_or_on k end rs b = search (rules, leb_tells, gives)
 
 -- where none is released behind its due turn, no two sections give units in one turn
 units_few : (clocks : Clocks) (freq slots until e k : ℕ) (ss : List BoardSection) → All (IsSection clocks freq slots) ss → AreInARow until e ss → All (λ s. s.end < k → AreBefore k s.releases) ss

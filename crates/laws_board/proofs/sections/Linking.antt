@@ -1,6 +1,6 @@
 -- A link's turns as steps.
 use Rattle.std.proofs.lemmas.Int.{ints}
-use Rattle.std.proofs.Common.{◌≡◌, ℕ, ℤ, zero, suc, pos, negsuc, Bool, ◌+◌, ◌*◌, ◌≤◌, ◌≤ℤ◌, List, [], ◌∷◌, ◌++◌, length, refl, ap, sym, ◌∙◌, subst, arith, append_assoc, append-nil, ◌≢◌, ◌⊎◌, inl, inr, true, false, ◌↔◌}
+use Rattle.std.proofs.Common.{◌≡◌, ℕ, ℤ, zero, suc, pos, negsuc, Bool, ◌+◌, ◌*◌, ◌≤◌, ◌≤ℤ◌, List, [], ◌∷◌, ◌++◌, length, refl, ap, sym, ◌∙◌, subst, arith, append_assoc, append-nil, ◌≢◌, ◌⊎◌, inl, inr, true, false, ◌↔◌, rules}
 use Rattle.laws_board.proofs.sections.Windows.{quiet_made}
 use Rattle.board_sim.proofs.RigShut.{passes_left}
 use Rattle.board_sim.proofs.RigStates.{passes_state}
@@ -58,12 +58,7 @@ one_turn clock turn o resent l =
 
 pub turn_runs : (clock : BoardClock) (turn : ℕ) (o : Orders) (resent : Bool) (l : LinkState)
     → (after_replies turn (after_board clock turn (after_host turn o resent l))).core ≡ run_world (steps_of_turn clock turn o resent l) l.core
-turn_runs clock turn o resent l =
-    let m = after_host turn o resent l in
-    let host = host_steps turn o resent in
-    let board = board_steps clock turn m.down.copies in
-    let up = come Up turn (after_board clock turn m).up.copies in
-    sym (run_append host (board ++ up) l.core ∙ run_append board up m.core)
+turn_runs clock turn o resent l = search (rules, after_host, come, after_board, run_append)
 
 unfoldable pub turns_are : (clock : BoardClock) (turn : ℕ) (os : List Orders) (l m : LinkState) (t : AreTurns clock turn os l m)
     → (m.core ≡ run_world (steps_of clock turn os l m t) l.core) × AreTurnsOf (board_tick clock) turn os (steps_of clock turn os l m t)
@@ -102,10 +97,7 @@ tick_few start freq k drift h e =
     omega (arith, more, most, rate_most drift e)
 
 pub valid_ticks : (b : BoardDef) → IsValidBoard b → AreTicks (board_tick (clock_of b))
-valid_ticks b v = record {
-  up = λ k. rise b.start b.freq k (k + 1) b.drift (omega arith);
-  most = λ k. omega (arith, tick_few b.start b.freq k b.drift v.freq.high v.drift_high);
-}
+valid_ticks b v = search (rules, rise, tick_few)
 
 pub own_ticks : (b : BoardDef) (turns : ℕ) → IsValidBoard b → AreOwn b turns (board_tick (clock_of b))
 own_ticks b turns v = record { ticks = valid_ticks b v; few = λ k. tick_few b.start b.freq k b.drift v.freq.high v.drift_high; same = λ k low. refl }

@@ -1,6 +1,6 @@
 -- What time and halts make of a board's steppers: of the steps that pend some are made, and where a stepper is halted the
 -- others are dropped.
-use Rattle.std.proofs.Common.{◌≡◌, ◌≢◌, ℕ, zero, suc, Bool, true, false, ◌≤◌, ◌⊎◌, List, [], ◌∷◌, ◌++◌, length, map, get_or, set, Option, Some, None, refl, ap, sym, ◌∙◌, subst, arith, inl, inr, append_assoc, append-nil}
+use Rattle.std.proofs.Common.{◌≡◌, ◌≢◌, ℕ, zero, suc, Bool, true, false, ◌≤◌, ◌⊎◌, List, [], ◌∷◌, ◌++◌, length, map, get_or, set, Option, Some, None, refl, ap, sym, ◌∙◌, subst, arith, inl, inr, append_assoc, append-nil, rules}
 use Rattle.laws_board.proofs.Names.{length-map, leb_tells, Running, Pulse, Pending, Controller, only}
 use Rattle.std.proofs.lemmas.List.{length-set, get_or-set_other}
 use Rattle.plan_types.specs.Plan.{pulse_of}
@@ -113,12 +113,7 @@ queue_both oid now mid later q r s ps qs h k a b = record {
 }
 
 pub slot_both : (oid now mid later : ℕ) (a b c : Option Pending) (ps qs : List Pulse) → now ≤ mid → mid ≤ later → SlotMoves oid now mid a b ps → SlotMoves oid mid later b c qs → SlotMoves oid now later a c (ps ++ qs)
-slot_both oid now mid later None None None ps qs h k x y = both_none ps qs x y
-slot_both oid now mid later None None (Some s) ps qs h k x y = absurd y
-slot_both oid now mid later None (Some r) c ps qs h k x y = absurd x
-slot_both oid now mid later (Some q) None c ps qs h k x y = absurd x
-slot_both oid now mid later (Some q) (Some r) None ps qs h k x y = absurd y
-slot_both oid now mid later (Some q) (Some r) (Some s) ps qs h k x y = queue_both oid now mid later q r s ps qs h k x y
+slot_both oid now mid later a b c ps qs p9 p10 p11 p12 = search (rules, both_none, queue_both)
 
 -- a board that stays in its state, and each of its steppers
 pub record BoardMoves (b c : Controller) (ps : List Pulse) : Type 0 where
@@ -132,22 +127,10 @@ pub board_stays : (b : Controller) → BoardMoves b b []
 board_stays b = record { state = refl; slots = refl; places = refl; later = omega arith; each = λ oid. slot_stays oid b.tick (stepper_at b oid) }
 
 pub board_both : (a b c : Controller) (ps qs : List Pulse) → BoardMoves a b ps → BoardMoves b c qs → BoardMoves a c (ps ++ qs)
-board_both a b c ps qs x y = record {
-  state = y.state ∙ x.state;
-  slots = y.slots ∙ x.slots;
-  places = y.places ∙ x.places;
-  later = omega (arith, x.later, y.later);
-  each = λ oid. rw (only-append oid ps qs) (slot_both oid a.tick b.tick c.tick (stepper_at a oid) (stepper_at b oid) (stepper_at c oid) (only oid ps) (only oid qs) x.later y.later (x.each oid) (y.each oid));
-}
+board_both a b c ps qs x y = search (rules, only-append, slot_both, only)
 
 one_halt : (b : Controller) (i oid : ℕ) → (i ≡ oid) ⊎ (i ≢ oid) → SlotMoves oid b.tick b.tick (stepper_at b oid) (get_or (set b.steppers i (emptied (get_or b.steppers i None))) oid None) []
-one_halt b i oid (inl e) =
-    let At : ℕ → Type 0 = λ n. SlotMoves n b.tick b.tick (stepper_at b n) (get_or (set b.steppers i (emptied (get_or b.steppers i None))) n None) [] in
-    let Is : Option Pending → Type 0 = λ o. SlotMoves i b.tick b.tick (stepper_at b i) o [] in
-    subst At e (subst Is (sym (at_halted b.steppers i)) (slot_empties i b.tick (stepper_at b i)))
-one_halt b i oid (inr d) =
-    let Is : Option Pending → Type 0 = λ o. SlotMoves oid b.tick b.tick (stepper_at b oid) o [] in
-    subst Is (sym (get_or-set_other b.steppers i oid (emptied (get_or b.steppers i None)) None (λ e. d (sym e)))) (slot_stays oid b.tick (stepper_at b oid))
+one_halt b i oid p3 = search (rules, at_halted, slot_empties, get_or-set_other, slot_stays)
 
 halt_moves : (is : List ℕ) (b : Controller) → BoardMoves b (with_steppers b (halt is b.steppers)) []
 halt_moves [] b = board_stays b

@@ -1,5 +1,5 @@
 -- The commands of triggers, and time with triggers, halt steppers and make steps, and nothing else.
-use Rattle.std.proofs.Common.{◌≡◌, ℕ, zero, suc, ◌&&◌, not, ◌+◌, ◌/◌, List, [], ◌∷◌, ◌++◌, Option, Some, None, sym, ◌∙◌, subst, inl, inr}
+use Rattle.std.proofs.Common.{◌≡◌, ℕ, zero, suc, ◌&&◌, not, ◌+◌, ◌/◌, List, [], ◌∷◌, ◌++◌, Option, Some, None, sym, ◌∙◌, subst, inl, inr, rules}
 use Rattle.std.specs.Prelude.{slice_index_or}
 use Rattle.laws_board.proofs.Names.{leb_tells, BoardState, Running, Pulse, Pending, Trigger, Cmd, Rig, Slot, slot_at, becomes, expires_at_once, set_timeout, acts, acts_running, takes, earliest_moment, runs_to, rests_to, happens_to, goes_on, at_of, passes_by, pass, passes, all_left}
 use Rattle.board_trig.specs.declared.sampling.Homing.{Homing}
@@ -65,16 +65,7 @@ IsOfTriggers (cmd.EndstopHome oid clock sample count rest value other reason) = 
 IsOfTriggers _ = ⊥
 
 acts_move : (r : Rig) (c : Cmd) → IsOfTriggers c → BoardMoves r.controller (acts r c).rig.controller []
-acts_move r (cmd.ConfigTrsync oid) i = made_moves r oid (slot_at r oid)
-acts_move r (cmd.TrsyncStart oid clock every reason) i = start_moves r oid (slot_at r oid) clock every reason
-acts_move r (cmd.TrsyncSetTimeout oid clock) i = timeout_moves r oid (slot_at r oid) clock
-acts_move r (cmd.TrsyncTrigger oid reason) i = trigger_moves r oid (slot_at r oid) reason
-acts_move r (cmd.StepperStopOnTrigger oid other) i = bind_moves r oid other (stepper_at r.controller oid) (slot_at r other)
-acts_move r (cmd.ConfigEndstop oid pin pull) i = endstop_moves r oid pin (slice_index_or r.endstops oid None)
-acts_move r (cmd.EndstopHome oid clock sample count rest value other reason) i =
-    home_moves r (slice_index_or r.endstops oid None) other (slot_at r other)
-    (record { clock = clock; sample_ticks = sample; sample_count = count; rest_ticks = rest; pin_value = value; reason = reason })
-acts_move r c i = absurd i
+acts_move r c p2 = search (rules, made_moves, slot_at, start_moves, timeout_moves, trigger_moves, bind_moves, endstop_moves, slice_index_or, home_moves)
 
 -- such a command halts steppers at most
 pub triggers_move : (r : Rig) (c : Cmd) → r.controller.state ≡ Running → IsOfTriggers c → BoardMoves r.controller (takes r c).rig.controller []
@@ -117,8 +108,4 @@ steps_move (suc n) r t made meant running k =
 
 -- time passes
 pub passes_move : (r : Rig) (t : ℕ) (made meant : List Pulse) → r.controller.state ≡ Running → IsFairSofar r.controller made meant → Moves r (passes r t)
-passes_move r t made meant running k =
-    elim (leb_tells r.controller.tick t) [
-      | inl p ↦ rw p.0 (steps_move (all_left t r.triggers + 1) r t made meant running k)
-      | inr p ↦ rw p.0 (board_stays r.controller)
-    ]
+passes_move r t made meant running k = search (rules, leb_tells, steps_move, all_left, board_stays)

@@ -1,5 +1,5 @@
 -- A board that a unit reached too late names that unit.
-use Rattle.std.proofs.Common.{◌≡◌, ℕ, ◌<◌, List, [], ◌∷◌, ◌++◌, Option, Some, None, ap, sym, ◌∙◌, subst, arith, inl, inr, append_assoc, append-nil}
+use Rattle.std.proofs.Common.{◌≡◌, ℕ, ◌<◌, List, [], ◌∷◌, ◌++◌, Option, Some, None, ap, sym, ◌∙◌, subst, arith, inl, inr, append_assoc, append-nil, rules}
 use Rattle.std.specs.Prelude.{slice_index}
 use Rattle.link_work.specs.Late.{IsSteps}
 use Rattle.laws_board.proofs.Names.{BoardState, Pending, Cmd, Controller, Rig, takes, takes_all, Meant, commands_of, Core, Step, Do, Turn, takes_in, after_event, in_turn, run_world}
@@ -23,38 +23,17 @@ not_one n h e = omega (arith, h, e)
 
 -- a triple that came too late
 late_first : (now : ℕ) (o : Option Pending) (t : Triple) (first : ℕ) (ticks : List ℕ) → IsRefused now o t 1 first → IsFairOn now o t ticks → (slice_index ticks 0 ≡ first) × (first < now)
-late_first now None t first ticks r f = absurd r
-late_first now (Some q) t first ticks r f = elim r.1 [
-  | inl p ↦ absurd (not_one 4 (omega arith) p.0)
-  | inr p ↦ elim p [
-    | inl p ↦ absurd (not_one 2 (omega arith) p.0)
-    | inr p ↦
-        let fair = f r.0 in
-        (sym (ap (λ ts. slice_index ts 0) (whole now q t ticks fair.0 fair.1)) ∙ sym p.2, p.3)
-  ]
-]
+late_first now o t first ticks p5 p6 = search (rules, not_one, slice_index, whole)
 
 -- what shut the board down is a triple with this first tick
 abbrev Names : Meant → ℕ → ℕ → Type 0
 Names m now first = IsSteps m.command × (slice_index m.ticks 0 ≡ first) × (first < now)
 
 one_names : (b : Controller) (c : Cmd) (ticks : List ℕ) (first : ℕ) → Shuts b c 1 first → IsFairCommand b c ticks → IsSteps c × (slice_index ticks 0 ≡ first) × (first < b.tick)
-one_names b (cmd.QueueStep oid interval count add) ticks first s f =
-    let l = late_first b.tick (stepper_at b oid) (record { interval = interval; count = count; add = add }) first ticks s f in
-    (tt, l.0, l.1)
-one_names b (cmd.ResetStepClock oid clock) ticks first s f = absurd (not_one 3 (omega arith) s.0)
-one_names b cmd.EmergencyStop ticks first s f = absurd (not_one 5 (omega arith) s)
-one_names b _ ticks first s f = absurd s
+one_names b c ticks first p4 p5 = search (rules, late_first, not_one)
 
 shut_names : (r : Rig) (ms : List Meant) (tick first : ℕ) (s : ShutBy r ms 1 tick first) → AreFair r ms → (m : Meant) × IsIn m ms × Names m tick first
-shut_names r ms tick first s f =
-    let At : List Meant → Type 0 = λ x. AreFair r x in
-    let next = (takes_all r (commands_of s.before)).rig.controller in
-    let fair = fair_at r s.before s.command s.behind (subst At s.are f) in
-    let On : BoardState → Type 0 = λ o. IsFairRunning o next s.command.command s.command.ticks in
-    let n = one_names next s.command.command s.command.ticks first s.cause (subst On s.running fair) in
-    let late : first < tick = omega (arith, n.2, s.at) in
-    (s.command, (s.before, s.behind, s.are), (n.0, n.1, late))
+shut_names r ms tick first s f = search (rules, takes_all, commands_of, fair_at, one_names)
 
 pub in_more : {X : Type 0} (x : X) (xs ys zs : List X) → IsIn x ys → IsIn x ((xs ++ ys) ++ zs)
 in_more x xs ys zs (before, behind, are) = (

@@ -1,5 +1,5 @@
 -- The releases of a section, turn by turn.
-use Rattle.std.proofs.Common.{◌≡◌, ◌≢◌, ℕ, ◌+◌, ◌<◌, ◌≤◌, ◌⊎◌, List, [], ◌∷◌, refl, ap, sym, ◌∙◌, subst, arith, inl, inr}
+use Rattle.std.proofs.Common.{◌≡◌, ◌≢◌, ℕ, ◌+◌, ◌<◌, ◌≤◌, ◌⊎◌, List, [], ◌∷◌, refl, ap, sym, ◌∙◌, subst, arith, inl, inr, rules}
 use Rattle.laws_board.proofs.Names.{eqb_tells, Pulse, Clocks, unit_orders, units_orders, StepUnit, Release, batch_at, units_of, AreBefore, of_stepper}
 use Rattle.std.specs.Prelude.{◌==◌, if◌then◌else◌}
 use Rattle.step_feed.specs.Pacing.{ArePaced, pending}
@@ -91,25 +91,14 @@ TurnGoes f oid total turn k before rs =
 unit_ahead : (f : Frame) (turn oid : ℕ) (k next : Known) (u : StepUnit) (us : List StepUnit) → AreGoodFrom f.own f.slots oid k (sent_at turn (unit_orders u))
     → known_from oid k (sent_at turn (unit_orders u)) ≡ next → AreGoodFrom f.own f.slots oid next (sent_at turn (units_orders us))
     → AreGoodFrom f.own f.slots oid k (sent_at turn (units_orders (u ∷ us))) × (known_from oid k (sent_at turn (units_orders (u ∷ us))) ≡ known_from oid next (sent_at turn (units_orders us)))
-unit_ahead f turn oid k next u us good is rest =
-    let first = sent_at turn (unit_orders u) in
-    let others = sent_at turn (units_orders us) in
-    let split = sent_append turn (unit_orders u) (units_orders us) in
-    let At : List Sent → Type 0 = λ x. AreGoodFrom f.own f.slots oid k x in
-    let On : Known → Type 0 = λ x. AreGoodFrom f.own f.slots oid x others in (
-      subst At (sym split) (good_append f.own f.slots oid k first others good (subst On (sym is) rest)),
-      ap (known_from oid k) split ∙ known_append oid k first others ∙ ap (λ x. known_from oid x others) is,
-    )
+unit_ahead f turn oid k next u us good is rest = search (rules, unit_orders, units_orders, sent_append, good_append, known_append)
 
 -- one release of the turn, and those behind it
 one_and_more : (f : Frame) (oid : ℕ) (total : List Pulse) (turn : ℕ) (k next : Known) (r : Release) (before rs : List Release)
     → AreGoodFrom f.own f.slots oid k (sent_at turn (unit_orders r.unit)) → known_from oid k (sent_at turn (unit_orders r.unit)) ≡ next → TurnGoes f oid total turn next (r ∷ before) rs
     → AreGoodFrom f.own f.slots oid k (sent_at turn (units_orders (r.unit ∷ batch_at turn rs)))
     × Waits f oid total (known_from oid k (sent_at turn (units_orders (r.unit ∷ batch_at turn rs)))) (lasts oid (pushed turn (r ∷ before) rs)) (of_stepper oid (units_of (after_turn turn rs)))
-one_and_more f oid total turn k next r before rs good is rest =
-    let both = unit_ahead f turn oid k next r.unit (batch_at turn rs) good is rest.0 in
-    let At : Known → Type 0 = λ x. Waits f oid total x (lasts oid (pushed turn (r ∷ before) rs)) (of_stepper oid (units_of (after_turn turn rs))) in
-    (both.0, subst At (sym both.1) rest.1)
+one_and_more f oid total turn k next r before rs good is rest = search (rules, unit_ahead, batch_at, of_stepper, units_of)
 
 pub turn_goes : (f : Frame) (oid : ℕ) (total : List Pulse) (turn from : ℕ) (k : Known) (before rs : List Release) → f.start ≤ from + 250 → Waits f oid total k (lasts oid before) (of_stepper oid (units_of rs))
     → ArePaced f.clocks f.slots from before rs → AreInside f before → AreInside f rs → AreFrom turn rs → TurnGoes f oid total turn k before rs

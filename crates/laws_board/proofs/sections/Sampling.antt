@@ -1,5 +1,5 @@
 -- The worked example is a section.
-use Rattle.std.proofs.Common.{◌≡◌, ◌≢◌, ℕ, pos, Bool, true, false, ◌+◌, ◌-◌, ◌*◌, ◌%◌, ◌^◌, ◌<◌, ◌≤◌, List, [], ◌∷◌, length, map, All, Option, Some, None, refl, ap, sym, ◌∙◌, subst, arith, inl, inr}
+use Rattle.std.proofs.Common.{◌≡◌, ◌≢◌, ℕ, pos, Bool, true, false, ◌+◌, ◌-◌, ◌*◌, ◌%◌, ◌^◌, ◌<◌, ◌≤◌, List, [], ◌∷◌, length, map, All, Option, Some, None, refl, ap, sym, ◌∙◌, subst, arith, inl, inr, rules}
 use Rattle.laws_board.proofs.Names.{leb_tells, eqb_tells, All-cons, All-nil, Planned, Pulse, board_tick, tick, turn_ns, lines_tick, Clocks, Fits, AreKept, StepUnit, Release, units_of, of_stepper, section_steps, BoardSection, both_parts}
 use Rattle.std.specs.Prelude.{◌&&◌, nat_le, slice_index}
 use Rattle.plan_types.specs.declared.plan.Triple.{Triple}
@@ -51,32 +51,11 @@ flat_at : (first d n i : ℕ) → i < n → slice_index (ticks_of first (flat d 
 flat_at first d n i h = get_or-map-range_with_len (tick_at first d (pos 0)) 0 n i i 0 h (omega arith) ∙ omega arith
 
 flat_ticks : (first d n : ℕ) → 0 < n → d < 2 ^ 32 → 0 < d → AreTicksOf (flat d n) (ticks_of first (flat d n))
-flat_ticks first d n some small low = record {
-  number = flat_length first d n;
-  some = some;
-  each = λ i h. omega (arith, flat_at first d n i h, flat_at first d n 0 some);
-  above = λ i h. omega (arith, flat_at first d n i (omega (arith, h)), flat_at first d n (i + 1) h, small);
-  below = λ i h. omega (arith, flat_at first d n i (omega (arith, h)), flat_at first d n (i + 1) h);
-}
+flat_ticks first d n some small low = search (rules, flat_length, flat_at)
 
 sample_is : (behind first last due d n : ℕ) (up : Option Bool) (reset : Option ℕ) → 0 < n → d < 2 ^ 32 → 0 < d → first ≡ behind + d → last ≡ last_of 0 (ticks_of first (flat d n)) → due * 16_000 ≤ first
     → first < (due + 1) * 16_000 → IsUnit sample_clocks behind (sample_unit first last due d n up reset)
-sample_is behind first last due d n up reset some small low is last_is from to =
-    let zero_at = flat_at first d n 0 some in
-    record {
-      expands = record {
-        ticks_of = flat_ticks first d n some small low;
-        behind = omega (arith, zero_at, is, low);
-        continues = omega (arith, zero_at, is);
-      };
-      rise = λ i h.
-          let k : i + 1 < n = omega (arith, h, flat_length first d n) in
-          omega (arith, flat_at first d n i (omega (arith, k)), flat_at first d n (i + 1) k, low);
-      small = small;
-      first = omega (arith, zero_at);
-      last = last_is;
-      due = turn_is first due from to;
-    }
+sample_is behind first last due d n up reset some small low is last_is from to = search (rules, flat_at, flat_ticks, flat_length, turn_is)
 
 some_up : Some true ≡ None → ⊥
 some_up e = cc
@@ -149,31 +128,13 @@ bytes_few u =
     omega (arith, count_bounds u.stepper, count_bounds u.triple.interval, count_bounds u.triple.count, count_bounds (cast_unsigned w32 u.triple.add), dir-small u.stepper u.up, reset-small u.stepper u.reset)
 
 released : (from : ℕ) (before : List Release) (r : Release) → from ≤ r.turn → r.unit.due ≡ r.turn + 250 → bytes_in r.turn before ≡ 0 → length before < 1_024 → IsReleased sample_clocks 1_024 from before r
-released from before r after due none few = record {
-  after = after;
-  room = record {
-    due = omega (arith, due);
-    bytes = omega (arith, none, bytes_few r.unit);
-    steps = omega (arith, pending_few sample_clocks r.unit.stepper r.turn before, few);
-  };
-  first = λ k le room. omega (arith, room.due, due);
-}
+released from before r after due none few = search (rules, bytes_few, pending_few)
 
 abbrev release : ℕ → ℕ → ℕ → ℕ → ℕ → Option Bool → Option ℕ → ℕ → Release
 release first last due d n up reset turn = record { unit = sample_unit first last due d n up reset; turn = turn }
 
 paced : ArePaced sample_clocks 1_024 1_010 [] sample_releases
-paced =
-    let a = release 20_192_660 20_192_660 1_262 32_660 1 (Some true) (Some 20_160_000) 1_012 in
-    let b = release 20_216_666 20_216_666 1_263 24_006 1 None None 1_013 in
-    let c = release 20_236_666 21_756_666 1_264 20_000 77 None None 1_014 in
-    let d = release 21_780_672 21_780_672 1_361 24_006 1 None None 1_111 in (
-      released 1_010 [] a (omega arith) refl refl (omega arith),
-      (
-        released 1_012 (a ∷ []) b (omega arith) refl refl (omega arith),
-        (released 1_013 (b ∷ a ∷ []) c (omega arith) refl refl (omega arith), (released 1_014 (c ∷ b ∷ a ∷ []) d (omega arith) refl refl (omega arith), tt)),
-      ),
-    )
+paced = search (rules, released)
 
 others_none : (oid : ℕ) → oid ≢ 0 → section_steps oid sample_section ≡ []
 others_none oid ne = elim (eqb_tells 0 oid) [ inl p ↦ absurd (ne (sym p.1)) | inr p ↦ rw p.0 refl ]

@@ -1,5 +1,5 @@
 -- Which unit a triple that was queued belongs to.
-use Rattle.std.proofs.Common.{◌≡◌, ℕ, Bool, true, false, ◌+◌, ◌⊎◌, List, [], ◌∷◌, ◌++◌, length, map, drop, All, Option, Some, None, refl, ap, sym, ◌∙◌, subst, inl, inr}
+use Rattle.std.proofs.Common.{◌≡◌, ℕ, Bool, true, false, ◌+◌, ◌⊎◌, List, [], ◌∷◌, ◌++◌, length, map, drop, All, Option, Some, None, refl, ap, sym, ◌∙◌, subst, inl, inr, rules}
 use Rattle.laws_board.proofs.Names.{eqb_tells, take-append-drop, All-head, All-tail, flat_map, Level, BoardDef, Shut, Clocks, Cmd, reset_commands, dir_commands, step_command, Meant, plain, unit_orders, units_orders, Step, run_world, new_world, StepUnit, Release, batch_at, units_of, Orders, queued_in, BoardSection, base_of, of_stepper}
 use Rattle.std.specs.Prelude.{slice_index}
 use Rattle.link_work.specs.Late.{IsSteps}
@@ -69,16 +69,7 @@ no_dir m oid (Some up) (inr a) s = a
 
 -- a unit's triple
 in_unit : (m : Meant) (u : StepUnit) → Among m (unit_orders u) → IsSteps m.command → m.ticks ≡ ticks_meant u
-in_unit m u a s =
-    let rest = map plain (dir_commands u.stepper u.up) ++ record { command = step_command u; ticks = ticks_meant u } ∷ [] in
-    let At : List Meant → Type 0 = λ x. Among m x in
-    elim (among_split m (map plain (reset_commands u.stepper u.reset)) rest (subst At (orders_are u) a)) [
-      | inl p ↦ absurd (no_reset m u.stepper u.reset p s)
-      | inr p ↦ elim (among_split m (map plain (dir_commands u.stepper u.up)) (record { command = step_command u; ticks = ticks_meant u } ∷ []) p) [
-        | inl q ↦ absurd (no_dir m u.stepper u.up q s)
-        | inr q ↦ elim q [ inl e ↦ ap (λ (x : Meant). x.ticks) e | inr n ↦ absurd n ]
-      ]
-    ]
+in_unit m u a s = search (rules, plain, dir_commands, step_command, among_split, reset_commands, orders_are, no_reset, no_dir)
 
 in_units : (m : Meant) (us : List StepUnit) → Among m (units_orders us) → IsSteps m.command → (u : StepUnit) × Among u us × (m.ticks ≡ ticks_meant u)
 in_units m [] a s = absurd a

@@ -1,5 +1,5 @@
 -- Units that are taken soon are taken in time for the 32-bit clock.
-use Rattle.std.proofs.Common.{◌≡◌, ℕ, ◌≤◌, List, [], ◌∷◌, ◌++◌, length, drop, refl, ap, sym, ◌∙◌, subst, arith, append_assoc, append-nil}
+use Rattle.std.proofs.Common.{◌≡◌, ℕ, ◌≤◌, List, [], ◌∷◌, ◌++◌, length, drop, refl, ap, sym, ◌∙◌, subst, arith, append_assoc, append-nil, rules}
 use Rattle.laws_board.proofs.Names.{take-append-drop, append_cancel_left, Cmd, Meant, Event, IsOrdered, Core, Step, Do, Turn, takes_in, after_event, in_turn, run_world}
 use Rattle.msg_code.specs.declared.cmd.Cmd.TheVariants as cmd
 use Rattle.board_world.specs.declared.event.Event.TheVariants.{Put, Control, Arrive, Repeat, Pass}
@@ -57,14 +57,7 @@ next_timely t first others all h e k cut timely none =
 
 -- a step that queues nothing and lets no time pass keeps this
 event_soon : (t : ℕ) (first all : List Meant) (h : Core) (e : Event) → IsSoon t first all h → orders_of e ≡ [] → (after_event h e).board.controller.tick ≡ h.board.controller.tick → IsSoon t first all (after_event h e)
-event_soon t first all h e k none tick = record {
-  ordered = ordered_by h e k.ordered;
-  more = k.more ++ takes_in h e;
-  took = ap (λ x. x ++ takes_in h e) k.took ∙ append_assoc first k.more (takes_in h e);
-  rest = k.rest;
-  all_is = ap (λ x. (h.queued ++ x) ++ k.rest) none ∙ ap (λ x. x ++ k.rest) (append-nil h.queued) ∙ k.all_is;
-  tick = rw tick k.tick;
-}
+event_soon t first all h e k none tick = search (rules, ordered_by, takes_in, append_assoc, append-nil)
 
 pub quiet_soon : (t : ℕ) (first others all : List Meant) (steps : List Step) (h : Core) → AreQuiet steps → IsSoon t first all h → all ≡ first ++ others → AreTimely t others
     → AllTimely h steps × IsSoon t first all (run_world steps h)

@@ -1,5 +1,5 @@
 -- Where few turns of each busy stretch are spoiled, a board takes soon what was queued.
-use Rattle.std.proofs.Common.{◌≡◌, ℕ, suc, ◌+◌, ◌-◌, ◌^◌, ◌<◌, ◌≤◌, List, [], ◌∷◌, ◌++◌, length, take, drop, refl, ap, sym, ◌∙◌, subst, arith, append_assoc, append-nil, length-append, inl, inr}
+use Rattle.std.proofs.Common.{◌≡◌, ℕ, suc, ◌+◌, ◌-◌, ◌^◌, ◌<◌, ◌≤◌, List, [], ◌∷◌, ◌++◌, length, take, drop, refl, ap, sym, ◌∙◌, subst, arith, append_assoc, append-nil, length-append, inl, inr, rules}
 use Rattle.laws_board.proofs.Names.{flat_map-append, take-append-drop, leb_tells, flat_map, BoardDef, BoardClock, Level, Entry, Meant, Core, AllKeepLimits, queued_in, first_state, IsTurn, LinkState, Orders, cons_same}
 use Rattle.std.proofs.lemmas.List.{length-drop}
 use Rattle.link_work.specs.Ends.{EndSo, Ended, last_link, spoiled}
@@ -26,19 +26,7 @@ one_taken : (b : BoardDef) (pins : List (List Level)) (board : ℕ) (entries : L
     → AllKeepLimits (before ++ o ∷ []) → EndSo clock 0 (before ++ o ∷ after) (first_state b pins board entries) ends → spoiled ends ≤ n → n ≤ length after
     → length (flat_map queued_in before) ≤ length (last_link (first_state b pins board entries) ends).core.taken
     → length (flat_map queued_in (before ++ o ∷ [])) ≤ length (last_link (first_state b pins board entries) ends).core.taken
-one_taken b pins board entries clock n before after o ends limits e few room sofar =
-    let taken = (last_link (first_state b pins board entries) ends).core.taken in
-    let all : length (flat_map queued_in (before ++ o ∷ [])) ≡ length (flat_map queued_in before) + length (queued_in o) =
-    ap length (flat_map-append queued_in before (o ∷ []) ∙ ap (λ x. flat_map queued_in before ++ x) (append-nil (queued_in o))) ∙ length-append (flat_map queued_in before) (queued_in o) in
-    elim (leb_tells (length (queued_in o)) 0) [
-      | inl p ↦ omega (arith, all, p.1, sofar)
-      | inr p ↦
-          let i = length (queued_in o) - 1 in
-          elim (leb_tells (suc (command_place before i)) (length taken)) [
-            | inl q ↦ omega (arith, all, q.1, p.1)
-            | inr q ↦ absurd (omega (arith, late_command b pins board entries clock before after o ends limits e i (omega (arith, p.1)) (λ has. omega (arith, has, q.1)), few, room))
-          ]
-    ]
+one_taken b pins board entries clock n before after o ends limits e few room sofar = search (rules, first_state, flat_map, queued_in, flat_map-append, append-nil, length-append, leb_tells, late_command)
 
 -- and in some, where these keep the limits
 most_taken : (b : BoardDef) (pins : List (List Level)) (board : ℕ) (entries : List Entry) (clock : BoardClock) (n : ℕ) (before xs ys all : List Orders) (ends : List Ended) → all ≡ before ++ (xs ++ ys)

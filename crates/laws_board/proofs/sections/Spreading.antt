@@ -1,5 +1,5 @@
 -- What is queued of sections splits into good commands and those behind a lost one.
-use Rattle.std.proofs.Common.{◌≡◌, ◌≢◌, ℕ, suc, true, ◌+◌, ◌*◌, ◌<◌, ◌≤◌, ◌⊎◌, List, [], ◌∷◌, ◌++◌, length, map, All, refl, ap, sym, ◌∙◌, subst, arith, inl, inr, append_assoc, append-nil}
+use Rattle.std.proofs.Common.{◌≡◌, ◌≢◌, ℕ, suc, true, ◌+◌, ◌*◌, ◌<◌, ◌≤◌, ◌⊎◌, List, [], ◌∷◌, ◌++◌, length, map, All, refl, ap, sym, ◌∙◌, subst, arith, inl, inr, append_assoc, append-nil, rules}
 use Rattle.laws_board.proofs.Names.{leb_tells, eqb_tells, Pulse, turn_ns, lines_tick, plain, unit_orders, units_orders, StepUnit, Release, batch_at, units_of, Orders, queued_in, AreBefore, BoardSection, of_stepper}
 use Rattle.std.specs.Prelude.{slice_index}
 use Rattle.clock_line.proofs.Turns.{turn-below}
@@ -89,15 +89,7 @@ no_bytes turn (r ∷ before) a = elim (eqb_tells r.turn turn) [ inl e ↦ absurd
 -- the first unit that is left is released in the very turn
 pub late_released : (f : Frame) (turn from : ℕ) (before : List Release) (r : Release) (rs : List Release) → ArePaced f.clocks f.slots from before (r ∷ rs) → AreInside f before → IsInside f r.unit → AreBefore turn before
     → (from ≤ f.end) ⊎ (from < turn) → turn ≤ r.turn → f.end + 5 ≤ turn → r.turn ≡ turn
-late_released f turn from before r rs paced behind i earlier early later h =
-    let due = turn-below f.clocks r.unit.first f.end (omega (arith, i.up, i.high)) in
-    let room : HasRoom f.clocks f.slots before r.unit turn = record {
-      due = omega (arith, i.due, due, h);
-      bytes = omega (arith, no_bytes turn before earlier, paced.0.room.bytes);
-      steps = omega (arith, none_pending f turn r.unit.stepper before behind h, paced.0.room.steps);
-    } in
-    let from_is : from ≤ turn = elim early [ inl e ↦ omega (arith, e, h) | inr e ↦ omega (arith, e) ] in
-    omega (arith, paced.0.first turn from_is room, later)
+late_released f turn from before r rs paced behind i earlier early later h = search (rules, turn-below, no_bytes, none_pending)
 
 late_turn : (f : Frame) (turn from : ℕ) (total : ℕ → List Pulse) (ks : ℕ → Known) (before : List Release) (r : Release) (rs : List Release)
     → Stands f turn from total ks before (r ∷ rs) → f.end + 10 ≤ turn → r.turn ≡ turn
@@ -132,13 +124,7 @@ first_below f oid turn total k ls u us w i h =
 
 -- the clock and the direction that are told ahead of a triple mean no steps
 steps_kept : (turn oid : ℕ) (k : Known) (u : StepUnit) → (known_from oid k (ahead_of_step turn u)).steps ≡ k.steps
-steps_kept turn oid k u =
-    elim (eqb_tells u.stepper oid) [
-      | inl p ↦
-          let At : ℕ → Type 0 = λ x. (known_from x k (ahead_of_step turn u)).steps ≡ k.steps in
-          subst At p.1 (ap (λ (x : Known). x.steps) (ahead_known turn k u))
-      | inr p ↦ ap (λ (x : Known). x.steps) (ahead_others turn oid k u p.1)
-    ]
+steps_kept turn oid k u = search (rules, eqb_tells, ahead_known, ahead_others)
 
 -- the first unit that is left is good, and lost
 late_splits : (f : Frame) (turn from n : ℕ) (total : ℕ → List Pulse) (ks : ℕ → Known) (before : List Release) (r : Release) (rs : List Release) (ss : List BoardSection) (sent : List Sent)
@@ -224,12 +210,7 @@ parts_sent turn o us later e =
 
 pub first_part : (turn : ℕ) (o : Orders) (u : StepUnit) (more : List StepUnit) (later : List Sent) → o.batch.units ≡ u ∷ more
     → sent_at turn (queued_in o) ++ later ≡ controls_of turn o ++ (sent_at turn (unit_orders u) ++ (sent_at turn (units_orders more) ++ later))
-first_part turn o u more later e =
-    let c = controls_of turn o in
-    let a = sent_at turn (unit_orders u) in
-    let b = sent_at turn (units_orders more) in
-    parts_sent turn o (u ∷ more) later e ∙ append_assoc c (sent_at turn (units_orders (u ∷ more))) later
-    ∙ ap (λ x. c ++ (x ++ later)) (sent_append turn (unit_orders u) (units_orders more)) ∙ ap (λ x. c ++ x) (append_assoc a b later)
+first_part turn o u more later e = search (rules, unit_orders, units_orders, parts_sent, append_assoc, sent_append)
 
 first_batch : (turn : ℕ) (r : Release) (rs : List Release) → r.turn ≡ turn → batch_at turn (r ∷ rs) ≡ r.unit ∷ batch_at turn rs
 first_batch turn r rs e = elim (eqb_tells r.turn turn) [ inl p ↦ rw p.0 refl | inr p ↦ absurd (p.1 e) ]

@@ -1,5 +1,5 @@
 -- A board on which triggers may halt steppers stands as the host knows it, part by part.
-use Rattle.std.proofs.Common.{◌≡◌, ℕ, Bool, true, false, ◌+◌, ◌≤◌, ◌⊎◌, List, [], ◌∷◌, ◌++◌, length, map, Option, Some, None, refl, ap, sym, ◌∙◌, subst, arith, inl, inr, append_assoc, append-nil}
+use Rattle.std.proofs.Common.{◌≡◌, ℕ, Bool, true, false, ◌+◌, ◌≤◌, ◌⊎◌, List, [], ◌∷◌, ◌++◌, length, map, Option, Some, None, refl, ap, sym, ◌∙◌, subst, arith, inl, inr, append_assoc, append-nil, rules}
 use Rattle.laws_board.proofs.Names.{leb_tells, Running, Pulse, Pending, Controller, only}
 use Rattle.plan_types.specs.Plan.{pulse_of}
 use Rattle.plan_types.specs.Board.{end_of, pending_steps}
@@ -58,10 +58,7 @@ queue_moved oid slots now later q r c ps s m = record {
 }
 
 pub slot_moved : (oid slots now later : ℕ) (o p : Option Pending) (c : Course) (ps : List Pulse) → SlotStands slots now o c → SlotMoves oid now later o p ps → SlotStands slots later p c
-slot_moved oid slots now later None None c ps s m = s
-slot_moved oid slots now later None (Some r) c ps s m = absurd m
-slot_moved oid slots now later (Some q) None c ps s m = absurd m
-slot_moved oid slots now later (Some q) (Some r) c ps s m = queue_moved oid slots now later q r c ps s m
+slot_moved oid slots now later o p c ps p8 p9 = search (rules, queue_moved)
 
 -- a stepper that was halted stays so
 halted_moved : (oid now later : ℕ) (o p : Option Pending) (ps : List Pulse) → SlotMoves oid now later o p ps → is_halted o ≡ true → is_halted p ≡ true
@@ -176,15 +173,4 @@ made_for own stops oid o c made k =
 -- a board moves within a turn
 pub board_moved : (own : ℕ → ℕ) (stops : ℕ → Option ℕ) (slots by turn : ℕ) (cs : ℕ → Course) (b c : Controller) (ps : List Pulse) → BoardStands own stops slots by turn cs b → BoardMoves b c ps → c.tick ≡ b.tick
     → BoardStands own stops slots by turn cs c
-board_moved own stops slots by turn cs b c ps s m same = record {
-  running = m.state ∙ s.running;
-  tick = same ∙ s.tick;
-  slots_are = m.slots ∙ s.slots_are;
-  places = m.places ∙ s.places;
-  each = λ oid.
-      let From : ℕ → Type 0 = λ n. SlotMoves oid n c.tick (stepper_at b oid) (stepper_at c oid) (only oid ps) in
-      let To : ℕ → Type 0 = λ n. SlotMoves oid (own turn) n (stepper_at b oid) (stepper_at c oid) (only oid ps) in
-      slot_moved oid slots (own turn) (own turn) (stepper_at b oid) (stepper_at c oid) (cs oid) (only oid ps) (s.each oid)
-      (subst To (same ∙ s.tick) (subst From s.tick (m.each oid)));
-  stopped = λ oid h. held_moved oid b.tick c.tick (stepper_at b oid) (stepper_at c oid) (cs oid) (only oid ps) (m.each oid) (s.stopped oid h);
-}
+board_moved own stops slots by turn cs b c ps s m same = search (rules, only, slot_moved, held_moved)

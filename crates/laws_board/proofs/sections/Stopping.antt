@@ -1,5 +1,5 @@
 -- A board that was never told to stop does not shut down for that.
-use Rattle.std.proofs.Common.{◌≡◌, ℕ, Bool, ◌<◌, List, [], ◌∷◌, ◌++◌, map, All, Option, Some, None, sym, subst, arith, inl, inr}
+use Rattle.std.proofs.Common.{◌≡◌, ℕ, Bool, ◌<◌, List, [], ◌∷◌, ◌++◌, map, All, Option, Some, None, sym, subst, arith, inl, inr, rules}
 use Rattle.laws_board.proofs.Names.{All-head, All-tail, flat_map, Pending, Cmd, reset_commands, dir_commands, step_command, Controller, Rig, takes_all, Meant, commands_of, plain, unit_orders, units_orders, Core, Step, Do, Turn, after_event, in_turn, run_world, takes_in, StepUnit, Orders, queued_in}
 use Rattle.plan_types.specs.declared.plan.Triple.{Triple}
 use Rattle.msg_code.specs.declared.cmd.Cmd.TheVariants as cmd
@@ -22,17 +22,10 @@ not_five n h e = omega (arith, h, e)
 
 -- no triple is refused for that
 pub refused_so : (now : ℕ) (o : Option Pending) (t : Triple) (first : ℕ) → IsRefused now o t 5 first → ⊥
-refused_so now None t first r = r
-refused_so now (Some q) t first r = elim r.1 [
-  | inl p ↦ not_five 4 (omega arith) p.0
-  | inr p ↦ elim p [ inl p ↦ not_five 2 (omega arith) p.0 | inr p ↦ not_five 1 (omega arith) p.0 ]
-]
+refused_so now o t first p4 = search (rules, not_five)
 
 pub one_stops : (b : Controller) (c : Cmd) (first : ℕ) → Shuts b c 5 first → IsStop c
-one_stops b (cmd.QueueStep oid interval count add) first s = refused_so b.tick (stepper_at b oid) (record { interval = interval; count = count; add = add }) first s
-one_stops b (cmd.ResetStepClock oid clock) first s = not_five 3 (omega arith) s.0
-one_stops b cmd.EmergencyStop first s = tt
-one_stops b _ first s = absurd s
+one_stops b c first p3 = search (rules, refused_so, not_five)
 
 shut_stops : (r : Rig) (ms : List Meant) (tick first : ℕ) (s : ShutBy r ms 5 tick first) → (m : Meant) × IsIn m ms × IsStop m.command
 shut_stops r ms tick first s = (s.command, (s.before, s.behind, s.are), one_stops (takes_all r (commands_of s.before)).rig.controller s.command.command first s.cause)
@@ -63,16 +56,7 @@ no_dir m oid (Some up) (inl e) s = subst StopsIn e s
 no_dir m oid (Some up) (inr a) s = a
 
 pub no_unit : (m : Meant) (u : StepUnit) → Among m (unit_orders u) → IsStop m.command → ⊥
-no_unit m u a s =
-    let rest = map plain (dir_commands u.stepper u.up) ++ record { command = step_command u; ticks = ticks_meant u } ∷ [] in
-    let At : List Meant → Type 0 = λ x. Among m x in
-    elim (among_split m (map plain (reset_commands u.stepper u.reset)) rest (subst At (orders_are u) a)) [
-      | inl p ↦ no_reset m u.stepper u.reset p s
-      | inr p ↦ elim (among_split m (map plain (dir_commands u.stepper u.up)) (record { command = step_command u; ticks = ticks_meant u } ∷ []) p) [
-        | inl q ↦ no_dir m u.stepper u.up q s
-        | inr q ↦ elim q [ inl e ↦ subst StopsIn e s | inr n ↦ n ]
-      ]
-    ]
+no_unit m u a s = search (rules, plain, dir_commands, step_command, among_split, reset_commands, orders_are, no_reset, no_dir)
 
 pub no_units : (m : Meant) (us : List StepUnit) → Among m (units_orders us) → IsStop m.command → ⊥
 no_units m [] a s = a

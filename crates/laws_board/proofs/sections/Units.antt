@@ -1,5 +1,5 @@
 -- The commands of a unit: what is known behind them, and when they are good.
-use Rattle.std.proofs.Common.{◌≡◌, ◌≢◌, ℕ, Bool, true, false, ◌%◌, ◌^◌, List, [], ◌∷◌, ◌++◌, map, Option, Some, None, refl, ap, sym, ◌∙◌, subst, inl, inr, append_assoc}
+use Rattle.std.proofs.Common.{◌≡◌, ◌≢◌, ℕ, Bool, true, false, ◌%◌, ◌^◌, List, [], ◌∷◌, ◌++◌, map, Option, Some, None, refl, ap, sym, ◌∙◌, subst, inl, inr, append_assoc, rules}
 use Rattle.laws_board.proofs.Names.{eqb_tells, reset_commands, dir_commands, step_command, plain, unit_orders, StepUnit}
 use Rattle.std.specs.Prelude.{◌==◌, if◌then◌else◌}
 use Rattle.msg_code.specs.Units.{bit}
@@ -55,16 +55,10 @@ dir_known turn k u None = refl
 dir_known turn k u (Some up) = at_own u.stepper (record k { up = bit up == 1 }) k ∙ ap (λ x. record k { up = x }) (dir_is up)
 
 pub ahead_known : (turn : ℕ) (k : Known) (u : StepUnit) → known_from u.stepper k (ahead_of_step turn u) ≡ record k { clock = clock_after k.clock u.reset; up = dir_after k.up u.up }
-ahead_known turn k u =
-    known_append u.stepper k (resets turn u u.reset) (dirs turn u u.up)
-    ∙ ap (λ x. known_from u.stepper x (dirs turn u u.up)) (reset_known turn k u u.reset)
-    ∙ dir_known turn (record k { clock = clock_after k.clock u.reset }) u u.up
+ahead_known turn k u = search (rules, known_append, reset_known, dir_known)
 
 pub own_known : (turn : ℕ) (k : Known) (u : StepUnit) → known_from u.stepper k (sent_at turn (unit_orders u)) ≡ behind_unit u.stepper k u
-own_known turn k u =
-    let mid : Known = record k { clock = clock_after k.clock u.reset; up = dir_after k.up u.up } in
-    ap (known_from u.stepper k) (unit_is turn u) ∙ known_append u.stepper k (ahead_of_step turn u) (step_sent turn u ∷ [])
-    ∙ ap (λ x. known_from u.stepper x (step_sent turn u ∷ [])) (ahead_known turn k u) ∙ at_own u.stepper (more_steps u.stepper mid (ticks_meant u)) mid
+own_known turn k u = search (rules, unit_is, known_append, ahead_known, at_own)
 
 -- of other steppers nothing more is known
 reset_others : (turn oid : ℕ) (k : Known) (u : StepUnit) (o : Option ℕ) → u.stepper ≢ oid → known_from oid k (resets turn u o) ≡ k
@@ -110,18 +104,11 @@ good_dir own slots turn oid k u (Some up) g = (g, tt)
 -- the commands ahead of a unit's triple are good for every stepper
 pub good_ahead : (own : ℕ → ℕ) (slots turn oid : ℕ) (k : Known) (u : StepUnit) → (u.stepper ≡ oid → k.made ≡ true) → (u.stepper ≡ oid → IsGoodClock own turn k u.reset)
     → AreGoodFrom own slots oid k (ahead_of_step turn u)
-good_ahead own slots turn oid k u made clock =
-    good_append own slots oid k (resets turn u u.reset) (dirs turn u u.up) (good_reset own slots turn oid k u u.reset clock)
-    (good_dir own slots turn oid (known_from oid k (resets turn u u.reset)) u u.up (λ e.
-    let At : ℕ → Type 0 = λ x. (known_from x k (resets turn u u.reset)).made ≡ true in
-    subst At e (ap (λ (x : Known). x.made) (reset_known turn k u u.reset) ∙ made e)))
+good_ahead own slots turn oid k u made clock = search (rules, good_append, good_reset, good_dir, reset_known)
 
 pub good_step : (own : ℕ → ℕ) (slots turn oid : ℕ) (k : Known) (u : StepUnit) → (u.stepper ≡ oid → IsGoodUnit own slots turn k u)
     → IsGood own slots oid (known_from oid k (ahead_of_step turn u)) (step_sent turn u)
-good_step own slots turn oid k u g = λ e.
-    let At : ℕ → Type 0 = λ x. IsGoodTriple own slots turn (known_from x k (ahead_of_step turn u)) u.triple (ticks_meant u) in
-    let On : Known → Type 0 = λ x. IsGoodTriple own slots turn x u.triple (ticks_meant u) in
-    subst At e (subst On (sym (ahead_known turn k u)) (g e).triple)
+good_step own slots turn oid k u g = search (rules, ahead_known)
 
 pub good_unit : (own : ℕ → ℕ) (slots turn oid : ℕ) (k : Known) (u : StepUnit) → (u.stepper ≡ oid → IsGoodUnit own slots turn k u) → AreGoodFrom own slots oid k (sent_at turn (unit_orders u))
 good_unit own slots turn oid k u g =

@@ -1,5 +1,5 @@
 -- The units of one stepper that wait in a section, and what is known of it so far.
-use Rattle.std.proofs.Common.{◌≡◌, ◌≢◌, ℕ, suc, true, ◌+◌, ◌*◌, ◌%◌, ◌^◌, ◌<◌, ◌≤◌, ◌⊎◌, List, [], ◌∷◌, ◌++◌, length, map, Option, Some, None, refl, ap, sym, ◌∙◌, subst, arith, inl, inr, append_assoc}
+use Rattle.std.proofs.Common.{◌≡◌, ◌≢◌, ℕ, suc, true, ◌+◌, ◌*◌, ◌%◌, ◌^◌, ◌<◌, ◌≤◌, ◌⊎◌, List, [], ◌∷◌, ◌++◌, length, map, Option, Some, None, refl, ap, sym, ◌∙◌, subst, arith, inl, inr, append_assoc, rules}
 use Rattle.laws_board.proofs.Names.{leb_tells, eqb_tells, Pulse, turn_ns, Clocks, lines_tick, StepUnit, Release}
 use Rattle.std.specs.Prelude.{◌==◌, if◌then◌else◌}
 use Rattle.plan_types.specs.Board.{last_of, steps_of, Continues}
@@ -101,18 +101,7 @@ room_for f oid turn total k ls us w soon room =
 
 goes_behind : (f : Frame) (oid : ℕ) (total : List Pulse) (behind : ℕ) (k : Known) (ls : List ℕ) (u : StepUnit) (us : List StepUnit) → IsUnit f.clocks behind u → AreChained f.clocks u.last us
     → Waits f oid total k ls (u ∷ us) → Waits f oid total (behind_unit oid k u) (u.last ∷ ls) us
-goes_behind f oid total behind k ls u us unit chain w =
-    let some : 0 < length (ticks_meant u) = omega (arith, unit.expands.ticks_of.number, unit.expands.ticks_of.some) in
-    let last : last_of (clock_after k.clock u.reset) (ticks_meant u) ≡ u.last = last_any (clock_after k.clock u.reset) 0 (ticks_meant u) some ∙ sym unit.last in
-    let steps = map (pulse_of oid) (steps_of (dir_after k.up u.up) (ticks_meant u)) in
-    record {
-      made = λ _. w.made (some_units u us);
-      chain = inr (rw last chain);
-      old = w.old;
-      ends = rw (← unit.last) (ap (λ x. u.last ∷ x) w.ends);
-      below = w.below;
-      said = append_assoc k.steps steps (steps_said oid (dir_after k.up u.up) us) ∙ w.said;
-    }
+goes_behind f oid total behind k ls u us unit chain w = search (rules, last_any, some_units, append_assoc)
 
 unit_good : (f : Frame) (turn behind clock : ℕ) (k : Known) (u : StepUnit) → IsInside f u → IsUnit f.clocks behind u → u.due ≤ turn + 250 → k.made ≡ true → count_from (f.own turn) k.ends < f.slots
     → IsGoodClock f.own turn k u.reset → clock_after k.clock u.reset ≡ clock → Continues clock u.triple.interval u.first → clock < u.first → IsGoodUnit f.own f.slots turn k u

@@ -1,5 +1,5 @@
 -- The pulses of a turn lie within it.
-use Rattle.std.proofs.Common.{◌≡◌, ℕ, ◌+◌, List, [], ◌∷◌, ◌++◌, refl, ◌∙◌, append-nil}
+use Rattle.std.proofs.Common.{◌≡◌, ℕ, ◌+◌, List, [], ◌∷◌, ◌++◌, refl, ◌∙◌, append-nil, rules}
 use Rattle.laws_board.proofs.Names.{Pulse, only, Core, Step, Do, Turn, world_after, run_world}
 use Rattle.board_world.specs.declared.event.Event.TheVariants.{Put, Control, Pass}
 use Rattle.laws_board.specs.sections.Events.{QueuesNothing, AreQuiet}
@@ -7,11 +7,7 @@ use Rattle.laws_board.proofs.sections.Passes.{AreBetween}
 
 -- quiet steps make no pulses
 quiet_made_one : (h : Core) (s : Step) → QueuesNothing s → (world_after h s).made ≡ h.made
-quiet_made_one h (Turn n) q = refl
-quiet_made_one h (Do (Put b)) q = absurd q
-quiet_made_one h (Do (Control c)) q = absurd q
-quiet_made_one h (Do (Pass t)) q = absurd q
-quiet_made_one h (Do e) q = append-nil h.made
+quiet_made_one h s p2 = search (rules, append-nil)
 
 pub quiet_made : (steps : List Step) (h : Core) → AreQuiet steps → (run_world steps h).made ≡ h.made
 quiet_made [] h q = refl

@@ -1,5 +1,5 @@
 -- Timeouts come in time, and reports count in their turns.
-use Rattle.std.proofs.Common.{◌≡◌, ℕ, ℤ, suc, ◌+◌, ◌-◌, ◌*◌, ◌/◌, ◌%◌, ◌^◌, ◌<◌, ◌≤◌, Bool, true, List, [], ◌∷◌, Some, None, refl, ap, ◌∙◌, subst, arith, inl, inr, max, pos, negsuc}
+use Rattle.std.proofs.Common.{◌≡◌, ℕ, ℤ, suc, ◌+◌, ◌-◌, ◌*◌, ◌/◌, ◌%◌, ◌^◌, ◌<◌, ◌≤◌, Bool, true, List, [], ◌∷◌, Some, None, refl, ap, ◌∙◌, subst, arith, inl, inr, max, pos, negsuc, rules}
 use Rattle.std.specs.Prelude.{◌&&◌, nat_le, nat_lt, if◌then◌else◌}
 use Rattle.std.proofs.Math.Nat.{mul-le-mul_right}
 use Rattle.laws_board.proofs.Names.{leb_tells, nat_tests, BoardClock, Held, Line, nearest, board_tick, tick, turn_ns, Clocks, lines_tick, turn_in_run, turn_tick, AreKept}
@@ -24,10 +24,7 @@ lines_up clocks j k l = tick_over-mono clocks.first 0 clocks.held (j * turn_ns) 
 
 -- a board comes to a tick of its lines one turn later at the latest
 pub line_ahead : (own : ℕ → ℕ) (clocks : Clocks) (ready turn timeout : ℕ) → (k : AreTracked own clocks ready) → ready ≤ turn → turn ≤ k.until → turn + 1 ≤ timeout → own turn ≤ lines_tick clocks (timeout * turn_ns)
-line_ahead own clocks ready turn timeout k low soon far =
-    let behind = k.behind turn low soon in
-    let up = lines_up clocks (turn + 1) timeout far in
-    omega (arith, behind, up)
+line_ahead own clocks ready turn timeout k low soon far = search (rules, lines_up)
 
 pub tick_whole : (clocks : Clocks) (turn : ℕ) → lines_tick clocks (turn * turn_ns) < 2 ^ 64 → turn_tick clocks turn ≡ lines_tick clocks (turn * turn_ns)
 tick_whole clocks turn small = omega (arith, small)
@@ -115,10 +112,7 @@ report_counts own clocks ready turn from tick ticks k low behind_so near soon fe
 
 -- the tick nearest to another one is less than half a round before it, and less than a round behind it
 near_within : (now clock : ℕ) → (now < nearest now clock + 2 ^ 31) × (nearest now clock < now + 2 ^ 32)
-near_within now clock = elim (leb_tells (ahead now clock) (2 ^ 31)) [
-  | inl p ↦ rw p.0 (omega (arith, p.1), omega (arith, p.1))
-  | inr p ↦ rw p.0 (elim (leb_tells (2 ^ 32) (now + ahead now clock)) [ inl q ↦ rw q.0 (omega (arith, p.1, q.1), omega (arith, p.1, q.1)) | inr q ↦ rw q.0 (omega (arith, p.1, q.1), omega (arith, p.1, q.1)) ])
-]
+near_within now clock = search (rules, leb_tells)
 
 -- a tick that the board has come to, from a turn's beginning on, is read as one of a turn of the run from that turn on, where a round of the clock is still ahead
 pub read_counts : (own : ℕ → ℕ) (clocks : Clocks) (ready turn start tick : ℕ) → AreTicks own → (k : AreTracked own clocks ready) → ready + 1 ≤ turn → turn ≤ k.until → own turn < 2 ^ 63 → lines_tick clocks (turn * turn_ns) + 2 ^ 32 ≤ lines_tick clocks (run_turns * turn_ns)
@@ -153,9 +147,4 @@ gains start freq k n drift =
     omega (arith, all)
 
 pub board_reports : (clock : BoardClock) (turn : ℕ) → IsValidFreq clock.freq → ppm_size clock.drift ≤ 200 → board_tick clock turn + clock.freq * 5 / 1_000 < board_tick clock (turn + 6)
-board_reports clock turn v d =
-    let low = v.low in
-    let more = gains clock.start clock.freq turn 6 clock.drift in
-    let rated : 999_800 * clock.freq ≤ rate clock.drift * clock.freq = mul-le-mul_right clock.freq (rate_low clock.drift d) in
-    let same : 6 * clock.freq * rate clock.drift ≡ 6 * (rate clock.drift * clock.freq) = grind arith in
-    omega (arith, more, rated, same, low)
+board_reports clock turn v d = search (rules, gains, mul-le-mul_right, rate_low)

@@ -1,5 +1,5 @@
 -- A homing group answers that a board expired only where the board told so, at a tick of a turn that is not past the last one.
-use Rattle.std.proofs.Common.{◌≡◌, ℕ, zero, suc, ◌+◌, ◌<◌, ◌≤◌, ◌==◌, inl, inr, Bool, true, false, cond, not, List, [], ◌∷◌, length, map, Option, Some, None, refl, ap, sym, ◌∙◌, subst, arith}
+use Rattle.std.proofs.Common.{◌≡◌, ℕ, zero, suc, ◌+◌, ◌<◌, ◌≤◌, ◌==◌, inl, inr, Bool, true, false, cond, not, List, [], ◌∷◌, length, map, Option, Some, None, refl, ap, sym, ◌∙◌, subst, arith, rules}
 use Rattle.laws_board.proofs.Names.{eqb-true, leb_tells, Machine, SectionKind, Moves, Home, nearest, Clocks, axis_at, turn_in_run, turn_tick, Cmd, News, Note, NoteNews, State, Switch, End, Member, Goes, Rests, Sends, Fired, Seen, GroupState, all_fired, phase, unseen, Homing, answer_in, goes_on_homing, hears_all, homing_after, members_from, Known, noted, known_behind, told_all, Reacted, Came, known_by, state_at, clocks_at, GoesOn, both_parts}
 use Rattle.std.specs.Prelude.{◌&&◌, nat_le, nat_lt}
 use Rattle.plan_types.specs.declared.plan.TrigState.{TrigState}
@@ -39,10 +39,7 @@ one_heard : (here can : Bool) (b board : ℕ) (P : ℕ → Type 0) (s : TrigStat
     → (board ≡ b → s.can ≡ false → s.reason ≡ 2 → P turn) → (f : Fired)
     → (cond here (cond can (record x { heard = Some (later x.heard turn) }) (record x { fired = Some (first_fired x.fired (record { reason = s.reason; tick = tick; turn = turn })) })) x).member.board ≡ b
     → (cond here (cond can (record x { heard = Some (later x.heard turn) }) (record x { fired = Some (first_fired x.fired (record { reason = s.reason; tick = tick; turn = turn })) })) x).fired ≡ Some f → f.reason ≡ 2 → P f.turn
-one_heard true true b board P s tick turn x e c k new f is fired = k f is fired
-one_heard true false b board P s tick turn x e c k new f is fired =
-    first_so P x.fired (record { reason = s.reason; tick = tick; turn = turn }) f (λ g. k g is) (new (sym (eqb-true x.member.board board e) ∙ is) c) fired
-one_heard false can b board P s tick turn x e c k new f is fired = k f is fired
+one_heard here can b board P s tick turn x p9 p10 p11 p12 f p14 p15 = search (rules, first_so, eqb-true)
 
 seen_heard : (b board : ℕ) (P : ℕ → Type 0) (s : TrigState) (tick turn : ℕ) (xs : List Seen) → SeenSo b P xs → (board ≡ b → s.can ≡ false → s.reason ≡ 2 → P turn) → SeenSo b P (map (hears_from board s tick turn) xs)
 seen_heard b board P s tick turn [] k new = tt
@@ -180,17 +177,7 @@ module _ (m : Machine) (switches : List Switch) (b : ℕ) where
 
 -- a member expired
 one_expired : (P : ℕ → Type 0) (last b turn board : ℕ) (o : Option Fired) → ((f : Fired) → board ≡ b → o ≡ Some f → f.reason ≡ 2 → P f.turn) → expired last board o ≡ Some (end.Expired b turn) → (turn ≤ last) × P turn
-one_expired P last b turn board None k e = cc
-one_expired P last b turn board (Some f) k e = by ((f.reason == 2) && nat_le f.turn last) refl e
-  where
-    by : (c : Bool) → ((f.reason == 2) && nat_le f.turn last) ≡ c → cond c (Some (end.Expired board f.turn)) None ≡ Some (end.Expired b turn) → (turn ≤ last) × P turn
-    by true is g =
-        let both = both_parts (f.reason == 2) (nat_le f.turn last) is in
-        let same : board ≡ b = cc in
-        let at : f.turn ≡ turn = cc in
-        let Holds : ℕ → Type 0 = λ n. (n ≤ last) × P n in
-        subst Holds at (was_le f.turn last both.1, k f same refl (eqb-true f.reason 2 both.0))
-    by false is g = cc
+one_expired P last b turn board o p6 p7 = search (rules, nat_le, both_parts, was_le, eqb-true)
 
 any_expired : (P : ℕ → Type 0) (last b turn : ℕ) (xs : List Seen) → SeenSo b P xs → first_expired last xs ≡ Some (end.Expired b turn) → (turn ≤ last) × P turn
 any_expired P last b turn [] k e = cc
@@ -240,10 +227,7 @@ last_at board tick t None g = refl
 last_at board tick t (Some turn) g = refl
 
 last_answer : (clocks : Clocks) (board turn : ℕ) (c : Cmd) (g : GroupState) → (hears_answer clocks board turn c g).last ≡ g.last
-last_answer clocks board turn (cmd.TrsyncState oid can reason clock) g =
-    let at = nearest (turn_tick clocks turn) clock in
-    last_at board at (record { can = not (can == 0); reason = reason; clock = clock }) (turn_in_run clocks at) g
-last_answer clocks board turn c g = refl
+last_answer clocks board turn c g = search (rules, nearest, turn_tick, last_at, turn_in_run)
 
 last_news : (clocks : Clocks) (board turn : ℕ) (ns : List News) (g : GroupState) → (hears_news clocks board turn ns g).last ≡ g.last
 last_news clocks board turn [] g = refl

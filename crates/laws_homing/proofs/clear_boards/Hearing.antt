@@ -1,5 +1,5 @@
 -- A homing group hears of each report of a member that it could trigger.
-use Rattle.std.proofs.Common.{◌≡◌, ℕ, zero, suc, ◌+◌, ◌<◌, ◌≤◌, ◌==◌, inl, inr, Bool, true, false, cond, not, List, [], ◌∷◌, length, map, Option, Some, None, refl, ap, sym, ◌∙◌, subst, arith}
+use Rattle.std.proofs.Common.{◌≡◌, ℕ, zero, suc, ◌+◌, ◌<◌, ◌≤◌, ◌==◌, inl, inr, Bool, true, false, cond, not, List, [], ◌∷◌, length, map, Option, Some, None, refl, ap, sym, ◌∙◌, subst, arith, rules}
 use Rattle.laws_board.proofs.Names.{eqb_tells, leb_tells, nearest, Clocks, clocks_at, turn_in_run, turn_tick, Cmd, News, State, Seen, GroupState, Homing, hears_all, state_at}
 use Rattle.std.specs.Prelude.{nat_le}
 use Rattle.plan_types.specs.declared.plan.TrigState.{TrigState}
@@ -61,17 +61,7 @@ record Heard (start b when : ℕ) (g : GroupState) : Type 0 where
   by : HeardBy start b when g.members
 
 came_more : (start b when board tick turn : ℕ) (s : TrigState) (g : GroupState) → Heard start b when g → Heard start b when (came board s tick turn g)
-came_more start b when board tick turn s g h = elim (leb_tells (suc turn) g.start) [
-  | inl p ↦ record { is = h.is; by = (let At : Bool → Type 0 = λ c. HeardBy start b when (cond c g.members (map (hears_from board s tick turn) g.members)) in subst At (sym p.0) h.by) }
-  | inr p ↦
-      let same = h.is in
-      let low = p.1 in
-      record {
-        is = h.is;
-        by = (let At : Bool → Type 0 = λ c. HeardBy start b when (cond c g.members (map (hears_from board s tick turn) g.members)) in
-            subst At (sym p.0) (more_all start b when board tick turn s g.members (omega (arith, same, low)) h.by));
-      }
-]
+came_more start b when board tick turn s g h = search (rules, leb_tells, more_all)
 
 came_new : (start board tick turn : ℕ) (s : TrigState) (g : GroupState) → g.start ≡ start → start ≤ turn → s.can ≡ true → Heard start board turn (came board s tick turn g)
 came_new start board tick turn s g is low can = elim (leb_tells (suc turn) g.start) [
@@ -84,11 +74,7 @@ at_more start b when board tick s None g h = h
 at_more start b when board tick s (Some turn) g h = came_more start b when board tick turn s g h
 
 at_new : (start board tick when : ℕ) (s : TrigState) (o : Option ℕ) (g : GroupState) → o ≡ Some when → g.start ≡ start → start ≤ when → s.can ≡ true → Heard start board when (came_at board s tick o g)
-at_new start board tick when s None g e is low can = cc
-at_new start board tick when s (Some turn) g e is low can =
-    let same : turn ≡ when = cc in
-    let At : ℕ → Type 0 = λ n. Heard start board n (came board s tick turn g) in
-    subst At same (came_new start board tick turn s g is (omega (arith, same, low)) can)
+at_new start board tick when s o g p7 p8 p9 p10 = search (rules, came_new)
 
 pub can_so : (can : ℕ) → (can ≡ 0 → ⊥) → not (can == 0) ≡ true
 can_so can n = elim (eqb_tells can 0) [ inl p ↦ absurd (n p.1) | inr p ↦ ap not p.0 ]
@@ -100,10 +86,7 @@ answer_more start b when board turn clocks (cmd.TrsyncState oid can reason clock
 answer_more start b when board turn clocks c g h = h
 
 answer_new : (start board turn when : ℕ) (clocks : Clocks) (c : Cmd) (g : GroupState) → g.start ≡ start → start ≤ when → IsAble clocks turn when c → Heard start board when (hears_answer clocks board turn c g)
-answer_new start board turn when clocks (cmd.TrsyncState oid can reason clock) g is low t =
-    let at = nearest (turn_tick clocks turn) clock in
-    at_new start board at when (record { can = not (can == 0); reason = reason; clock = clock }) (turn_in_run clocks at) g t.1 is low (can_so can t.0)
-answer_new start board turn when clocks c g is low t = absurd t
+answer_new start board turn when clocks c g p7 p8 p9 = search (rules, nearest, turn_tick, at_new, turn_in_run, can_so)
 
 -- a group keeps its start
 starts_at : (board tick : ℕ) (s : TrigState) (o : Option ℕ) (g : GroupState) → (came_at board s tick o g).start ≡ g.start
@@ -111,10 +94,7 @@ starts_at board tick s None g = refl
 starts_at board tick s (Some turn) g = refl
 
 starts_answer : (board turn : ℕ) (clocks : Clocks) (c : Cmd) (g : GroupState) → (hears_answer clocks board turn c g).start ≡ g.start
-starts_answer board turn clocks (cmd.TrsyncState oid can reason clock) g =
-    let at = nearest (turn_tick clocks turn) clock in
-    starts_at board at (record { can = not (can == 0); reason = reason; clock = clock }) (turn_in_run clocks at) g
-starts_answer board turn clocks c g = refl
+starts_answer board turn clocks c g = search (rules, nearest, turn_tick, starts_at, turn_in_run)
 
 news_more : (start b when board turn : ℕ) (clocks : Clocks) (ns : List News) (g : GroupState) → Heard start b when g → Heard start b when (hears_news clocks board turn ns g)
 news_more start b when board turn clocks [] g h = h
@@ -139,17 +119,10 @@ state_more start b when board from clocks s g h = by (nat_le from (s.turn + 1))
     by false = h
 
 starts_state : (board from : ℕ) (clocks : Clocks) (s : State) (g : GroupState) → (hears_state clocks board from s g).start ≡ g.start
-starts_state board from clocks s g = by (nat_le from (s.turn + 1))
-  where
-    by : (c : Bool) → (cond c (hears_news clocks board s.turn s.news g) g).start ≡ g.start
-    by true = starts_news board s.turn clocks s.news g
-    by false = refl
+starts_state board from clocks s g = search (rules, nat_le, starts_news)
 
 state_new : (start board when from : ℕ) (clocks : Clocks) (s : State) (g : GroupState) → g.start ≡ start → start ≤ when → from ≤ s.turn + 1 → TellAble clocks s.turn when s.news → Heard start board when (hears_state clocks board from s g)
-state_new start board when from clocks s g is low late t = elim (leb_tells from (s.turn + 1)) [
-  | inl p ↦ let At : Bool → Type 0 = λ c. Heard start board when (cond c (hears_news clocks board s.turn s.news g) g) in subst At (sym p.0) (news_new start board s.turn when clocks s.news g is low t)
-  | inr p ↦ absurd (let far = p.1 in omega (arith, far, late))
-]
+state_new start board when from clocks s g is low late t = search (rules, leb_tells, news_new)
 
 states_more : (start b when board from : ℕ) (clocks : List Clocks) (states : List State) (g : GroupState) → Heard start b when g → Heard start b when (hears_states clocks board from states g)
 states_more start b when board from [] states g h = h

@@ -1,5 +1,5 @@
 -- Triggers that expire at one tick only.
-use Rattle.std.proofs.Common.{◌≡◌, ℕ, zero, suc, ◌≤◌, ◌==◌, Bool, true, false, List, [], ◌∷◌, length, Option, Some, None, refl, sym, ◌∙◌, arith, ◌⊎◌, inl, inr, ◌^◌, ap, ◌%◌, ◌++◌}
+use Rattle.std.proofs.Common.{◌≡◌, ℕ, zero, suc, ◌≤◌, ◌==◌, Bool, true, false, List, [], ◌∷◌, length, Option, Some, None, refl, sym, ◌∙◌, arith, ◌⊎◌, inl, inr, ◌^◌, ap, ◌%◌, ◌++◌, rules}
 use Rattle.std.specs.Prelude.{if◌then◌else◌}
 use Rattle.laws_board.proofs.Names.{Level, nearest, Sampling, Trigger, Happening, Nothing, Expires, Switches, Reports, Cmd, Rig, Slot, takes, pass}
 use Rattle.board_trig.specs.declared.sampling.Homing.{Homing}
@@ -53,21 +53,7 @@ says_held : (tick : ℕ) (s u : Slot) (n : ℕ) → s.trigger.untold ≡ Some n 
 says_held tick s u n e h = absurd (let bad : None ≡ Some n = sym h.told ∙ e in cc)
 
 follows_held : (tick : ℕ) → Follows (Held tick) IsFitCommand
-follows_held tick = record {
-  made = λ pins now oid fit. record { told = refl; moves = tt; other = λ y e. absurd (cc); expiry = λ e two. absurd (let bad : 0 ≡ 2 = two in cc) };
-  starts = λ pins now oid s clock every reason fit h. record { told = h.told; moves = h.moves; other = h.other; expiry = λ e. absurd (let bad : true ≡ false = e in cc) };
-  limits = λ pins now oid s clock fit can ahead h. record { told = h.told; moves = h.moves; other = h.other; expiry = h.expiry };
-  expires = λ pins now oid s clock fit can past h. absurd (omega (arith, fit, past));
-  says = λ pins oid s n e h. says_held tick s _ n e h;
-  fires = λ pins now oid s reason fit can h. record { told = h.told; moves = tt; other = λ y e. absurd (cc); expiry = λ e two. absurd (fit two) };
-  binds = λ pins now oid s i fit h. record { told = h.told; moves = h.moves; other = h.other; expiry = h.expiry };
-  homes = λ pins now oid s i pin g fit h. record {
-    told = h.told;
-    moves = sampling_moves (g.sample_count == 0) now g;
-    other = λ y e. sampling_other (g.sample_count == 0) now g y fit e;
-    expiry = h.expiry;
-  };
-}
+follows_held tick = search (rules, says_held, sampling_moves, sampling_other)
 
 tells_held : (P : List (List Level) → ℕ → Slot → Type 0) (tick room : ℕ) → ((pins : List (List Level)) (oid : ℕ) (s : Slot) → P pins oid s → IsTriggerHeld tick s) → Tells P room (TellsOnly tick)
 tells_held P tick room held = record { own = λ pins oid n s l k. state_tells tick n oid s.trigger (held pins oid s k).expiry; other = other_tells tick }
@@ -82,16 +68,7 @@ abbrev Fell : ℕ → (List (List Level) → ℕ → Slot → Type 0)
 Fell tick pins oid s = IsTriggerHeld tick s × (s.trigger.can ≡ false)
 
 sets_held : (tick : ℕ) → Follows (Fell tick) (λ now c. SetsTimeout c)
-sets_held tick = record {
-  made = λ pins now oid fit. absurd fit;
-  starts = λ pins now oid s clock every reason fit h. absurd fit;
-  limits = λ pins now oid s clock fit can ahead h. absurd (let bad : true ≡ false = sym can ∙ h.1 in cc);
-  expires = λ pins now oid s clock fit can past h. absurd (let bad : true ≡ false = sym can ∙ h.1 in cc);
-  says = λ pins oid s n e h. (says_held tick s _ n e h.0, h.1);
-  fires = λ pins now oid s reason fit can h. absurd fit;
-  binds = λ pins now oid s i fit h. absurd fit;
-  homes = λ pins now oid s i pin g fit h. absurd fit;
-}
+sets_held tick = search (rules, says_held)
 
 pub limit_held : (tick : ℕ) (r : Rig) (oid clock : ℕ) → AllFired r → AllHeld tick r → let d = takes r (cmd.TrsyncSetTimeout oid clock) in AllHeld tick d.rig × AllTellOnly tick d.answers
 limit_held tick r oid clock fired all =
@@ -123,12 +100,7 @@ abbrev Far : ℕ → ℕ → Trigger → Type 0
 Far until tick t = (x : ℕ) → ExpiresAt t x → (until ≤ x) ⊎ (x ≡ tick)
 
 quiet_held : (tick : ℕ) (levels : List Level) (until : ℕ) (s : Slot) → IsTriggerHeld tick s → IsTriggerHeld tick (record s { trigger = (trig.happened levels until Nothing s.trigger).trigger })
-quiet_held tick levels until s h = record {
-  told = h.told;
-  moves = quiet_moves s.trigger.sampling levels until h.moves;
-  other = read_other s.trigger.sampling levels until h.other;
-  expiry = h.expiry;
-}
+quiet_held tick levels until s h = search (rules, quiet_moves, read_other)
 
 pub switch_reason : (o : Option Sampling) (y : Sampling) → o ≡ Some y → trig.reason_of o ≡ y.reason
 switch_reason None y e = cc

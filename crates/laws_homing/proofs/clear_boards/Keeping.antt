@@ -1,5 +1,5 @@
 -- A group that hears what boards told keeps all else.
-use Rattle.std.proofs.Common.{◌≡◌, ℕ, ◌+◌, ◌==◌, Bool, true, false, cond, not, List, [], ◌∷◌, map, Option, Some, None, refl, ap, ◌∙◌}
+use Rattle.std.proofs.Common.{◌≡◌, ℕ, ◌+◌, ◌==◌, Bool, true, false, cond, not, List, [], ◌∷◌, map, Option, Some, None, refl, ap, ◌∙◌, rules}
 use Rattle.std.specs.Prelude.{◌||◌, nat_le, nat_lt}
 use Rattle.plan_types.specs.declared.plan.TrigState.{TrigState}
 use Rattle.laws_board.proofs.Names.{nearest, Clocks, turn_in_run, turn_tick, Cmd, News, State, Seen, GroupState, Homing, hears_all}
@@ -27,21 +27,14 @@ any_still last board tick turn s (x ∷ xs) e =
     (one_still last (x.member.board == board) s.can s tick turn x) (any_still last board tick turn s xs) e
 
 came_keeps : (board tick turn : ℕ) (s : TrigState) (g : GroupState) → Hears g (came board s tick turn g)
-came_keeps board tick turn s g = record { start = refl; last = refl; sent = refl; relay = refl; fired = by (nat_lt turn g.start) }
-  where
-    by : (c : Bool) → any_fired_by g.last g.members ≡ true → any_fired_by g.last (cond c g.members (map (hears_from board s tick turn) g.members)) ≡ true
-    by true e = e
-    by false e = any_still g.last board tick turn s g.members e
+came_keeps board tick turn s g = search (rules, nat_lt, any_still)
 
 at_keeps : (board tick : ℕ) (s : TrigState) (o : Option ℕ) (g : GroupState) → Hears g (came_at board s tick o g)
 at_keeps board tick s None g = same g
 at_keeps board tick s (Some turn) g = came_keeps board tick turn s g
 
 answer_keeps : (clocks : Clocks) (board turn : ℕ) (c : Cmd) (g : GroupState) → Hears g (hears_answer clocks board turn c g)
-answer_keeps clocks board turn (cmd.TrsyncState oid can reason clock) g =
-    let at = nearest (turn_tick clocks turn) clock in
-    at_keeps board at (record { can = not (can == 0); reason = reason; clock = clock }) (turn_in_run clocks at) g
-answer_keeps clocks board turn c g = same g
+answer_keeps clocks board turn c g = search (rules, nearest, turn_tick, at_keeps, turn_in_run, same)
 
 news_keep : (clocks : Clocks) (board turn : ℕ) (ns : List News) (g : GroupState) → Hears g (hears_news clocks board turn ns g)
 news_keep clocks board turn [] g = same g
@@ -49,11 +42,7 @@ news_keep clocks board turn (n ∷ ns) g =
     next g (hears_answer clocks board turn n.answer g) (hears_news clocks board turn ns (hears_answer clocks board turn n.answer g)) (answer_keeps clocks board turn n.answer g) (news_keep clocks board turn ns (hears_answer clocks board turn n.answer g))
 
 state_keeps : (clocks : Clocks) (board start : ℕ) (s : State) (g : GroupState) → Hears g (hears_state clocks board start s g)
-state_keeps clocks board start s g = by (nat_le start (s.turn + 1))
-  where
-    by : (c : Bool) → Hears g (cond c (hears_news clocks board s.turn s.news g) g)
-    by true = news_keep clocks board s.turn s.news g
-    by false = same g
+state_keeps clocks board start s g = search (rules, nat_le, news_keep, same)
 
 states_keep : (clocks : List Clocks) (board start : ℕ) (states : List State) (g : GroupState) → Hears g (hears_states clocks board start states g)
 states_keep [] board start states g = same g

@@ -1,5 +1,5 @@
 -- A homing group knows of each member that is told to have triggered, and goes on knowing it.
-use Rattle.std.proofs.Common.{◌≡◌, ℕ, zero, suc, ◌+◌, ◌<◌, ◌≤◌, ◌==◌, inl, inr, Bool, true, false, cond, not, List, [], ◌∷◌, length, map, Option, Some, None, refl, ap, sym, ◌∙◌, subst, arith, ◌⊎◌}
+use Rattle.std.proofs.Common.{◌≡◌, ℕ, zero, suc, ◌+◌, ◌<◌, ◌≤◌, ◌==◌, inl, inr, Bool, true, false, cond, not, List, [], ◌∷◌, length, map, Option, Some, None, refl, ap, sym, ◌∙◌, subst, arith, ◌⊎◌, rules}
 use Rattle.laws_board.proofs.Names.{eqb_tells, leb_tells, nearest, Clocks, clocks_at, turn_in_run, turn_tick, Cmd, News, State, Fired, Seen, GroupState, Homing, hears_all, state_at}
 use Rattle.std.specs.Prelude.{nat_le, nat_lt}
 use Rattle.plan_types.specs.declared.plan.TrigState.{TrigState}
@@ -79,26 +79,13 @@ record Knows (start b last : ℕ) (g : GroupState) : Type 0 where
   on : KnownOn b last g.members
 
 came_still : (start b last board tick turn : ℕ) (s : TrigState) (g : GroupState) → Fires start b last g → Fires start b last (came board s tick turn g)
-came_still start b last board tick turn s g k = record { is = k.is; on = by (nat_lt turn g.start) }
-  where
-    by : (c : Bool) → FiredOn b last (cond c g.members (map (hears_from board s tick turn) g.members))
-    by true = k.on
-    by false = all_still b last board tick turn s g.members k.on
+came_still start b last board tick turn s g k = search (rules, nat_lt, all_still)
 
 came_known : (start b last board tick turn : ℕ) (s : TrigState) (g : GroupState) → (board ≡ b → s.can ≡ false → turn ≤ last) → Knows start b last g → Knows start b last (came board s tick turn g)
-came_known start b last board tick turn s g low k = record { is = k.is; on = by (nat_lt turn g.start) }
-  where
-    by : (c : Bool) → KnownOn b last (cond c g.members (map (hears_from board s tick turn) g.members))
-    by true = k.on
-    by false = all_known b last board tick turn s g.members low k.on
+came_known start b last board tick turn s g low k = search (rules, nat_lt, all_known)
 
 came_new : (start last board tick turn : ℕ) (s : TrigState) (g : GroupState) → s.can ≡ false → start ≤ turn → turn ≤ last → Knows start board last g → Fires start board last (came board s tick turn g)
-came_new start last board tick turn s g can from low k = elim (leb_tells (suc turn) g.start) [
-  | inl p ↦ absurd (let far = p.1 in let is = k.is in omega (arith, far, is, from))
-  | inr p ↦
-      let At : Bool → Type 0 = λ c. FiredOn board last (cond c g.members (map (hears_from board s tick turn) g.members)) in
-      record { is = k.is; on = subst At (sym p.0) (all_new last board tick turn s g.members can low k.on) }
-]
+came_new start last board tick turn s g can from low k = search (rules, leb_tells, all_new)
 
 at_still : (start b last board tick : ℕ) (s : TrigState) (o : Option ℕ) (g : GroupState) → Fires start b last g → Fires start b last (came_at board s tick o g)
 at_still start b last board tick s None g k = k
@@ -171,12 +158,7 @@ state_known start b last board from clocks s g all k = elim (leb_tells from (s.t
 ]
 
 state_new : (start last board from : ℕ) (clocks : Clocks) (s : State) (g : GroupState) → from ≤ s.turn + 1 → AllFiredIn clocks s.turn start last s.news → SayFired s.news → Knows start board last g → Fires start board last (hears_state clocks board from s g)
-state_new start last board from clocks s g late all t k = elim (leb_tells from (s.turn + 1)) [
-  | inl p ↦
-      let At : Bool → Type 0 = λ c. Fires start board last (cond c (hears_news clocks board s.turn s.news g) g) in
-      subst At (sym p.0) (news_new start last board s.turn clocks s.news g all t k)
-  | inr p ↦ absurd (let far = p.1 in omega (arith, far, late))
-]
+state_new start last board from clocks s g late all t k = search (rules, leb_tells, news_new)
 
 -- the states of all boards
 states_still : (start b last board from : ℕ) (clocks : List Clocks) (states : List State) (g : GroupState) → Fires start b last g → Fires start b last (hears_states clocks board from states g)
@@ -247,11 +229,7 @@ all_none b board tick turn s (x ∷ xs) low k =
     )
 
 came_none : (b board tick turn : ℕ) (s : TrigState) (g : GroupState) → (board ≡ b → s.can ≡ true) → NoneOn b g.members → NoneOn b (came board s tick turn g).members
-came_none b board tick turn s g low k = by (nat_lt turn g.start)
-  where
-    by : (c : Bool) → NoneOn b (cond c g.members (map (hears_from board s tick turn) g.members))
-    by true = k
-    by false = all_none b board tick turn s g.members low k
+came_none b board tick turn s g low k = search (rules, nat_lt, all_none)
 
 at_none : (b board tick : ℕ) (s : TrigState) (o : Option ℕ) (g : GroupState) → (board ≡ b → s.can ≡ true) → NoneOn b g.members → NoneOn b (came_at board s tick o g).members
 at_none b board tick s None g low k = k

@@ -1,5 +1,5 @@
 -- A board of a homing group over a turn of a clear link.
-use Rattle.std.proofs.Common.{◌≡◌, ℕ, ◌<◌, ◌≤◌, List, [], ◌∷◌, ◌++◌, length, Option, Some, None, ap, sym, ◌∙◌, subst, arith}
+use Rattle.std.proofs.Common.{◌≡◌, ℕ, ◌<◌, ◌≤◌, List, [], ◌∷◌, ◌++◌, length, Option, Some, None, ap, sym, ◌∙◌, subst, arith, rules}
 use Rattle.std.specs.Prelude.{nat_lt}
 use Rattle.laws_board.proofs.Names.{BoardState, Running, nearest, Cmd, Trigger, Rig, Slot, acts, acts_running, expires_at_once, passes, set_timeout, slot_at, takes, takes_all, AllSound, says}
 use Rattle.msg_code.specs.declared.cmd.Cmd.TheVariants as cmd
@@ -36,26 +36,10 @@ once_spoken base limit until None r oid s t e = tt
 once_spoken base limit until (Some n) r oid s t e = absurd (cc)
 
 timeout_spoken : (base limit until oid clock : ℕ) (r : Rig) (s : Slot) → s.trigger.untold ≡ None → r.controller.tick < nearest r.controller.tick clock → AreSpoken base limit until (set_timeout r oid (Some s) clock).answers
-timeout_spoken base limit until oid clock r s told ahead =
-    let now = r.controller.tick in
-    let at = nearest now clock in
-    let x = timed_is s.trigger.can (nat_lt now at) now at s.trigger (is_less now at ahead) in
-    let t = trig.with_timeout now clock s.trigger in
-    once_spoken base limit until t.untold r oid s t (ap (λ (y : Trigger). y.untold) x.1 ∙ told)
+timeout_spoken base limit until oid clock r s told ahead = search (rules, nearest, timed_is, nat_lt, is_less, once_spoken)
 
 acts_spoken : (base limit until oid clock : ℕ) (r : Rig) (c : Cmd) (s : Slot) → slot_at r oid ≡ Some s → s.trigger.untold ≡ None → r.controller.tick < nearest r.controller.tick clock → IsSentBehind oid clock c → (Relays c → ⊥) → AreSpoken base limit until (acts r c).answers
-acts_spoken base limit until oid clock r (cmd.TrsyncSetTimeout other at) s there told ahead k none =
-    let At : ℕ → Type 0 = λ i. AreSpoken base limit until (set_timeout r i (slot_at r i) at).answers in
-    let Of : Option Slot → Type 0 = λ o. AreSpoken base limit until (set_timeout r oid o at).answers in
-    let Clock : ℕ → Type 0 = λ n. r.controller.tick < nearest r.controller.tick n in
-    subst At (sym k.0) (subst Of (sym there) (timeout_spoken base limit until oid at r s told (subst Clock (sym k.1) ahead)))
-acts_spoken base limit until oid clock r (cmd.TrsyncTrigger other reason) s there told ahead k none = absurd (none tt)
-acts_spoken base limit until oid clock r (cmd.ConfigTrsync other) s there told ahead k none = absurd k
-acts_spoken base limit until oid clock r (cmd.TrsyncStart other at every reason) s there told ahead k none = absurd k
-acts_spoken base limit until oid clock r (cmd.StepperStopOnTrigger stepper other) s there told ahead k none = absurd k
-acts_spoken base limit until oid clock r (cmd.ConfigEndstop other pin pull) s there told ahead k none = absurd k
-acts_spoken base limit until oid clock r (cmd.EndstopHome other at sample count rest value trigger reason) s there told ahead k none = absurd k
-acts_spoken base limit until oid clock r c s there told ahead k none = others_spoken base limit until (board_takes r.controller c).answers (board_tells r.controller c)
+acts_spoken base limit until oid clock r c s p8 p9 p10 p11 p12 = search (rules, set_timeout, slot_at, nearest, timeout_spoken, others_spoken, board_tells)
 
 pub takes_spoken : (base limit until oid clock now : ℕ) (r : Rig) (cs : List Cmd) (s : Slot) → (takes_all r cs).rig.controller.state ≡ Running → slot_at r oid ≡ Some s → s.trigger.untold ≡ None → r.controller.tick ≡ now → now < nearest now clock → AreSentBehind oid clock cs
     → RelayNone cs → AreSpoken base limit until (takes_all r cs).answers

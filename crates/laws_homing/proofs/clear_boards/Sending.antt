@@ -1,5 +1,5 @@
 -- What a homing group orders from its start on becomes commands behind the set-up.
-use Rattle.std.proofs.Common.{◌≡◌, ℕ, suc, ◌+◌, ◌<◌, ◌≤◌, ◌==◌, inl, inr, Bool, true, false, List, [], ◌∷◌, ◌++◌, Option, Some, None, refl, ap, sym, ◌∙◌, subst, arith, ◌⊎◌, max}
+use Rattle.std.proofs.Common.{◌≡◌, ℕ, suc, ◌+◌, ◌<◌, ◌≤◌, ◌==◌, inl, inr, Bool, true, false, List, [], ◌∷◌, ◌++◌, Option, Some, None, refl, ap, sym, ◌∙◌, subst, arith, ◌⊎◌, max, rules}
 use Rattle.std.specs.Prelude.{if◌then◌else◌, nat_lt}
 use Rattle.std.specs.List.{Contains}
 use Rattle.laws_board.proofs.Names.{eqb_tells, leb_tells, AxisDef, Machine, Clocks, turn_tick, Cmd, Ctl, Order, Fired, Seen, GroupState, turned_group, all_fired, relay_in, relays_in, round_of, command_to, commands_to, low, order_command, trigger_of}
@@ -76,13 +76,7 @@ module _ (m : Machine) (clocks : Clocks) (b start : ℕ) (axis : AxisDef) where
   commands_both xs ys = Rattle.laws_homing.proofs.home_runs.Setting.commands_both m clocks b start axis xs ys
 
   timed_one : (timeout : ℕ) (what : Order) → what ≡ order.Timeout timeout → (here : Bool) → let cs : List Cmd = if here then order_command m clocks b start axis what ∷ [] else [] in AreSentBehind (trigger_of m b) (low (turn_tick clocks timeout)) cs × RelayNone cs
-  timed_one timeout what e here =
-      let At : Order → Type 0 = λ w. let cs : List Cmd = if here then order_command m clocks b start axis w ∷ [] else [] in AreSentBehind (trigger_of m b) (low (turn_tick clocks timeout)) cs × RelayNone cs in
-      subst At (sym e) (by here)
-    where
-      by : (h : Bool) → let cs : List Cmd = if h then order_command m clocks b start axis (order.Timeout timeout) ∷ [] else [] in AreSentBehind (trigger_of m b) (low (turn_tick clocks timeout)) cs × RelayNone cs
-      by true = (((refl, refl), tt), ((λ r. r), tt))
-      by false = (tt, tt)
+  timed_one timeout what e here = search (rules, order_command, trigger_of, low, turn_tick)
 
   timed_commands : (timeout : ℕ) (ctls : List Ctl) → AreTimed timeout ctls → AreSentBehind (trigger_of m b) (low (turn_tick clocks timeout)) (Commands ctls) × RelayNone (Commands ctls)
   timed_commands timeout [] k = (tt, tt)
@@ -92,13 +86,7 @@ module _ (m : Machine) (clocks : Clocks) (b start : ℕ) (axis : AxisDef) where
       (behind_both (trigger_of m b) (low (turn_tick clocks timeout)) (command_to m clocks b start axis c) (Commands ctls) one.0 rest.0, none_both (command_to m clocks b start axis c) (Commands ctls) one.1 rest.1)
 
   relay_one : (clock : ℕ) (what : Order) → what ≡ order.Trigger → (here : Bool) → AreSentBehind (trigger_of m b) clock (if here then order_command m clocks b start axis what ∷ [] else [])
-  relay_one clock what e here =
-      let At : Order → Type 0 = λ w. AreSentBehind (trigger_of m b) clock (if here then order_command m clocks b start axis w ∷ [] else []) in
-      subst At (sym e) (by here)
-    where
-      by : (h : Bool) → AreSentBehind (trigger_of m b) clock (if h then order_command m clocks b start axis order.Trigger ∷ [] else [])
-      by true = ((refl, refl), tt)
-      by false = tt
+  relay_one clock what e here = search (rules, trigger_of, order_command)
 
   relay_commands : (clock : ℕ) (ctls : List Ctl) → AreRelays ctls → AreSentBehind (trigger_of m b) clock (Commands ctls)
   relay_commands clock [] k = tt
@@ -132,12 +120,7 @@ module _ (m : Machine) (clocks : Clocks) (b start : ℕ) (axis : AxisDef) where
   -- what a group orders in a turn
   timeouts_if : (g : GroupState) (turn : ℕ) (c : Bool) → nat_lt g.sent (limit g) ≡ c → (turned_group g turn).sent ≡ max g.sent (limit g) → let ctls : List Ctl = if c then round_of (Timeouts (limit g)) g.members else [] in
       AreSentBehind (trigger_of m b) (low (turn_tick clocks (turned_group g turn).sent)) (Commands ctls) × RelayNone (Commands ctls)
-  timeouts_if g turn false e is = (tt, tt)
-  timeouts_if g turn true e is =
-      let less : g.sent < limit g = (elim (leb_tells (g.sent + 1) (limit g)) [ inl p ↦ (let l = p.1 in omega (arith, l)) | inr p ↦ absurd (let n = p.0 in let f : g.sent + 1 ≡ 1 + g.sent = omega arith in grind arith) ]) in
-      let same : (turned_group g turn).sent ≡ limit g = omega (arith, is, less) in
-      let At : ℕ → Type 0 = λ n. AreSentBehind (trigger_of m b) (low (turn_tick clocks n)) (Commands (round_of (Timeouts (limit g)) g.members)) × RelayNone (Commands (round_of (Timeouts (limit g)) g.members)) in
-      subst At (sym same) (timed_commands (limit g) (round_of (Timeouts (limit g)) g.members) (timed_round (limit g) g.members))
+  timeouts_if g turn c p3 p4 = search (rules, leb_tells, turned_group, trigger_of, low, turn_tick, round_of, timed_commands, timed_round)
 
   relays_if : (clock : ℕ) (g : GroupState) (c : Bool) → AreSentBehind (trigger_of m b) clock (Commands (if c then round_of Relays g.members else []))
   relays_if clock g true = relay_commands clock (round_of Relays g.members) (relay_round g.members)
@@ -172,13 +155,7 @@ module _ (m : Machine) (clocks : Clocks) (b start : ℕ) (axis : AxisDef) where
 
   -- where the last timeout is the one behind the section's last turn, none is sent
   relay_sets : (what : Order) → what ≡ order.Trigger → (here : Bool) → SetsNone (if here then order_command m clocks b start axis what ∷ [] else [])
-  relay_sets what e here =
-      let At : Order → Type 0 = λ w. SetsNone (if here then order_command m clocks b start axis w ∷ [] else []) in
-      subst At (sym e) (by here)
-    where
-      by : (h : Bool) → SetsNone (if h then order_command m clocks b start axis order.Trigger ∷ [] else [])
-      by true = ((λ x. x), tt)
-      by false = tt
+  relay_sets what e here = search (rules, order_command)
 
   relays_set : (ctls : List Ctl) → AreRelays ctls → SetsNone (Commands ctls)
   relays_set [] k = tt
@@ -189,14 +166,7 @@ module _ (m : Machine) (clocks : Clocks) (b start : ℕ) (axis : AxisDef) where
   relays_none g false = tt
 
   pub ordered_far : (g : GroupState) (turn : ℕ) → g.start ≤ turn → all_fired g.members ≡ false → g.sent ≡ g.last + 1 → SetsNone (Commands (orders g turn))
-  ordered_far g turn low_so fired far =
-      let front = if nat_lt g.sent (limit g) then round_of (Timeouts (limit g)) g.members else [] in
-      let rest = if relays_in (relay_in g turn) turn then round_of Relays g.members else [] in
-      let most : limit g ≤ g.last + 1 = omega arith in
-      let not : nat_lt g.sent (limit g) ≡ false = elim (leb_tells (suc g.sent) (limit g)) [ inl p ↦ absurd (let l = p.1 in omega (arith, l, most, far)) | inr p ↦ p.0 ] in
-      let empty : front ≡ [] = ap (λ (c : Bool). if c then round_of (Timeouts (limit g)) g.members else []) not in
-      let same : Commands (orders g turn) ≡ Commands rest = ap Commands (orders_are g turn low_so fired) ∙ commands_both front rest ∙ ap (λ (x : List Ctl). Commands x ++ Commands rest) empty in
-      subst SetsNone (sym same) (relays_none g (relays_in (relay_in g turn) turn))
+  ordered_far g turn low_so fired far = search (rules, nat_lt, round_of, relays_in, relay_in, leb_tells, orders_are, commands_both, relays_none)
 
 -- what is behind the set-up whatever timeout was sent sets none
 one_unset : (oid : ℕ) (c : Cmd) → ((clock : ℕ) → IsSentBehind oid clock c) → SetsTimeout c → ⊥

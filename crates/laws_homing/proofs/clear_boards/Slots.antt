@@ -1,5 +1,5 @@
 -- What holds of each trigger of a board is carried over time, and over commands, by what these make of one trigger.
-use Rattle.std.proofs.Common.{◌≡◌, ◌≢◌, ℕ, zero, suc, ◌+◌, ◌/◌, ◌%◌, ◌^◌, ◌<◌, ◌≤◌, Bool, true, false, List, [], ◌∷◌, length, get_or, set, Option, Some, None, refl, ap, sym, ◌∙◌, subst, arith, ◌⊎◌, inl, inr}
+use Rattle.std.proofs.Common.{◌≡◌, ◌≢◌, ℕ, zero, suc, ◌+◌, ◌/◌, ◌%◌, ◌^◌, ◌<◌, ◌≤◌, Bool, true, false, List, [], ◌∷◌, length, get_or, set, Option, Some, None, refl, ap, sym, ◌∙◌, subst, arith, ◌⊎◌, inl, inr, rules}
 use Rattle.std.specs.Prelude.{if◌then◌else◌, slice_index_or, nat_le, nat_lt}
 use Rattle.laws_board.proofs.Names.{leb_tells, get_or-set_same, length-map, Level, BoardState, Running, Shut, nearest, Pending, Trigger, Happening, Nothing, Expires, Switches, Reports, Cmd, Passed, Rig, Slot, acts, acts_running, all_left, at_of, becomes, earliest_moment, expires_at_once, goes_on, happens_to, pass, passes, passes_by, rests_to, runs_to, set_timeout, slot_at, takes, takes_all, slot_range, says, no_both}
 use Rattle.std.proofs.lemmas.List.{get_or-set_other, length-set}
@@ -43,13 +43,7 @@ moment_none Nothing m = refl
 moment_none c m = absurd (cc)
 
 sooner_none : (oid : ℕ) (m : Option ℕ) (rest : Option (ℕ × ℕ)) → sooner oid m rest ≡ None → (m ≡ None) × (rest ≡ None)
-sooner_none oid None rest e = (refl, e)
-sooner_none oid (Some m) None e = absurd (cc)
-sooner_none oid (Some m) (Some rest) e = absurd (by (nat_le m rest.0) e)
-  where
-    by : (b : Bool) → (if b then Some (m, oid) else Some rest) ≡ None → ⊥
-    by true f = cc
-    by false f = cc
+sooner_none oid m rest p3 = search (rules, nat_le)
 
 pub none_next : (r : Rig) (until oid p : ℕ) (ss : List (Option Slot)) (s : Slot) → get_or ss p None ≡ Some s → earliest_moment r until oid ss ≡ None → moment_in r until (Some s) ≡ None
 none_next r until oid p [] s at e = absurd (cc)
@@ -215,11 +209,7 @@ module _ (P : List (List Level) → ℕ → Slot → Type 0) where
       comes_told pins oid s (Reports at) l k = (tells.own pins oid at (with_trigger s (trig.happened (levels_at pins s) until (Reports at) s.trigger).trigger) l k, tt)
 
       tells_one : (o : Option ℕ) (pins : List (List Level)) (oid : ℕ) (s : Slot) → oid < room → s.trigger.untold ≡ o → P pins oid s → One pins oid s (trig.tells o (levels_at pins s) until s.trigger)
-      tells_one None pins oid s l e k =
-          let next = trig.next_happening (levels_at pins s) until s.trigger in
-          let new = lasts.comes pins oid s next (next_is (levels_at pins s) until s.trigger) k in
-          (new, comes_told pins oid s next l new)
-      tells_one (Some n) pins oid s l e k = let new = lasts.says pins oid s n e k in (new, (tells.own pins oid n (with_trigger s (record s.trigger { untold = None })) l new, tt))
+      tells_one o pins oid s p4 p5 p6 = search (rules, next_is, comes_told)
 
       happens_both : (oid : ℕ) (r : Rig) (o : Option Slot) → Few r → slot_at r oid ≡ o → OfEach r → Both (Unit {0}) r (happens_to r until oid o).rig (happens_to r until oid o).answers
       happens_both oid r None few e all = quietly (Unit {0}) r r (same_turned (Unit {0}) r r refl refl refl all)

@@ -1,5 +1,5 @@
 -- The reasons and clocks of what a board tells of its triggers fit.
-use Rattle.std.proofs.Common.{◌≡◌, ℕ, ◌^◌, ◌<◌, List, [], ◌∷◌, ◌++◌, length, Option, Some, None, refl, arith}
+use Rattle.std.proofs.Common.{◌≡◌, ℕ, ◌^◌, ◌<◌, List, [], ◌∷◌, ◌++◌, length, Option, Some, None, refl, arith, rules}
 use Rattle.std.specs.Prelude.{if◌then◌else◌}
 use Rattle.laws_board.proofs.Names.{Level, Sampling, Happening, Nothing, Expires, Switches, Reports, Cmd, Rig, Slot, passes, takes_all, says}
 use Rattle.board_trig.specs.Trigger as trig
@@ -21,11 +21,7 @@ reason_small None k = omega arith
 reason_small (Some y) k = k y refl
 
 happened_small : (levels : List Level) (until : ℕ) (e : Happening) (s : Slot) → HasSmall s → HasSmall (with_trigger s (trig.happened levels until e s.trigger).trigger)
-happened_small levels until Nothing s k =
-    record { reason = k.reason; expire = k.expire; sampled = λ y is. (let x = read_reason s.trigger.sampling levels until y is in let small = k.sampled x.0 x.1 in let same = x.2 in omega (arith, small, same)) }
-happened_small levels until (Expires at) s k = record { reason = k.expire; expire = k.expire; sampled = λ y is. absurd (cc) }
-happened_small levels until (Switches at) s k = record { reason = reason_small s.trigger.sampling k.sampled; expire = k.expire; sampled = λ y is. absurd (cc) }
-happened_small levels until (Reports at) s k = record { reason = k.reason; expire = k.expire; sampled = k.sampled }
+happened_small levels until e s p4 = search (rules, read_reason, reason_small)
 
 -- and to all of a board
 abbrev Small : List (List Level) → ℕ → Slot → Type 0
@@ -35,16 +31,7 @@ lasts_small : (until : ℕ) → Lasts Small until
 lasts_small until = record { comes = λ pins oid s e next k. happened_small (levels_at pins s) until e s k; says = λ pins oid s n e k. record { reason = k.reason; expire = k.expire; sampled = k.sampled } }
 
 follows_small : (oid clock : ℕ) → Follows Small (λ now c. IsSentBehind oid clock c)
-follows_small oid clock = record {
-  made = λ pins now other fit. absurd fit;
-  starts = λ pins now other s at every reason fit k. absurd fit;
-  limits = λ pins now other s at fit can ahead k. record { reason = k.reason; expire = k.expire; sampled = k.sampled };
-  expires = λ pins now other s at fit can past k. record { reason = k.expire; expire = k.expire; sampled = λ y is. absurd (cc) };
-  says = λ pins other s n e k. record { reason = k.reason; expire = k.expire; sampled = k.sampled };
-  fires = λ pins now other s reason fit can k. record { reason = (let three = fit.1 in omega (arith, three)); expire = k.expire; sampled = λ y is. absurd (cc) };
-  binds = λ pins now other s i fit k. absurd fit;
-  homes = λ pins now other s i pin g fit k. absurd fit;
-}
+follows_small oid clock = search (rules, says)
 
 tells_small : (room : ℕ) → Tells Small room IsSmall
 tells_small room = record { own = λ pins oid n s l k. (k.reason, clock_small (if s.trigger.can then n else s.trigger.tick)); other = other_small }

@@ -1,5 +1,5 @@
 -- A board of a homing group whose trigger can trigger, over a turn of a clear link.
-use Rattle.std.proofs.Common.{◌≡◌, ℕ, ◌+◌, ◌-◌, ◌*◌, ◌%◌, ◌^◌, ◌<◌, ◌≤◌, inl, inr, true, false, List, [], ◌∷◌, length, None, Some, max, ap, sym, ◌∙◌, subst, arith, ◌⊎◌}
+use Rattle.std.proofs.Common.{◌≡◌, ℕ, ◌+◌, ◌-◌, ◌*◌, ◌%◌, ◌^◌, ◌<◌, ◌≤◌, inl, inr, true, false, List, [], ◌∷◌, length, None, Some, max, ap, sym, ◌∙◌, subst, arith, ◌⊎◌, rules}
 use Rattle.laws_board.proofs.Names.{leb_tells, Level, BoardDef, Running, nearest, board_tick, clock_of, turn_ns, Clocks, lines_tick, clocks_at, turn_in_run, turn_tick, Entry, Cmd, State, commands_of, Rig, Slot, passes, slot_at, takes_all, AllSound, one_slot, queued_in, first_state, orders, Homing, hears_all, low, state_at}
 use Rattle.plan_types.specs.Clock.{run_turns}
 use Rattle.board_sim.proofs.RigStates.{all_tick}
@@ -27,10 +27,7 @@ use Rattle.laws_homing.proofs.clear_boards.Turned.{next_all, takes_turned, turn_
 use Rattle.laws_homing.proofs.home_runs.Grouped.{sole_state}
 
 alive_not : (oid : ℕ) (r : Rig) (s : Slot) → slot_at r oid ≡ Some s → s.trigger.can ≡ true → HasFired oid r → ⊥
-alive_not oid r s there can f =
-    let same : s ≡ f.slot = one_slot (slot_at r oid) s f.slot there f.is in
-    let bad : true ≡ false = sym can ∙ ap (λ (x : Slot). x.trigger.can) same ∙ f.fired in
-    cc
+alive_not oid r s there can f = search (rules, one_slot, slot_at)
 
 module _ (b : BoardDef) (pins : List (List Level)) (place : ℕ) (entries : List Entry) (t : BoardTurn) (before : List BoardTurn) (rests : RestsOver t before) (are : AreBoardTurns (clock_of b) (first_state b pins place entries) (t ∷ before)) where
   abbrev own : ℕ → ℕ

@@ -1,5 +1,5 @@
 -- On a clear link a board takes in each turn what is queued in it.
-use Rattle.std.proofs.Common.{◌≡◌, ◌++◌, ℕ, ◌+◌, Bool, List, [], ◌∷◌, length, refl, ap, sym, ◌∙◌, append-nil, append_assoc}
+use Rattle.std.proofs.Common.{◌≡◌, ◌++◌, ℕ, ◌+◌, Bool, List, [], ◌∷◌, length, refl, ap, sym, ◌∙◌, append-nil, append_assoc, rules}
 use Rattle.laws_board.proofs.Names.{BoardDef, Level, clock_of, board_tick, Entry, AllKeepLimits, first_state, orders, IsTurn, LinkState, Orders, after_board, after_host, come, Core, Step, Do, Turn, world_after, after_event, run_world, takes_in, queued_in, Meant, commands_of, Rig, passes, takes, takes_all, Cmd, BoardClock, Down, Up, run_append, append_cancel_left}
 use Rattle.link_work.specs.Turn.{comes, host_steps, resends, sends}
 use Rattle.link_work.proofs.Answered.{begins}
@@ -27,18 +27,7 @@ IsQuiet (Do (event.Pass t)) = ⊥
 IsQuiet _ = Unit {0}
 
 quiet_step : (s : Step) (h : Core) → IsQuiet s → ((world_after h s).board ≡ h.board) × ((world_after h s).taken ≡ h.taken)
-quiet_step (Turn turn) h q = (refl, refl)
-quiet_step (Do event.Arrive) h q = absurd q
-quiet_step (Do event.Repeat) h q = absurd q
-quiet_step (Do (event.Pass t)) h q = absurd q
-quiet_step (Do (event.Put c)) h q = (refl, append-nil h.taken)
-quiet_step (Do (event.Control c)) h q = (refl, append-nil h.taken)
-quiet_step (Do event.Send) h q = (refl, append-nil h.taken)
-quiet_step (Do event.Resend) h q = (refl, append-nil h.taken)
-quiet_step (Do event.Lose) h q = (refl, append-nil h.taken)
-quiet_step (Do event.Garble) h q = (refl, append-nil h.taken)
-quiet_step (Do event.Reply) h q = (refl, append-nil h.taken)
-quiet_step (Do event.LoseReply) h q = (refl, append-nil h.taken)
+quiet_step s h p2 = search (rules, append-nil)
 
 quiet_all : (steps : List Step) (h : Core) → AllOf IsQuiet steps → ((run_world steps h).board ≡ h.board) × ((run_world steps h).taken ≡ h.taken)
 quiet_all [] h q = (refl, refl)
@@ -62,11 +51,7 @@ record Obeyed (h g : Core) : Type 0 where
   board : g.board ≡ (takes_all h.board (commands_of meant)).rig
 
 coming_step : (s : Step) (h : Core) → IsComing s → Obeyed h (world_after h s)
-coming_step (Do event.Lose) h c = record { meant = []; taken = refl; board = refl }
-coming_step (Do event.Garble) h c = record { meant = []; taken = refl; board = refl }
-coming_step (Do event.Arrive) h c = record { meant = takes_in h event.Arrive; taken = refl; board = refl }
-coming_step (Do event.Repeat) h c = record { meant = takes_in h event.Repeat; taken = refl; board = refl }
-coming_step s h c = absurd c
+coming_step s h p2 = search (rules, takes_in)
 
 coming_all : (steps : List Step) (h : Core) → AllOf IsComing steps → Obeyed h (run_world steps h)
 coming_all [] h c = record { meant = []; taken = sym (append-nil h.taken); board = refl }

@@ -1,5 +1,5 @@
 -- A trigger that triggers while commands come behind a section's set-up, and time passes, tells so, of a tick that isn't before another.
-use Rattle.std.proofs.Common.{◌≡◌, ℕ, zero, suc, ◌+◌, ◌/◌, ◌%◌, ◌^◌, ◌<◌, ◌≤◌, Bool, true, false, List, [], ◌∷◌, ◌++◌, get_or, set, Option, Some, None, refl, ap, sym, ◌∙◌, subst, arith, ◌⊎◌, inl, inr, append_assoc}
+use Rattle.std.proofs.Common.{◌≡◌, ℕ, zero, suc, ◌+◌, ◌/◌, ◌%◌, ◌^◌, ◌<◌, ◌≤◌, Bool, true, false, List, [], ◌∷◌, ◌++◌, get_or, set, Option, Some, None, refl, ap, sym, ◌∙◌, subst, arith, ◌⊎◌, inl, inr, append_assoc, rules}
 use Rattle.std.specs.Prelude.{if◌then◌else◌, slice_index_or, nat_le}
 use Rattle.laws_board.proofs.Names.{leb_tells, get_or-set_same, Level, BoardState, Running, Shut, nearest, Sampling, Trigger, Happening, Nothing, Expires, Switches, Reports, Cmd, Passed, Rig, Slot, acts, acts_running, all_left, at_of, becomes, earliest_moment, expires_at_once, goes_on, happens_to, pass, passes, passes_by, rests_to, runs_to, set_timeout, slot_at, takes, takes_all, one_slot, slot_range, no_both}
 use Rattle.std.proofs.lemmas.List.{get_or-set_other}
@@ -46,15 +46,7 @@ module _ (oid low until : ℕ) where
   -- what happens to it
   fires : (s : Slot) (at reason : ℕ) (xs : List Cmd) → low ≤ at → at < until → s.trigger.untold ≡ None
       → Gone oid low until (record s { trigger = trig.fired at reason s.trigger }) (xs ++ trigger_answers oid (trig.state_told at (trig.fired at reason s.trigger)).event)
-  fires s at reason xs begun early told_all = record {
-    fired = refl;
-    told = told_all;
-    idle = refl;
-    moves = tt;
-    begun = begun;
-    early = early;
-    tells = off_behind oid (at % 2 ^ 32) xs (trigger_answers oid (trig.state_told at (trig.fired at reason s.trigger)).event) (inl (refl, refl, refl));
-  }
+  fires s at reason xs begun early told_all = search (rules, off_behind)
 
   quiet_so : (pins : List (List Level)) (s : Slot) (xs : List Cmd) → So pins s xs → So pins (record s { trigger = (trig.happened (slice_index_or pins s.pin []) until Nothing s.trigger).trigger }) (xs ++ [])
   quiet_so pins s xs (inl k) =
@@ -81,10 +73,7 @@ module _ (oid low until : ℕ) where
 
   tells_so : (pins : List (List Level)) (o : Option ℕ) (s : Slot) (xs : List Cmd) → s.trigger.untold ≡ o → So pins s xs
       → So pins (record s { trigger = (trig.tells o (slice_index_or pins s.pin []) until s.trigger).trigger }) (xs ++ trigger_answers oid (trig.tells o (slice_index_or pins s.pin []) until s.trigger).event)
-  tells_so pins None s xs e k =
-      let levels = slice_index_or pins s.pin [] in
-      happened_so pins (trig.next_happening levels until s.trigger) s xs (is_next levels until s.trigger (moves_of pins s xs k).1) k
-  tells_so pins (Some n) s xs e k = absurd (let bad : None ≡ Some n = sym (moves_of pins s xs k).0 ∙ e in cc)
+  tells_so pins o s xs p4 p5 = search (rules, slice_index_or, happened_so, is_next, moves_of)
 
   -- so stands a board's trigger
   pub record Stands (r : Rig) (answers : List Cmd) : Type 0 where
@@ -93,11 +82,7 @@ module _ (oid low until : ℕ) where
     pub so : So r.pins slot answers
 
   set_here : (r q : Rig) (s u : Slot) (xs : List Cmd) → slot_at r oid ≡ Some s → q.triggers ≡ set r.triggers oid (Some u) → q.pins ≡ r.pins → So r.pins u xs → Stands q xs
-  set_here r q s u xs there e pins k = record {
-    slot = u;
-    is = ap (λ (ts : List (Option Slot)). get_or ts oid None) e ∙ get_or-set_same r.triggers oid (Some u) None (slot_range r.triggers oid s there);
-    so = subst (λ (ps : List (List Level)). So ps u xs) (sym pins) k;
-  }
+  set_here r q s u xs there e pins k = search (rules, get_or-set_same, slot_range)
 
   more_stands : (r : Rig) (xs ys : List Cmd) → Stands r xs → Stands r (xs ++ ys)
   more_stands r xs ys d = record { slot = d.slot; is = d.is; so = more_so r.pins d.slot xs ys d.so }
@@ -143,11 +128,7 @@ module _ (oid low until : ℕ) where
       goes_so next xs (rests_to r until) (passes_by first rest) (rests_so r xs d) (subst At (append_assoc xs first.answers rest.answers) more)
 
   passes_so : (r : Rig) (xs : List Cmd) → Stands r xs → Stands (passes r until).rig (xs ++ (passes r until).answers)
-  passes_so r xs d = by (nat_le r.controller.tick until)
-    where
-      by : (b : Bool) → let p : Passed = if b then pass (all_left until r.triggers + 1) r until else record { rig = r; pulses = []; answers = [] } in Stands p.rig (xs ++ p.answers)
-      by true = pass_so (all_left until r.triggers + 1) r xs d
-      by false = more_stands r xs [] d
+  passes_so r xs d = search (rules, nat_le, pass, all_left, pass_so, more_stands)
 
   -- commands: an order to trigger, and a timeout that is set, are of ticks that are in time
   module _ (clock now : ℕ) (soon : now < until) where

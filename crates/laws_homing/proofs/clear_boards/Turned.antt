@@ -1,5 +1,5 @@
 -- A board's turn behind the set-up of a homing section.
-use Rattle.std.proofs.Common.{◌≡◌, ℕ, suc, ◌+◌, ◌<◌, ◌≤◌, Bool, true, false, List, [], ◌∷◌, Option, Some, None, refl, ap, sym, ◌∙◌, subst, arith, ◌⊎◌, inl, inr}
+use Rattle.std.proofs.Common.{◌≡◌, ℕ, suc, ◌+◌, ◌<◌, ◌≤◌, Bool, true, false, List, [], ◌∷◌, Option, Some, None, refl, ap, sym, ◌∙◌, subst, arith, ◌⊎◌, inl, inr, rules}
 use Rattle.std.specs.Prelude.{if◌then◌else◌, nat_le}
 use Rattle.laws_board.proofs.Names.{get_or-set_same, BoardState, Running, Shut, nearest, Cmd, Trigger, Controller, is_shut, Passed, Rig, Slot, acts_running, all_left, pass, passes, slot_at, takes, takes_all, one_slot, slot_range, says}
 use Rattle.msg_code.specs.declared.cmd.Cmd.TheVariants as cmd
@@ -21,33 +21,18 @@ use Rattle.laws_homing.proofs.clear_boards.Limited.{pass_limited, takes_limited}
 
 -- a board that runs behind some commands ran before them
 ran_by : (s : BoardState) (r : Rig) (cs : List Cmd) → r.controller.state ≡ s → (takes_all r cs).rig.controller.state ≡ Running → r.controller.state ≡ Running
-ran_by Running r cs e runs = e
-ran_by (Shut reason at first) r cs e runs =
-    let same : (takes_all r cs).rig.controller ≡ r.controller = all_left_by r cs (ap is_shut e) in
-    ap (λ (b : Controller). b.state) (sym same) ∙ runs
+ran_by s r cs p3 p4 = search (rules, takes_all, all_left_by, is_shut)
 
 pub ran : (r : Rig) (cs : List Cmd) → (takes_all r cs).rig.controller.state ≡ Running → r.controller.state ≡ Running
 ran r cs runs = ran_by r.controller.state r cs refl runs
 
 -- such a command renews the timeout
 renews : (oid clock : ℕ) (r : Rig) (c : Cmd) → ((r.controller.tick < nearest r.controller.tick clock) ⊎ AllFired r) → IsSentBehind oid clock c → IsRenewing oid r c
-renews oid clock r (cmd.TrsyncSetTimeout other at) ahead k =
-    let At : ℕ → Type 0 = λ n. (r.controller.tick < nearest r.controller.tick n) ⊎ AllFired r in
-    (k.0, subst At (sym k.1) ahead)
-renews oid clock r (cmd.TrsyncTrigger other reason) ahead k = λ two. (let three = k.1 in absurd (omega (arith, two, three)))
-renews oid clock r (cmd.ConfigTrsync other) ahead k = absurd k
-renews oid clock r (cmd.TrsyncStart other at every reason) ahead k = absurd k
-renews oid clock r (cmd.StepperStopOnTrigger stepper other) ahead k = absurd k
-renews oid clock r (cmd.ConfigEndstop other pin pull) ahead k = absurd k
-renews oid clock r (cmd.EndstopHome other at sample count rest value trigger reason) ahead k = absurd k
-renews oid clock r c ahead k = tt
+renews oid clock r c p4 p5 = search (rules, nearest)
 
 -- the timeout behind it
 limit_step : (oid clock now limit next : ℕ) (c : Cmd) (cs : List Cmd) → IsSentBehind oid clock c → nearest now clock ≡ next → (limit ≡ next) ⊎ SetsOne (c ∷ cs) → (limit_by now limit c ≡ next) ⊎ SetsOne cs
-limit_step oid clock now limit next (cmd.TrsyncSetTimeout other at) cs k is some = inl (ap (nearest now) k.1 ∙ is)
-limit_step oid clock now limit next c cs k is (inl same) = inl same
-limit_step oid clock now limit next c cs k is (inr (inl sets)) = absurd sets
-limit_step oid clock now limit next c cs k is (inr (inr later)) = inr later
+limit_step oid clock now limit next c cs p7 p8 p9 = search (rules, nearest)
 
 -- where no trigger can trigger, any timeout is as good
 any_limit : (oid tick old limit : ℕ) (r : Rig) → AllFired r → IsLimited oid tick old r → IsLimited oid tick limit r

@@ -1,5 +1,5 @@
 -- A trigger that can't trigger stays as it is over commands of which none starts one.
-use Rattle.std.proofs.Common.{◌≡◌, ℕ, ◌<◌, Bool, true, false, List, [], ◌∷◌, ◌++◌, length, Some, None, refl, ap, sym, ◌∙◌, subst, arith, append_assoc}
+use Rattle.std.proofs.Common.{◌≡◌, ℕ, ◌<◌, Bool, true, false, List, [], ◌∷◌, ◌++◌, length, Some, None, refl, ap, sym, ◌∙◌, subst, arith, append_assoc, rules}
 use Rattle.laws_board.proofs.Names.{append_cancel_left, BoardClock, Level, Trigger, Happening, Nothing, Expires, Switches, Reports, Cmd, Meant, commands_of, Rig, Slot, passes, slot_at, takes_all, Event, Core, Step, Do, Turn, does, in_turn, run_world, takes_in, orders, LinkState, turns_are_steps, no_both}
 use Rattle.board_trig.specs.Trigger as trig
 use Rattle.board_world.specs.declared.event.Event.TheVariants as event
@@ -33,22 +33,10 @@ same_old : (most : ℕ) (t u : Trigger) → u.can ≡ t.can → u.timeout ≡ t.
 same_old most t u can timeout tick k = record { off = can ∙ k.off; idle = timeout ∙ k.idle; before = (let l = k.before in omega (arith, l, tick)) }
 
 lasts_old : (j most until : ℕ) → Lasts (One j most) until
-lasts_old j most until = record {
-  comes = λ pins oid s e next k own. happened_old most _ until e s.trigger next (k own);
-  says = λ pins oid s n e k own. same_old most s.trigger _ refl refl refl (k own);
-}
+lasts_old j most until = search (rules, happened_old, same_old)
 
 follows_old : (j most : ℕ) → 0 < most → Follows (One j most) Tame
-follows_old j most some = record {
-  made = λ pins now oid fit own. record { off = refl; idle = refl; before = some };
-  starts = λ pins now oid s clock every reason fit k. absurd fit;
-  limits = λ pins now oid s clock fit can ahead k own. absurd (no_both s.trigger.can can (k own).off);
-  expires = λ pins now oid s clock fit can past k own. absurd (no_both s.trigger.can can (k own).off);
-  says = λ pins oid s n e k own. same_old most s.trigger _ refl refl refl (k own);
-  fires = λ pins now oid s reason fit can k own. absurd (no_both s.trigger.can can (k own).off);
-  binds = λ pins now oid s i fit k. k;
-  homes = λ pins now oid s i pin g fit k own. same_old most s.trigger _ refl refl refl (k own);
-}
+follows_old j most some = search (rules, no_both, same_old)
 
 each_old : (j most : ℕ) (r : Rig) → OldAt j most r → OfEach (One j most) r
 each_old j most r all oid s at own = all oid s own at

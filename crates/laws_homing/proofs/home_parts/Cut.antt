@@ -1,5 +1,5 @@
 -- A board's part of a run in which axes home, as far as its units are released.
-use Rattle.std.proofs.Common.{◌≡◌, ◌⊎◌, ℕ, zero, suc, true, false, ◌+◌, ◌*◌, ◌<◌, ◌≤◌, List, [], ◌∷◌, ◌++◌, All, length, map, take, Option, Some, refl, ap, sym, ◌∙◌, subst, arith, append_assoc, inl, inr}
+use Rattle.std.proofs.Common.{◌≡◌, ◌⊎◌, ℕ, zero, suc, true, false, ◌+◌, ◌*◌, ◌<◌, ◌≤◌, List, [], ◌∷◌, ◌++◌, All, length, map, take, Option, Some, refl, ap, sym, ◌∙◌, subst, arith, append_assoc, inl, inr, rules}
 use Rattle.std.specs.Prelude.{◌-◌, ◌/◌, min, slice_index_or}
 use Rattle.laws_board.proofs.Names.{flat_map, eqb_tells, leb_tells, length-map, All-cons, All-head, All-nil, All-tail, Machine, Planned, Pulse, SectionKind, Moves, Home, turn_ns, Clocks, lines_tick, board_at, Fits, clocks_at, Release, batch_at, units_of, AreBefore, BoardSection, base_of, of_stepper, section_steps, Orders, parts_on, AreStarted, Started, Told, MotionTurn, gather, item}
 use Rattle.std.specs.List.{range_with_len}
@@ -235,10 +235,7 @@ homed_in axis m clocks b until turn stops s h small lines limit few stop =
 
 -- none is over before it starts
 pub over_late : (kind : SectionKind) (m : Machine) (clocks : List Clocks) (s : Started) → s.start ≤ s.end → s.start ≤ over_in kind m clocks s
-over_late Moves m clocks s order = end_after m clocks s.section.moves s.start
-over_late (Home axis) m clocks s order =
-    let after = end_after m clocks s.section.moves s.start in
-    elim (leb_tells (suc s.end) no_end) as (λ _. s.start ≤ over_in (Home axis) m clocks s) [ inl p ↦ rw p.0 (omega (arith, after, order)) | inr p ↦ rw p.0 after ]
+over_late kind m clocks s p4 = search (rules, end_after, leb_tells)
 
 one_in : (kind : SectionKind) (m : Machine) (clocks : List Clocks) (b until turn : ℕ) (stops : ℕ → Option ℕ) (s : Started) → IsPlanned kind m clocks s → b < length m.boards → AreLasting clocks b
     → over_in kind m clocks s < until → turn ≤ no_end → StopsBy (is_home kind) stops s.start s.end

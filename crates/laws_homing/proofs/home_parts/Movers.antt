@@ -1,5 +1,5 @@
 -- The steppers that have units in a homing section move in it.
-use Rattle.std.proofs.Common.{◌≡◌, ◌≢◌, ℕ, zero, suc, ◌+◌, ◌*◌, ◌<◌, ◌≤◌, Bool, true, false, List, [], ◌∷◌, ◌++◌, length, take, append_assoc, Some, refl, ap, sym, ◌∙◌, subst, arith, inl, inr}
+use Rattle.std.proofs.Common.{◌≡◌, ◌≢◌, ℕ, zero, suc, ◌+◌, ◌*◌, ◌<◌, ◌≤◌, Bool, true, false, List, [], ◌∷◌, ◌++◌, length, take, append_assoc, Some, refl, ap, sym, ◌∙◌, subst, arith, inl, inr, rules}
 use Rattle.std.specs.Prelude.{slice_index_or}
 use Rattle.laws_board.proofs.Names.{leb_tells, Machine, Move, Planned, Pulse, turn_ns, Clocks, lines_tick, IsValidMachine, axis_at, board_at, stepper_at, Fits, clocks_at, stepper_plan, of_stepper, units_of, StepUnit, AreStarted, Started, Told, MotionTurn}
 use Rattle.plan_types.specs.Sections.{section_plans}
@@ -33,11 +33,7 @@ none_left (u ∷ us) vs e = absurd (let f : u ∷ (us ++ vs) ≡ [] = e in cc)
 
 -- one that has units has a plan
 pub no_units : (homing : Bool) (oid : ℕ) (clocks : Clocks) (base : ℕ) (us : List StepUnit) → AreBegunBy homing clocks base us → length (steps_said oid false us) ≡ 0 → us ≡ []
-no_units homing oid clocks base [] a e = refl
-no_units homing oid clocks base (u ∷ us) a e = absurd (let some = have_steps homing oid clocks base (u ∷ us) a (λ f. none u us f) in omega (arith, some, e))
-  where
-    none : (u : StepUnit) (us : List StepUnit) → u ∷ us ≡ [] → ⊥
-    none u us f = cc
+no_units homing oid clocks base us p5 p6 = search (rules, have_steps)
 
 has_plan : (m : Machine) (clocks : List Clocks) (b until oid : ℕ) (s : Started) (h : IsHomed m clocks s) → b < length m.boards → AreLasting clocks b → of_stepper oid (units_of (before_turn until (slice_index_or s.boards b []))) ≢ []
     → plan_at (plans_on m clocks s.section.moves s.start b) oid ≢ []
@@ -51,11 +47,7 @@ has_plan m clocks b until oid s h small lines some none =
     some (no_units true oid line base us (f.begun oid) (none-said freq base (steps_said oid false us) (subst (Fits freq base (steps_said oid false us)) none (f.fits oid))))
 
 moving_is : (corexy : Bool) (one : Move) (drive : ℕ) → (one_moving corexy one drive ≡ 0 → ⊥) → one_moving corexy one drive ≡ 1
-moving_is corexy one drive n = by (one_moving corexy one drive) (moving_bit corexy one drive) n
-  where
-    by : (k : ℕ) → k ≤ 1 → (k ≡ 0 → ⊥) → k ≡ 1
-    by zero low f = absurd (f refl)
-    by (suc k) low f = omega (arith, low)
+moving_is corexy one drive n = search (rules, moving_bit)
 
 mover : (m : Machine) (v : IsValidMachine m) (clocks : List Clocks) (b until axis oid : ℕ) (s : Started) (one : Move) (h : IsHomed m clocks s) → b < length m.boards → AreLasting clocks b → s.section.moves ≡ one ∷ []
     → of_stepper oid (units_of (before_turn until (slice_index_or s.boards b []))) ≢ [] → IsMover m b s axis oid

@@ -1,5 +1,5 @@
 -- A section that homes has one move.
-use Rattle.std.proofs.Common.{◌≡◌, ℕ, ℤ, ◌+◌, Bool, true, false, List, [], ◌∷◌, ◌++◌, map, refl, subst}
+use Rattle.std.proofs.Common.{◌≡◌, ℕ, ℤ, ◌+◌, Bool, true, false, List, [], ◌∷◌, ◌++◌, map, refl, subst, rules}
 use Rattle.laws_board.proofs.Names.{Machine, Move, Section, Home, Moves, Started}
 use Rattle.gcode_state.specs.declared.state.Action.{Action}
 use Rattle.gcode_state.specs.declared.state.Action.TheVariants as actions
@@ -37,24 +37,10 @@ home_one m at acceleration dwell axis true = (λ other e. (homing_move m at acce
 home_one m at acceleration dwell axis false = tt
 
 homes_one : (m : Machine) (at : List ℤ) (acceleration dwell : ℕ) (axes : List Bool) → AllOne (homes m at acceleration dwell axes)
-homes_one m at acceleration dwell axes =
-    let x = is_named axes 0 in
-    let y = is_named axes 1 in
-    let z = is_named axes 2 in
-    let first = home_of m at acceleration dwell 0 x in
-    let second = home_of m (stood m at 0 x) acceleration (dwell_behind_home dwell x) 1 y in
-    let third = home_of m (stood m (stood m at 0 x) 1 y) acceleration (dwell_behind_home (dwell_behind_home dwell x) y) 2 z in
-    ones_both (first ++ second) third (ones_both first second (home_one m at acceleration dwell 0 x) (home_one m (stood m at 0 x) acceleration (dwell_behind_home dwell x) 1 y)) (home_one m (stood m (stood m at 0 x) 1 y) acceleration (dwell_behind_home (dwell_behind_home dwell x) y) 2 z)
+homes_one m at acceleration dwell axes = search (rules, ones_both, home_one)
 
 by_one : (m : Machine) (dwell : ℕ) (moves : List Move) (s : State) (a : Action) (rest : ℕ → List Move → List Section) → ((d : ℕ) (ms : List Move) → AllOne (rest d ms)) → AllOne (sections_by m dwell moves s a rest)
-by_one m dwell moves s actions.None rest r = r dwell moves
-by_one m dwell moves s (actions.Move one) rest r = r dwell (moves ++ one ∷ [])
-by_one m dwell moves s (actions.Dwell ms) rest r = ones_both (closed dwell moves) (rest (dwell_left dwell moves + ms) []) (closed_one dwell moves) (r (dwell_left dwell moves + ms) [])
-by_one m dwell moves s (actions.Home axes) rest r =
-    let own = homes m (coordinates_of s) s.acceleration (dwell_left dwell moves) axes in
-    let more = rest (left_by_homes (dwell_left dwell moves) axes) [] in
-    ones_both (closed dwell moves) (own ++ more) (closed_one dwell moves) (ones_both own more (homes_one m (coordinates_of s) s.acceleration (dwell_left dwell moves) axes) (r (left_by_homes (dwell_left dwell moves) axes) []))
-by_one m dwell moves s c rest r = ones_both (closed dwell moves) (rest (dwell_left dwell moves) []) (closed_one dwell moves) (r (dwell_left dwell moves) [])
+by_one m dwell moves s a rest p6 = search (rules, ones_both, closed_one, homes_one)
 
 sections_one : (m : Machine) (dwell : ℕ) (moves : List Move) (deeds : List Deed) → AllOne (sections_of m dwell moves deeds)
 sections_one m dwell moves [] = closed_one dwell moves

@@ -1,5 +1,5 @@
 -- A stepper that a move does not move has no planned steps.
-use Rattle.std.proofs.Common.{◌≡◌, ℕ, ◌+◌, ◌*◌, Bool, true, false, cond, ℤ, pos, ◌+ℤ◌, ◌-ℤ◌, ◌*ℤ◌, List, [], ◌∷◌, ◌++◌, map, unsigned_abs, int_lt, refl, ap, sym, ◌∙◌, subst, arith, append-nil}
+use Rattle.std.proofs.Common.{◌≡◌, ℕ, ◌+◌, ◌*◌, Bool, true, false, cond, ℤ, pos, ◌+ℤ◌, ◌-ℤ◌, ◌*ℤ◌, List, [], ◌∷◌, ◌++◌, map, unsigned_abs, int_lt, refl, ap, sym, ◌∙◌, subst, arith, append-nil, rules}
 use Rattle.std.specs.Prelude.{◌==◌, ◌||◌}
 use Rattle.std.proofs.lemmas.Int.{ints}
 use Rattle.std.specs.List.{range_with_len}
@@ -26,11 +26,7 @@ from_bool true e = absurd (let f : (◌≡◌ {A = ℕ} 1 0) = e in omega (arith
 from_bool false e = refl
 
 pub unmoved : (corexy : Bool) (one : Move) (drive : ℕ) → one_moving corexy one drive ≡ 0 → coordinate corexy drive one.to ≡ coordinate corexy drive one.from
-unmoved corexy one drive e =
-    let from = coordinate corexy drive one.from in
-    let to = coordinate corexy drive one.to in
-    let both = or_parts (int_lt from to) (int_lt to from) (from_bool (int_lt from to || int_lt to from) e) in
-    int_same to from both.1 both.0
+unmoved corexy one drive e = search (rules, or_parts, int_lt, from_bool, int_same)
 
 -- the parts of a move are of it
 abbrev AreOf : Move → List TimedPart → Type 0
@@ -52,21 +48,10 @@ parts_of cruise one (g ∷ []) begin = tt
 parts_of cruise one (g ∷ h ∷ speeds) begin = subst (AreOf one) (sym (append-nil (timed one 0 begin (parts one g h cruise)))) (timed_of one 0 begin (parts one g h cruise))
 
 place_stays : (s : Segment) (x y : ℕ) → s.dp ≡ pos 0 → place s x ≡ place s y
-place_stays s x y e =
-    let At : ℤ → ℕ → ℤ = λ d n. s.p0 *ℤ pos s.len +ℤ d *ℤ pos n in
-    let zero_at : (n : ℕ) → At (pos 0) n ≡ s.p0 *ℤ pos s.len +ℤ pos 0 = λ n. ap (λ z. s.p0 *ℤ pos s.len +ℤ z) (none n) in
-    ap (λ d. At d x) e ∙ zero_at x ∙ sym (zero_at y) ∙ sym (ap (λ d. At d y) e)
-  where
-    none : (n : ℕ) → pos 0 *ℤ pos n ≡ pos 0
-    none n = grind (arith, ints)
+place_stays s x y e = search (rules, ints)
 
 none_passed : (g : Gear) (s : Segment) (x y : ℕ) → s.dp ≡ pos 0 → counts_passed g s x y ≡ 0
-none_passed g s x y e =
-    let same : half_step_count g s y ≡ half_step_count g s x = half_same g s y x (place_stays s y x e) in
-    ap (λ z. unsigned_abs (z -ℤ half_step_count g s x)) same ∙ self_none (half_step_count g s x)
-  where
-    half_same : (g : Gear) (s : Segment) (x y : ℕ) → place s x ≡ place s y → half_step_count g s x ≡ half_step_count g s y
-    half_same g s x y f = rw f refl
+none_passed g s x y e = search (rules, place_stays, unsigned_abs, self_none)
 
 no_steps : (g : Gear) (f : ℕ) (s : Segment) → s.dp ≡ pos 0 → segment_steps g f s ≡ []
 no_steps g f s e = ap (λ n. map (raw_step g f s) (range_with_len 1 n)) (none_passed g s s.before (s.before + s.d) e)
@@ -83,8 +68,4 @@ none_raw g f corexy drive line one (t ∷ ts) e a =
     ap (λ (xs : List Planned). xs ++ raw_steps g f (map (segment_of corexy drive line) ts)) (no_steps g f s still) ∙ none_raw g f corexy drive line one ts e a.1
 
 pub no_plan : (m : Machine) (clocks : List Clocks) (one : Move) (turn s : ℕ) → one_moving m.corexy one (stepper_at m s).drive ≡ 0 → stepper_plan m clocks (one ∷ []) turn s ≡ []
-no_plan m clocks one turn s e =
-    let stepper = stepper_at m s in
-    let own = clocks_at clocks stepper.board in
-    let raw = none_raw stepper.gear own.first.freq m.corexy stepper.drive own.first one (section_parts m (one ∷ []) turn) (unmoved m.corexy one stepper.drive e) (parts_of m.cruise one (greatest_speeds (one ∷ []) m.scv) (turn * turn_ns)) in
-    ap (λ (xs : List Planned). spaced (base_tick m clocks turn s) (map (on_board own) (filtered (cancel_reach own.first.freq) xs))) raw
+no_plan m clocks one turn s e = search (rules, stepper_at, clocks_at, none_raw, unmoved, parts_of, turn_ns)

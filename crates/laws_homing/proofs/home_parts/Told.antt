@@ -1,5 +1,5 @@
 -- Homing sections of a board that ended were told of.
-use Rattle.std.proofs.Common.{◌≡◌, ◌⊎◌, ℕ, suc, ◌+◌, ◌-◌, ◌<◌, ◌≤◌, Bool, true, false, List, [], ◌∷◌, ◌++◌, length, map, append_assoc, Some, None, refl, ap, sym, ◌∙◌, subst, arith, inl, inr, length-append}
+use Rattle.std.proofs.Common.{◌≡◌, ◌⊎◌, ℕ, suc, ◌+◌, ◌-◌, ◌<◌, ◌≤◌, Bool, true, false, List, [], ◌∷◌, ◌++◌, length, map, append_assoc, Some, None, refl, ap, sym, ◌∙◌, subst, arith, inl, inr, length-append, rules}
 use Rattle.std.specs.Prelude.{◌&&◌, if◌then◌else◌}
 use Rattle.laws_board.proofs.Names.{leb_tells, length-map, map-append, Level, Machine, SectionKind, Home, Moves, axis_at, board_at, Entry, Switch, first_state, unseen, members_from, Came, last_reacted, Started, Told, MotionTurn}
 use Rattle.plan_types.specs.Sections.{is_home}
@@ -159,15 +159,7 @@ reads_tail R (x ∷ xs) c before (z ∷ w ∷ zs) t past e r = reads_tail R xs c
 pub so_at : (m : Machine) (switches : List Switch) (pins : List (List Level)) (entries : List Entry) (b : ℕ) (R : Came → List Came → List BoardTurn → Type 0) (came : List Came) (turns : List BoardTurn) (xs : List Came) (c : Came) (before : List Came) (zs : List BoardTurn)
     (t : BoardTurn) (past : List BoardTurn) → IsInRun m switches pins entries b came turns → IsInRun m switches pins entries b (c ∷ before) (t ∷ past) → came ≡ xs ++ c ∷ before → turns ≡ zs ++ t ∷ past
     → BeginsApart m switches came × AllRead R came turns × AreNotAhead m switches b came → BeginsApart m switches (c ∷ before) × AreSoInTurns R (c ∷ before) past × AreNotAhead m switches b (c ∷ before)
-so_at m switches pins entries b R came turns xs c before zs t past run here are cut so =
-    let all = as_long m switches b came turns run.both in
-    let some = as_long m switches b (c ∷ before) (t ∷ past) here.both in
-    let x = ap length are ∙ length-append xs (c ∷ before) in
-    let z = ap length cut ∙ length-append zs (t ∷ past) in (
-      apart_tail m switches xs (c ∷ before) (subst (λ (l : List Came). BeginsApart m switches l) are so.0),
-      reads_tail R xs c before zs t past (omega (arith, all, some, x, z)) (subst (λ (l : List Came). AllRead R l (zs ++ t ∷ past)) are (subst (λ (k : List BoardTurn). AllRead R came k) cut so.1)),
-      behind_tail m switches b xs (c ∷ before) (subst (λ (l : List Came). AreNotAhead m switches b l) are so.2),
-    )
+so_at m switches pins entries b R came turns xs c before zs t past run here are cut so = search (rules, as_long, length-append, apart_tail, reads_tail, behind_tail)
 
 read_at : (m : Machine) (switches : List Switch) (pins : List (List Level)) (entries : List Entry) (b : ℕ) (came : List Came) (turns : List BoardTurn) (xs : List Came) (c : Came) (before : List Came) (zs : List BoardTurn) (t : BoardTurn) (past : List BoardTurn)
     → IsInRun m switches pins entries b came turns → IsInRun m switches pins entries b (c ∷ before) (t ∷ past) → came ≡ xs ++ c ∷ before → turns ≡ zs ++ t ∷ past → AreReadSo m switches b came turns → IsReadSo m switches b c before past

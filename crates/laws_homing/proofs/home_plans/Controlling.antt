@@ -1,5 +1,5 @@
 -- The controls of a board are those of a run in which axes home.
-use Rattle.std.proofs.Common.{◌≡◌, ℕ, ◌≤◌, ◌⊎◌, inl, inr, List, [], ◌∷◌, length, map, Option, Some, None, refl, ap, sym, ◌∙◌, subst, arith}
+use Rattle.std.proofs.Common.{◌≡◌, ℕ, ◌≤◌, ◌⊎◌, inl, inr, List, [], ◌∷◌, length, map, Option, Some, None, refl, ap, sym, ◌∙◌, subst, arith, rules}
 use Rattle.laws_board.proofs.Names.{map-append, All-cons, All-nil, Level, Machine, Clocks, IsValidMachine, clocks_at, turn_tick, base_of, Cmd, Control, Entry, Switch, Asking, ready, configuration, trigger_of, Homing, Started, Known, Phase, Connecting, Stopping, noted, Reacted, Came, known_by, last_reacted}
 use Rattle.msg_code.specs.declared.cmd.Cmd.TheVariants as cmd
 use Rattle.host_reactor.specs.declared.ordered.Phase.TheVariants.{Running}
@@ -52,17 +52,7 @@ asks_in m switches pins entries b c before t turns clocks ss v r e =
 
 one_of : (clocks known : Clocks) (part : Started → RunSection) (begun : List Started) (ss : List RunSection) (o : Option Homing) → ShowsSections part begun ss → WasBegun begun o
     → ((h : Homing) (s : Started) → o ≡ Some h → h.start ≡ s.start → turn_tick known h.start ≡ base_of clocks (part s).section) → IsOneOf o known clocks ss
-one_of clocks known part begun ss None shows w base = tt
-one_of clocks known part begun ss (Some h) shows w base = record {
-  together = w.7 ∙ sym w.6;
-  past = map part w.0;
-  section = part w.1;
-  later = map part w.2;
-  are = shows.are ∙ ap (map part) w.4 ∙ map-append part w.0 (w.1 ∷ w.2);
-  homes = shows.homes w.1 w.3 w.5;
-  start = shows.start w.1 ∙ sym w.6;
-  base = base h w.1 refl w.6;
-}
+one_of clocks known part begun ss o p6 p7 p8 = search (rules, map-append)
 
 pub all_hold : (m : Machine) (switches : List Switch) (pins : List (List Level)) (entries : List Entry) (b : ℕ) (clocks : Clocks) (part : Started → RunSection) (begun : List Started) (ss : List RunSection) (came : List Came) (turns : List BoardTurn)
     → IsValidMachine m → IsInRun m switches pins entries b came turns → CameNotes begun came → ShowsSections part begun ss → KnowBases m switches b clocks part came → HoldControlsIn clocks ss turns

@@ -1,5 +1,5 @@
 -- What the notes of a planner begin, and make known.
-use Rattle.std.proofs.Common.{◌≡◌, ◌⊎◌, ℕ, zero, suc, ◌+◌, Bool, true, false, cond, List, [], ◌∷◌, ◌++◌, map, Option, Some, None, refl, ap, sym, ◌∙◌, subst, arith, inl, inr, append_assoc}
+use Rattle.std.proofs.Common.{◌≡◌, ◌⊎◌, ℕ, zero, suc, ◌+◌, Bool, true, false, cond, List, [], ◌∷◌, ◌++◌, map, Option, Some, None, refl, ap, sym, ◌∙◌, subst, arith, inl, inr, append_assoc, rules}
 use Rattle.laws_board.proofs.Names.{eqb_tells, Machine, SectionKind, Home, Moves, axis_at, Note, NoteNews, Member, unseen, Homing, members_from, Started, Known, news_of, noted, known_behind, told_all}
 use Rattle.msg_code.specs.declared.talk.NoteNews.TheVariants as news
 use Rattle.trigger_group.specs.Group.{new_group}
@@ -26,10 +26,7 @@ fresh_if false begun at section axis ms past s later cut kind is = tt
 
 fresh_kind : (m : Machine) (begun : List Started) (at section : ℕ) (past : List Started) (s : Started) (later : List Started) (kind : SectionKind) → s.section.kind ≡ kind → begun ≡ past ++ s ∷ later → s.start ≡ at
     → IsFresh begun at (homing_of m section kind s.start s.last s.moving)
-fresh_kind m begun at section past s later Moves e cut is = tt
-fresh_kind m begun at section past s later (Home axis) e cut is =
-    let ms = members_from m (axis_at m axis) s.moving 0 m.boards in
-    fresh_if (may_be (map unseen ms) s.start s.last) begun at section axis ms past s later cut e is
+fresh_kind m begun at section past s later kind p8 p9 p10 = search (rules, members_from, axis_at, fresh_if, unseen)
 
 fresh_notes : (m : Machine) (begun : List Started) (k i : ℕ) (past ss : List Started) (r : Known) → begun ≡ past ++ ss → IsFresh begun (k + 260) r.homing → IsFresh begun (k + 260) (told_all m (begun_notes k i ss) r).homing
 fresh_notes m begun k i past [] r cut f = f

@@ -1,5 +1,5 @@
 -- The homing section that the reactor knows was begun by a note of the planner.
-use Rattle.std.proofs.Common.{◌≡◌, ℕ, zero, suc, ◌+◌, ◌==◌, Bool, true, false, cond, List, [], ◌∷◌, ◌++◌, length, map, Option, Some, None, refl, ap, sym, ◌∙◌, subst, inl, inr, append_assoc, length-append, arith}
+use Rattle.std.proofs.Common.{◌≡◌, ℕ, zero, suc, ◌+◌, ◌==◌, Bool, true, false, cond, List, [], ◌∷◌, ◌++◌, length, map, Option, Some, None, refl, ap, sym, ◌∙◌, subst, inl, inr, append_assoc, length-append, arith, rules}
 use Rattle.laws_board.proofs.Names.{Machine, SectionKind, Home, Moves, Clocks, axis_at, Note, NoteNews, State, Switch, End, Member, phase, unseen, Homing, answer_in, goes_on_homing, hears_all, homing_after, members_from, Started, Known, noted, known_behind, told_all, Reacted, Came, GoesOn, known_by}
 use Rattle.msg_code.specs.declared.talk.NoteNews.TheVariants as news
 use Rattle.trigger_group.specs.Group.{new_group}
@@ -44,10 +44,7 @@ with_if true begun section axis turn start last ms past s later e kind at also n
 with_if false begun section axis turn start last ms past s later e kind at also number end = tt
 
 of_kind : (m : Machine) (begun : List Started) (section turn last moving : ℕ) (kind : SectionKind) → Is begun section kind turn last → WasBegun begun (homing_of m section kind turn last moving)
-of_kind m begun section turn last moving Moves is = tt
-of_kind m begun section turn last moving (Home axis) is =
-    let ms = members_from m (axis_at m axis) moving 0 m.boards in
-    with_if (may_be (map unseen ms) turn last) begun section axis turn turn last ms is.0 is.1 is.2 is.3 (sym is.4) is.5 is.5 is.6 is.7
+of_kind m begun section turn last moving kind p7 = search (rules, members_from, axis_at, with_if, unseen)
 
 told_was : (m : Machine) (begun : List Started) (ns : List NoteNews) (r : Known) → AreOf begun ns → WasBegun begun r.homing → WasBegun begun (told_all m ns r).homing
 told_was m begun [] r a w = w
@@ -74,10 +71,7 @@ goes_was begun k h None w = (w.0, w.1, w.2, w.3, w.4, w.5, w.6, in_start (phase 
 goes_was begun k h (Some end) w = tt
 
 after_was : (begun : List Started) (clocks : List Clocks) (k : ℕ) (states : List State) (o : Option Homing) → WasBegun begun o → WasBegun begun (homing_after clocks k states o)
-after_was begun clocks k states None w = tt
-after_was begun clocks k states (Some h) w =
-    let g = hears_all clocks states h in
-    goes_was begun k g (answer_in k g.start g.group) (w.0, w.1, w.2, w.3, w.4, w.5, w.6, states_start clocks 0 h.start states h.group ∙ w.7, w.8, w.9, (hears_keep clocks states h).last ∙ w.10)
+after_was begun clocks k states o p5 = search (rules, hears_all, goes_was, answer_in, states_start, hears_keep)
 
 pub known_was : (m : Machine) (switches : List Switch) (begun : List Started) (came : List Came) → GoesOn m switches came → CameNotes begun came → WasBegun begun (known_by m switches came).homing
 known_was m switches begun [] g notes = tt

@@ -1,5 +1,5 @@
 -- The sections that a note of the planner begins all start 259 turns behind the turn in which it comes.
-use Rattle.std.proofs.Common.{◌≡◌, ◌≤◌, ◌+◌, ◌++◌, ℕ, zero, suc, List, [], ◌∷◌, length, Option, sym, subst, arith, inl, inr}
+use Rattle.std.proofs.Common.{◌≡◌, ◌≤◌, ◌+◌, ◌++◌, ℕ, zero, suc, List, [], ◌∷◌, length, Option, sym, subst, arith, inl, inr, rules}
 use Rattle.laws_board.proofs.Names.{eqb_tells, Machine, IsValidMachine, Note, NoteNews, Switch, Started, news_of, Came}
 use Rattle.msg_code.specs.declared.talk.NoteNews.TheVariants as news
 use Rattle.motion_work.specs.Puts.{begun_notes}
@@ -36,11 +36,7 @@ begun_start k i (s ∷ ss) = elim (eqb_tells s.start (k + 260)) [ inl p ↦ rw p
 
 -- so a planner's note, which comes a turn behind that in which it was made
 pub note_starts : (begun : List Started) (k : ℕ) (given : Option Note) → IsNoteOf begun (suc k) given → StartAt (k + 260) (news_of given)
-note_starts begun k given is =
-    let done = done_notes k 0 begun in
-    let starts = begun_notes k 0 begun in
-    let all = start_both (k + 260) done (starts ++ is.1) (none_start (k + 260) done (done_none k 0 begun)) (start_both (k + 260) starts is.1 (begun_start k 0 begun) (none_start (k + 260) is.1 is.4)) in
-    subst (λ (o : Option Note). StartAt (k + 260) (news_of o)) (sym is.2) (subst (StartAt (k + 260)) (sym is.3) all)
+note_starts begun k given is = search (rules, start_both, none_start, done_none, begun_start, news_of)
 
 -- so they start far off
 start_far : (at k : ℕ) (ns : List NoteNews) → k + 255 ≤ at → StartAt at ns → StartFar k ns

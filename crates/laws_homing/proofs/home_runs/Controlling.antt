@@ -1,5 +1,5 @@
 -- The controls of a board in the turns of a homing section.
-use Rattle.std.proofs.Common.{◌≡◌, ℕ, ◌+◌, ◌-◌, ◌<◌, ◌≤◌, inl, inr, Bool, cond, List, ◌∷◌, ◌++◌, length, Option, Some, None, refl, ap, sym, ◌∙◌, subst, arith}
+use Rattle.std.proofs.Common.{◌≡◌, ℕ, ◌+◌, ◌-◌, ◌<◌, ◌≤◌, inl, inr, Bool, cond, List, ◌∷◌, ◌++◌, length, Option, Some, None, refl, ap, sym, ◌∙◌, subst, arith, rules}
 use Rattle.laws_board.proofs.Names.{leb_tells, Level, Machine, Clocks, axis_at, board_at, stepper_at, State, Control, Entry, Switch, End, Member, Sends, Homes, Starts, GroupState, first_timeout, phase, Homing, answer_in, by_answer, commands_to, hears_all, homing_turn, members_of, Asking, clock_question, drifts, waits_in, trigger_of, Known, Connecting, noted, Reacted, homing_commands, stop_command, stops, Came, known_by, last_reacted, states-kept}
 use Rattle.trigger_group.specs.declared.round.Phase.{Phase}
 use Rattle.trigger_group.specs.declared.round.Round.{Round}
@@ -25,12 +25,7 @@ phase_homes start last k e = let left : start - k ≡ 250 = omega (arith, e) in 
 -- a group that didn't answer
 group_binds : (m : Machine) (own : Clocks) (b k : ℕ) (g : Homing) (s : ℕ) (round : Round) → answer_in k g.start g.group ≡ None → phase g.group.start g.group.last k ≡ Sends round → BoardsRise (members_of g.group) → InRound b s round g.group.members
     → Binds (stepper_at m s).oid (trigger_of m b) (homing_commands m (by_answer k g (answer_in k g.start g.group)) own b)
-group_binds m own b k g s round none is rise inside =
-    let i = (stepper_at m s).oid in
-    let j = trigger_of m b in
-    let By : Option End → Type 0 = λ o. Binds i j (homing_commands m (by_answer k g o) own b) in
-    let In : Phase → Type 0 = λ p. Binds i j (commands_to m own b g.start (axis_at m g.axis) (orders_of_group p g.group k)) in
-    subst By (sym none) (subst In (sym is) (round_binds m own b g.start (axis_at m g.axis) round g.group.members s rise inside))
+group_binds m own b k g s round none is rise inside = search (rules, stepper_at, trigger_of, homing_commands, by_answer, commands_to, axis_at, round_binds)
 
 pub first_binds : (m : Machine) (all : List Clocks) (states : List State) (own : Clocks) (b k : ℕ) (h : Homing) (s : ℕ) → h.start ≡ h.group.start → h.group.start ≡ k + 251 → BoardsRise (members_of h.group) → FirstOf b s (members_of h.group)
     → Binds (stepper_at m s).oid (trigger_of m b) (homing_commands m (homing_turn all k states (Some h)) own b)

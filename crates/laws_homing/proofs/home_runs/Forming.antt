@@ -1,5 +1,5 @@
 -- The members of a homing section are those of its axis, and the steppers that move on a board are the board's.
-use Rattle.std.proofs.Common.{◌≡◌, ℕ, ◌+◌, ◌<◌, ◌==◌, inl, inr, Bool, true, false, cond, List, [], ◌∷◌, ◌++◌, length, map, Option, Some, None, refl, ap, sym, ◌∙◌, subst, arith}
+use Rattle.std.proofs.Common.{◌≡◌, ℕ, ◌+◌, ◌<◌, ◌==◌, inl, inr, Bool, true, false, cond, List, [], ◌∷◌, ◌++◌, length, map, Option, Some, None, refl, ap, sym, ◌∙◌, subst, arith, rules}
 use Rattle.std.specs.Prelude.{nat_lt, ◌||◌}
 use Rattle.laws_board.proofs.Names.{AxisDef, BoardDef, Machine, SectionKind, Moves as MovesKind, Home as HomeKind, Clocks, axis_at, stepper_at, Note, NoteNews, State, Switch, End, Member, Goes, Rests, Sends, Seen, GroupState, all_fired, phase, steppers, unseen, Homing, answer_in, goes_on_homing, hears_all, homing_after, members_from, members_of, Known, noted, known_behind, told_all, Reacted, Came, GoesOn, known_by, states-kept}
 use Rattle.msg_code.specs.declared.talk.NoteNews.TheVariants as news
@@ -23,10 +23,7 @@ formed_if true m section at turn start last moving axis e = (axis, moving, unsee
 formed_if false m section at turn start last moving axis e = tt
 
 begun_formed : (m : Machine) (section : ℕ) (what : SectionKind) (turn last moving : ℕ) → IsFormed m (homing_of m section what turn last moving)
-begun_formed m section MovesKind turn last moving = tt
-begun_formed m section (HomeKind axis) turn last moving =
-    let ms = members_from m (axis_at m axis) moving 0 m.boards in
-    formed_if (may_be (map unseen ms) turn last) m section axis turn turn last moving (axis_at m axis) refl
+begun_formed m section what turn last moving = search (rules, members_from, axis_at, formed_if, unseen)
 
 told_formed : (m : Machine) (r : Known) (n : NoteNews) → IsFormed m r.homing → IsFormed m (known_behind m r n).homing
 told_formed m r (news.Start section kind turn last moving) h = begun_formed m section kind turn last moving
@@ -49,10 +46,7 @@ goes_formed m k h None f = (f.0, f.1, in-kept (phase h.group.start h.group.last 
 goes_formed m k h (Some end) f = tt
 
 after_formed : (m : Machine) (clocks : List Clocks) (k : ℕ) (states : List State) (o : Option Homing) → IsFormed m o → IsFormed m (homing_after clocks k states o)
-after_formed m clocks k states None f = tt
-after_formed m clocks k states (Some h) f =
-    let g = hears_all clocks states h in
-    goes_formed m k g (answer_in k g.start g.group) (f.0, f.1, states-kept clocks 0 h.start states h.group ∙ f.2, f.3)
+after_formed m clocks k states o p5 = search (rules, hears_all, goes_formed, answer_in, states-kept)
 
 pub known_formed : (m : Machine) (switches : List Switch) (came : List Came) → GoesOn m switches came → IsFormed m (known_by m switches came).homing
 known_formed m switches [] g = tt

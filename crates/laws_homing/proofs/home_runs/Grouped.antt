@@ -1,5 +1,5 @@
 -- A homing group answers only once each of its boards has told that its trigger can't trigger.
-use Rattle.std.proofs.Common.{◌≡◌, ℕ, zero, suc, ◌+◌, ◌<◌, ◌≤◌, ◌==◌, inl, inr, Bool, true, false, cond, not, List, [], ◌∷◌, length, map, Option, Some, None, refl, ap, sym, ◌∙◌, subst, arith}
+use Rattle.std.proofs.Common.{◌≡◌, ℕ, zero, suc, ◌+◌, ◌<◌, ◌≤◌, ◌==◌, inl, inr, Bool, true, false, cond, not, List, [], ◌∷◌, length, map, Option, Some, None, refl, ap, sym, ◌∙◌, subst, arith, rules}
 use Rattle.laws_board.proofs.Names.{eqb-true, leb_tells, Level, Machine, SectionKind, Moves, Home, nearest, clock_of, Clocks, axis_at, board_at, turn_in_run, turn_tick, Cmd, News, Note, NoteNews, State, Entry, Switch, first_state, End, Member, Goes, Rests, Sends, Fired, Seen, GroupState, all_fired, phase, unseen, Homing, answer_in, goes_on_homing, hears_all, homing_after, members_from, members_of, Known, noted, known_behind, told_all, Reacted, Came, known_by, state_at, both_parts, states-kept}
 use Rattle.std.specs.Prelude.{nat_le, nat_lt}
 use Rattle.plan_types.specs.declared.plan.TrigState.{TrigState}
@@ -146,11 +146,7 @@ sole_state s t e = cc
 
 told_from : (b start : ℕ) (m : Machine) (pins : List (List Level)) (entries : List Entry) (turns : List BoardTurn) (s : State) → AreBoardTurns (clock_of (board_at m b)) (first_state (board_at m b) pins b entries) turns
     → latest_state turns ≡ s ∷ [] → start ≤ s.turn + 1 → SayFired s.news → TellFiredFrom start turns
-told_from b start m pins entries [] s are e late t = absurd (cc)
-told_from b start m pins entries (x ∷ before) s are e late t =
-    let same = sole_state s x.state e in
-    let turn : s.turn ≡ length before = ap (λ (y : State). y.turn) (sym same) ∙ are.0.1.turn in
-    inl (omega (arith, late, turn), subst (λ (y : State). SayFired y.news) (sym same) t)
+told_from b start m pins entries turns s p7 p8 p9 p10 = search (rules, sole_state)
 
 pub heard_so : (m : Machine) (pins : List (List Level)) (entries : List Entry) (b : ℕ) (turns : List BoardTurn) (clocks : List Clocks) (states : List State) (h : Homing)
     → AreBoardTurns (clock_of (board_at m b)) (first_state (board_at m b) pins b entries) turns → state_at b states ≡ latest_state turns

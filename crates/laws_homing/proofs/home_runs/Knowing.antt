@@ -1,5 +1,5 @@
 -- A homing section is known from its note until the word that tells of its answer.
-use Rattle.std.proofs.Common.{◌≡◌, ℕ, suc, ◌+◌, ◌<◌, ◌≤◌, ◌⊎◌, inl, inr, Bool, true, false, cond, List, [], ◌∷◌, ◌++◌, length, Option, Some, None, refl, ap, sym, ◌∙◌, subst, arith}
+use Rattle.std.proofs.Common.{◌≡◌, ℕ, suc, ◌+◌, ◌<◌, ◌≤◌, ◌⊎◌, inl, inr, Bool, true, false, cond, List, [], ◌∷◌, ◌++◌, length, Option, Some, None, refl, ap, sym, ◌∙◌, subst, arith, rules}
 use Rattle.laws_board.proofs.Names.{leb_tells, Cause, Machine, Clocks, axis_at, Note, NoteNews, State, ReportLine, Switch, End, Member, Goes, Rests, Sends, GroupState, turned_group, all_fired, phase, Homing, HomingTurn, answer_in, by_answer, goes_on_homing, hears_all, homing_after, homing_turn, members_of, Asking, listen_all, stale, Known, Phase, Connecting, Stopping, is_out, news_of, noted, known_behind, told_all, first_lines, first_cause, Reacted, by_phase, cut_line, reacts, unless_ended, unless_stale, Came, GoesOn, known_by, last_reacted, states-kept}
 use Rattle.msg_code.specs.declared.talk.NoteNews.TheVariants as news
 use Rattle.msg_code.specs.declared.talk.WordNews.{WordNews}
@@ -29,10 +29,7 @@ no_end None m r k states lines cut askings turn h = refl
 
 stale_end : (o : Option Cause) (m : Machine) (switches : List Switch) (r : Known) (k : ℕ) (states : List State) (lines : List ReportLine) (askings : List Asking) → end_of (unless_stale o m switches r k states lines askings) ≡ None
     → (homing_turn r.clocks k states r.homing).end ≡ None
-stale_end (Some cause) m switches r k states lines askings h = cc
-stale_end None m switches r k states lines askings h =
-    let turn = homing_turn r.clocks k states r.homing in
-    no_end turn.end m (after_homing r k states) k states lines (cut_line m switches turn.section (axis_at m turn.axis) turn.cut) askings turn h
+stale_end o m switches r k states lines askings p8 = search (rules, homing_turn, no_end, cut_line, axis_at)
 
 phase_end : (p : Phase) (m : Machine) (switches : List Switch) (r : Known) (k : ℕ) (states : List State) (lines : List ReportLine) → p ≡ Running → end_of (by_phase p m switches r k states lines) ≡ None → (homing_turn r.clocks k states r.homing).end ≡ None
 phase_end Running m switches r k states lines e h = let askings = listen_all r.askings.items states in stale_end (stale k 0 askings) m switches r k states lines askings h
@@ -103,12 +100,7 @@ words_are : (m : Machine) (r : Known) (k : ℕ) (states : List State) (x : React
 words_are m r k states x g = ap (λ (y : Reacted). y.ordered.word.news) g.is
 
 pub cut_of : (m : Machine) (r : Known) (k : ℕ) (states : List State) (x : Reacted) → RunsOn m r k states x → TellsHomed x.ordered.word.news → (tick : ℕ) × ((homing_turn r.clocks k states r.homing).cut ≡ Some tick)
-cut_of m r k states x g t =
-    let turn = homing_turn r.clocks k states r.homing in
-    elim (tells_either (homed turn.cut) (new_lines m 0 r.askings.items (listen_all r.askings.items states)) (subst TellsHomed (words_are m r k states x g) t)) [
-      | inl now ↦ homed_cut turn.cut now
-      | inr later ↦ absurd (lines_none m 0 r.askings.items (listen_all r.askings.items states) later)
-    ]
+cut_of m r k states x g t = search (rules, homing_turn, tells_either, listen_all, words_are, homed_cut, lines_none)
 
 none_cut : (m : Machine) (r : Known) (k : ℕ) (states : List State) (x : Reacted) → RunsOn m r k states x → (TellsHomed x.ordered.word.news → ⊥) → (homing_turn r.clocks k states r.homing).cut ≡ None
 none_cut m r k states x g n =
@@ -144,13 +136,7 @@ start_either false g x e = e
 
 still_of : (clocks : List Clocks) (k start : ℕ) (states : List State) (ms : List Member) (o : Option Homing) → IsOf start ms o → (homing_turn clocks k states o).cut ≡ None → (homing_turn clocks k states o).end ≡ None
     → IsOf start ms (homing_after clocks k states o)
-still_of clocks k start states ms None of c e = absurd of
-still_of clocks k start states ms (Some h) of c e =
-    let g = hears_all clocks states h in
-    let none = no_answer k g (answer_in k g.start g.group) c e in
-    let p = phase g.group.start g.group.last k in
-    subst (λ (o : Option End). IsOf start ms (goes_on_homing k g o)) (sym none)
-    (of.0, in_start p g.group k ∙ states_start clocks 0 h.start states h.group ∙ of.1, in-kept p g.group k ∙ states-kept clocks 0 h.start states h.group ∙ of.2)
+still_of clocks k start states ms o p6 p7 p8 = search (rules, hears_all, no_answer, answer_in, phase, goes_on_homing, in_start, states_start, in-kept, states-kept)
 
 -- what is known as the next turn begins
 record IsKnown (m : Machine) (switches : List Switch) (start : ℕ) (ms : List Member) (came : List Came) : Type 0 where

@@ -1,5 +1,5 @@
 -- A control sets the clocks of steppers that move alone.
-use Rattle.std.proofs.Common.{◌≡◌, ℕ, zero, suc, ◌+◌, ◌*◌, ◌/◌, ◌%◌, ◌<◌, ◌==◌, ◌&&◌, ◌⊎◌, inl, inr, Bool, true, false, cond, List, [], ◌∷◌, ◌++◌, length, map, take, drop, Option, Some, None, refl, sym, subst, arith}
+use Rattle.std.proofs.Common.{◌≡◌, ℕ, zero, suc, ◌+◌, ◌*◌, ◌/◌, ◌%◌, ◌<◌, ◌==◌, ◌&&◌, ◌⊎◌, inl, inr, Bool, true, false, cond, List, [], ◌∷◌, ◌++◌, length, map, take, drop, Option, Some, None, refl, sym, subst, arith, rules}
 use Rattle.std.specs.Prelude.{nat_lt, slice_index_or}
 use Rattle.laws_board.proofs.Names.{eqb-true, take-append-drop, Level, AxisDef, Machine, Clocks, axis_at, board_at, stepper_at, Cmd, State, Control, Entry, Switch, Ctl, End, Member, Order, Goes, Rests, Sends, Homes, Starts, Fired, Seen, GroupState, all_fired, phase, relay_in, relays_in, round_of, steppers, Homing, answer_in, by_answer, command_to, commands_to, hears_all, homing_turn, order_command, members_of, Asking, asks_now, clock_question, drifts, waits_in, Known, Connecting, noted, Reacted, homing_commands, stop_command, stops, Came, known_by, last_reacted, states-kept, both_parts}
 use Rattle.plan_types.specs.declared.machine.StepperDef.{StepperDef}
@@ -137,11 +137,7 @@ covers (x ∷ xs) = (λ s is. inl (refl, subst (λ (l : List ℕ). IsAmong s l) 
 
 -- their commands
 one_of : (m : Machine) (clocks : Clocks) (b start : ℕ) (axis : AxisDef) (ms : List Member) (c : Ctl) → c.board ≡ b → Resets_in ms c → SetsOf (MovesAs m b ms) (order_command m clocks b start axis c.what)
-one_of m clocks b start axis ms c same r = by_what c.what refl
-  where
-    by_what : (what : Order) → c.what ≡ what → SetsOf (MovesAs m b ms) (order_command m clocks b start axis what)
-    by_what (order.Reset s) e = (s, subst (λ (n : ℕ). Moves n s ms) same (r s e), refl)
-    by_what c e = tt
+one_of m clocks b start axis ms c same r = search (rules, order_command)
 
 ctl_of : (t : Bool) (m : Machine) (clocks : Clocks) (b start : ℕ) (axis : AxisDef) (ms : List Member) (c : Ctl) → (c.board == b) ≡ t → Resets_in ms c → AllSetOf (MovesAs m b ms) (cond t (order_command m clocks b start axis c.what ∷ []) [])
 ctl_of true m clocks b start axis ms c e r = (one_of m clocks b start axis ms c (eqb-true c.board b e) r, tt)
@@ -162,11 +158,7 @@ home_of m all k states h own b =
     (answer_resets (members_of g.group) k g (answer_in k g.start g.group) (phase_in (members_of g.group) (phase g.group.start g.group.last k) g.group k (covers g.group.members))))
 
 question_of : (P : ℕ → Type 0) (commands : List Cmd) (a : Asking) (stop : Bool) → AllSetOf P (clock_question commands a ++ stop_command stop)
-question_of P commands a stop = of_both P (clock_question commands a) (stop_command stop) (of_if P (asks_now commands a) (cmd.GetUptime ∷ []) (tt, tt)) (one stop)
-  where
-    one : (s : Bool) → AllSetOf P (stop_command s)
-    one true = (tt, tt)
-    one false = tt
+question_of P commands a stop = search (rules, of_both, clock_question, stop_command, of_if, asks_now)
 
 control_of : (m : Machine) (b : ℕ) (c : Came) (r : Known) (k start : ℕ) (ms : List Member) (a : Asking) (x : Reacted) (t : BoardTurn) (o : Option Homing) → r.homing ≡ o → IsOf start ms o
     → (r.phase ≡ Connecting → ⊥) → BoardTurned m r b k c.states a x t.control → AllSetOf (MovesAs m b ms) t.control.commands

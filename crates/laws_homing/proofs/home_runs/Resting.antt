@@ -1,5 +1,5 @@
 -- A link that rests in time: its board took the set-up of a homing section, and nothing that it said is under way.
-use Rattle.std.proofs.Common.{◌≡◌, ℕ, ◌==◌, true, List, [], ◌∷◌, map, refl, ap, sym, ◌∙◌, subst, append-nil}
+use Rattle.std.proofs.Common.{◌≡◌, ℕ, ◌==◌, true, List, [], ◌∷◌, map, refl, ap, sym, ◌∙◌, subst, append-nil, rules}
 use Rattle.laws_board.proofs.Names.{eqb-true, Level, BoardDef, clock_of, Entry, Reply, Core, first_state, turns_are_steps, both_parts}
 use Rattle.link_core.specs.Core.{Command, sent}
 use Rattle.board_world.specs.Stands.{reply_text}
@@ -19,23 +19,11 @@ use Rattle.link_work.proofs.Bounds.{nothing_waits}
 
 pub rests_took : (b : BoardDef) (pins : List (List Level)) (board : ℕ) (entries : List Entry) (turns : List BoardTurn) → AreBoardTurns (clock_of b) (first_state b pins board entries) turns
     → is_idle (stands_after (first_state b pins board entries) turns) ≡ true → (stands_after (first_state b pins board entries) turns).core.taken ≡ queued_in_turns turns
-rests_took b pins board entries turns are idle =
-    let first = first_state b pins board entries in
-    let l = stands_after first turns in
-    let steps = turns_are_steps (clock_of b) 0 (orders_in turns) first l (turns_in_order (clock_of b) first turns are) in
-    let both = both_parts (none_wait l.core.link.waiting) (l.core.link.acked == sent l.core.link) idle in
-    let waits = nothing_waits l.core.link.waiting both.0 in
-    let acked = eqb-true l.core.link.acked (sent l.core.link) both.1 in
-    let took = idle_took b pins steps.0 (ap (λ (h : Core). h.link.waiting) (sym steps.1) ∙ waits) (subst (λ (h : Core). h.link.acked ≡ sent h.link) steps.1 acked) in
-    ap (λ (h : Core). h.taken) steps.1 ∙ took ∙ ap (λ (h : Core). h.queued) (sym steps.1) ∙ all_queued b pins board entries turns are
+rests_took b pins board entries turns are idle = search (rules, first_state, turns_are_steps, clock_of, turns_in_order, both_parts, nothing_waits, eqb-true, idle_took, all_queued)
 
 pub rests_up : (b : BoardDef) (pins : List (List Level)) (board : ℕ) (entries : List Entry) (turns : List BoardTurn) → AreBoardTurns (clock_of b) (first_state b pins board entries) turns
     → (stands_after (first_state b pins board entries) turns).up.copies ≡ [] → (stands_after (first_state b pins board entries) turns).core.link.up ≡ []
-rests_up b pins board entries turns are none =
-    let first = first_state b pins board entries in
-    let l = stands_after first turns in
-    let holds = turns_hold (clock_of b) 0 (orders_in turns) first l (start_ordered b pins).in_step (record { down = refl; up = refl }) (turns_in_order (clock_of b) first turns are) in
-    none_up l.core.link.up (sym holds.up ∙ ap blocks_on none)
+rests_up b pins board entries turns are none = search (rules, first_state, turns_hold, clock_of, start_ordered, turns_in_order, none_up)
 
 pub rests_set_up : (b : BoardDef) (pins : List (List Level)) (board : ℕ) (entries : List Entry) (turns : List BoardTurn) (begin : ℕ) → AreBoardTurns (clock_of b) (first_state b pins board entries) turns
     → RestsInTime (first_state b pins board entries) begin turns → TakesSetUp (first_state b pins board entries) begin turns

@@ -1,5 +1,5 @@
 -- What a board answers of its triggers: of one that it tells that it can't trigger, that is so, and it stands as told.
-use Rattle.std.proofs.Common.{◌≡◌, ℕ, zero, suc, ◌+◌, ◌/◌, ◌%◌, ◌<◌, ◌≤◌, ◌^◌, Bool, true, false, cond, List, [], ◌∷◌, length, Option, Some, None, refl, ap, sym, subst, arith, inl, inr}
+use Rattle.std.proofs.Common.{◌≡◌, ℕ, zero, suc, ◌+◌, ◌/◌, ◌%◌, ◌<◌, ◌≤◌, ◌^◌, Bool, true, false, cond, List, [], ◌∷◌, length, Option, Some, None, refl, ap, sym, subst, arith, inl, inr, rules}
 use Rattle.std.specs.Prelude.{if◌then◌else◌, slice_index_or, nat_lt}
 use Rattle.laws_board.proofs.Names.{get_or-set_same, leb_tells, Level, BoardState, Running, Shut, Pending, Happening, Nothing, Expires, Switches, Reports, Trigger, Cmd, Controller, Rig, Slot, Passed, becomes, slot_at, expires_at_once, set_timeout, acts, acts_running, takes, takes_all, happens_to, runs_to, rests_to, earliest_moment, at_of, goes_on, passes_by, pass, all_left, passes, slot_range, says}
 use Rattle.msg_code.specs.Units.{bit}
@@ -78,22 +78,14 @@ make_tells b oid None = tt
 make_tells b oid (Some q) = tt
 
 pub acts_tells : (b : Controller) (c : Cmd) → Tells (board_acts b c)
-acts_tells b cmd.EmergencyStop = (tt, tt)
-acts_tells b (cmd.ConfigStepper oid step dir invert width) = make_tells b oid (stepper_at b oid)
-acts_tells b (cmd.QueueStep oid interval count add) = queue_tells b oid (stepper_at b oid) (record { interval = interval; count = count; add = add })
-acts_tells b (cmd.SetNextStepDir oid dir) = dir_tells b oid (stepper_at b oid) dir
-acts_tells b (cmd.ResetStepClock oid clock) = reset_tells b oid (stepper_at b oid) clock
-acts_tells b c = tt
+acts_tells b c = search (rules, make_tells, queue_tells, dir_tells, reset_tells)
 
 pub running_tells : (s : BoardState) (b : Controller) (c : Cmd) → Tells (board_running s b c)
 running_tells Running b c = acts_tells b c
 running_tells (Shut reason at first) b c = tt
 
 pub board_tells : (b : Controller) (c : Cmd) → Tells (board_takes b c)
-board_tells b (cmd.Identify offset count) = (tt, tt)
-board_tells b cmd.GetConfig = (tt, tt)
-board_tells b cmd.GetUptime = (tt, tt)
-board_tells b c = running_tells b.state b c
+board_tells b c = search (rules, running_tells)
 
 -- what is told of a trigger that becomes another one
 becomes_at : (j oid : ℕ) (r : Rig) (s : Slot) (t : Trigger) → slot_at r oid ≡ Some s → oid ≡ j → slot_at (becomes r oid s t) j ≡ Some (record s { trigger = t })
@@ -104,10 +96,7 @@ becomes_fired : (j oid : ℕ) (r : Rig) (s : Slot) (t : Trigger) → slot_at r o
 becomes_fired j oid r s t at same fell = record { slot = record s { trigger = t }; is = becomes_at j oid r s t at same; fired = fell }
 
 becomes_stands : (j oid n : ℕ) (r : Rig) (s : Slot) (t : Trigger) → slot_at r oid ≡ Some s → oid ≡ j → t.can ≡ false → HasNoTimeout j (becomes r oid s t) → StandsFired j t.reason ((if t.can then n else t.tick) % 2 ^ 32) (becomes r oid s t)
-becomes_stands j oid n r s t at same fell quiet =
-    let u : Slot = record s { trigger = t } in
-    let is = becomes_at j oid r s t at same in
-    record { slot = u; is = is; fired = fell; none = quiet u is fell; reason_is = refl; clock_is = ap (λ (b : Bool). (if b then n else t.tick) % 2 ^ 32) (sym fell) }
+becomes_stands j oid n r s t at same fell quiet = search (rules, becomes_at)
 
 pub bit_small : (b : Bool) → bit b < 2 ^ 8
 bit_small true = omega arith
@@ -118,15 +107,7 @@ bit_none true e = absurd (omega (arith, e))
 bit_none false e = refl
 
 tell_says : (j oid n : ℕ) (r : Rig) (s : Slot) (t : Trigger) → length r.triggers ≤ 256 → IsSole j r → slot_at r oid ≡ Some s → SaysNow j (becomes r oid s t) (tell oid (trig.state_at n t))
-tell_says j oid n r s t few sole at =
-    let within = slot_range r.triggers oid s at in
-    let own = sole oid s at in (
-      omega (arith, few, within),
-      bit_small t.can,
-      own,
-      (λ none. becomes_fired j oid r s t at own (bit_none t.can none)),
-      λ none quiet. becomes_stands j oid n r s t at own (bit_none t.can none) quiet,
-    )
+tell_says j oid n r s t few sole at = search (rules, slot_range, bit_small, becomes_fired, bit_none, becomes_stands)
 
 expires_says : (j oid : ℕ) (o : Option ℕ) (r : Rig) (s : Slot) (t : Trigger) → length r.triggers ≤ 256 → IsSole j r → slot_at r oid ≡ Some s → Each (SaysNow j (expires_at_once r oid s t o).rig) (expires_at_once r oid s t o).answers
 expires_says j oid None r s t few sole at = tt
@@ -139,10 +120,7 @@ timeout_says j oid clock r (Some s) few sole at =
     expires_says j oid t.untold r s t few sole at
 
 trigger_says : (j oid reason : ℕ) (r : Rig) (o : Option Slot) → length r.triggers ≤ 256 → IsSole j r → slot_at r oid ≡ o → Each (SaysNow j (trigger r oid o reason).rig) (trigger r oid o reason).answers
-trigger_says j oid reason r None few sole at = tt
-trigger_says j oid reason r (Some s) few sole at =
-    let t = trig.triggered r.controller.tick reason s.trigger in
-    (tell_says j oid r.controller.tick r s t few sole at, tt)
+trigger_says j oid reason r o p5 p6 p7 = search (rules, tell_says)
 
 rig_says : (j : ℕ) (r : Rig) (c : Cmd) → length r.triggers ≤ 256 → IsSole j r → Each (SaysNow j (acts r c).rig) (acts r c).answers
 rig_says j r (cmd.ConfigTrsync oid) few sole = tt

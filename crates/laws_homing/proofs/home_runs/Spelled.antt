@@ -1,5 +1,5 @@
 -- Which bytes are an answer that tells of a trigger: that it can't trigger, and whatever it tells.
-use Rattle.std.proofs.Common.{◌≡◌, ℕ, ◌%◌, ◌^◌, ◌<◌, List, [], ◌∷◌, ◌++◌, refl, ap, sym, ◌∙◌, subst, arith}
+use Rattle.std.proofs.Common.{◌≡◌, ℕ, ◌%◌, ◌^◌, ◌<◌, List, [], ◌∷◌, ◌++◌, refl, ap, sym, ◌∙◌, subst, arith, rules}
 use Rattle.vlq_code.specs.Spelling.{Spells, spelling}
 use Rattle.vlq_code.proofs.Lengths.{spelling_spells}
 use Rattle.vlq_code.proofs.Spelled.{joined_alike, one_number}
@@ -32,51 +32,19 @@ cancel (p ∷ a) [] x y e f = absurd (cc)
 cancel (p ∷ a) (q ∷ b) x y e f = cancel a b x y (cc) (cc)
 
 alike : (c told : Cmd) → IsText own_formats told (wire_text c) → Alike c told
-alike c told t =
-    let i = t.spelled in
-    let id = own_id (row_of c) in
-    let mine : Spells (spelling id) id = spelling_spells id (small (row_of c)) in
-    let whole : i.first ++ i.rest ≡ spelling id ++ params_text (params_of c) = sym i.joined ∙ own_text c in
-    let first : i.first ≡ spelling id = joined_alike i.first (spelling id) i.rest (params_text (params_of c)) i.is_first.joined mine.joined whole in
-    let same : t.id ≡ id = one_number i.first (spelling id) t.id id i.is_first mine first in
-    let is : t.row ≡ row_of c = same_row t.id id t.row (row_of c) same t.known (own_row (row_of c)) in
-    record {
-      params = t.params;
-      rest = i.rest;
-      spelled = subst (λ (r : Row). SpellsAll (kinds r) t.params i.rest) is i.is_rest;
-      same = cancel i.first (spelling id) i.rest (params_text (params_of c)) first whole;
-      says = t.says ∙ ap (λ (r : Row). command r t.params) is;
-    }
+alike c told t = search (rules, spelling_spells, small, own_text, joined_alike, one_number, same_row, own_row, cancel)
 
 -- the first two numbers of an answer
 two : (ps : List Param) (rest : List ℕ) (a b : ℕ) (more : List ℕ) → a < 2 ^ 32 → b < 2 ^ 32 → SpellsAll (kind.Number ∷ kind.Number ∷ kind.Number ∷ kind.Number ∷ []) ps rest
     → rest ≡ spelling a ++ (spelling b ++ more)
     → (x : ℕ) × (y : ℕ) × (qs : List Param) × (ps ≡ param.Number x ∷ param.Number y ∷ qs) × (x ≡ a) × (y ≡ b)
-two [] rest a b more k l s e = absurd s
-two (param.Bytes bytes ∷ ps) rest a b more k l s e = absurd s.0
-two (param.Number x ∷ []) rest a b more k l s e = absurd s.1.is_rest
-two (param.Number x ∷ param.Bytes bytes ∷ ps) rest a b more k l s e = absurd s.1.is_rest.0
-two (param.Number x ∷ param.Number y ∷ qs) rest a b more k l s e =
-    let j = s.1 in
-    let i = j.is_rest.1 in
-    let mine = spelling_spells a k in
-    let other = spelling_spells b l in
-    let whole : j.first ++ j.rest ≡ spelling a ++ (spelling b ++ more) = sym j.joined ∙ e in
-    let first : j.first ≡ spelling a = joined_alike j.first (spelling a) j.rest (spelling b ++ more) j.is_first.joined mine.joined whole in
-    let left : j.rest ≡ spelling b ++ more = cancel j.first (spelling a) j.rest (spelling b ++ more) first whole in
-    let second : i.first ≡ spelling b = joined_alike i.first (spelling b) i.rest more i.is_first.joined other.joined (sym i.joined ∙ left) in
-    (x, y, qs, refl, one_number j.first (spelling a) x a j.is_first mine first, one_number i.first (spelling b) y b i.is_first other second)
+two ps rest a b more p5 p6 p7 p8 = search (rules, spelling_spells, joined_alike, cancel, one_number)
 
 same_state : (a b c d e f g h : ℕ) → cmd.TrsyncState a b c d ≡ cmd.TrsyncState e f g h → (a ≡ e) × (b ≡ f) × (c ≡ g) × (d ≡ h)
 same_state a b c d e f g h s = (cc, cc, cc, cc)
 
 by_params : (ps : List Param) (x y : ℕ) (qs : List Param) (j reason clock : ℕ) → ps ≡ param.Number x ∷ param.Number y ∷ qs → cmd.TrsyncState j 0 reason clock ≡ command row.TrsyncState ps → x < 2 ^ 8 → y < 2 ^ 8 → (x ≡ j) × (y ≡ 0)
-by_params ps x y qs j reason clock e s k l =
-    let t : cmd.TrsyncState j 0 reason clock ≡ command row.TrsyncState (param.Number x ∷ param.Number y ∷ qs) = s ∙ ap (λ (p : List Param). command row.TrsyncState p) e in
-    let both = same_state j 0 reason clock _ _ _ _ t in
-    let p : j ≡ x % 2 ^ 8 = both.0 in
-    let q : 0 ≡ y % 2 ^ 8 = both.1 in
-    (omega (arith, p, k), omega (arith, q, l))
+by_params ps x y qs j reason clock e s k l = search (rules, same_state)
 
 -- an answer that tells of a trigger is about this one, and tells that it can't trigger
 pub state_is : (a b r k j reason clock : ℕ) → a < 2 ^ 8 → b < 2 ^ 8 → IsText own_formats (cmd.TrsyncState j 0 reason clock) (wire_text (cmd.TrsyncState a b r k)) → (a ≡ j) × (b ≡ 0)

@@ -1,5 +1,5 @@
 -- A stepper that is halted stays so until its clock is set.
-use Rattle.std.proofs.Common.{◌≡◌, ℕ, suc, true, List, [], ◌∷◌, ◌++◌, length, refl, ap, sym, ◌∙◌, subst, arith, append-nil, append_assoc}
+use Rattle.std.proofs.Common.{◌≡◌, ℕ, suc, true, List, [], ◌∷◌, ◌++◌, length, refl, ap, sym, ◌∙◌, subst, arith, append-nil, append_assoc, rules}
 use Rattle.laws_board.proofs.Names.{append_cancel_left, BoardClock, Cmd, Meant, commands_of, Rig, takes, takes_all, Event, Core, Step, Do, Turn, does, after_event, in_turn, run_world, takes_in, orders, LinkState, turns_are_steps}
 use Rattle.msg_code.specs.declared.cmd.Cmd.TheVariants as cmd
 use Rattle.board_sim.specs.Board.{stepper_at}
@@ -44,11 +44,7 @@ steps_stay i (Turn turn ∷ steps) h n is = steps_stay i steps (in_turn h turn) 
 
 -- over some steps, as far as what they take doesn't set the clock
 pub halted_stays : (i : ℕ) (steps : List Step) (h : Core) (ms : List Meant) → (run_world steps h).taken ≡ h.taken ++ ms → AllSetNot i ms → IsHalted (stepper_at h.board.controller i) → IsHalted (stepper_at (run_world steps h).board.controller i)
-halted_stays i steps h ms e n is =
-    let took = taken_more steps h in
-    let same : took.0 ≡ ms = append_cancel_left h.taken took.0 ms (sym took.1 ∙ e) in
-    is_halted (stepper_at (run_world steps h).board.controller i)
-    (steps_stay i steps h (subst (λ (x : List Meant). AllSetNot i x) (sym same) n) (halted_is (stepper_at h.board.controller i) is))
+halted_stays i steps h ms e n is = search (rules, append_cancel_left, is_halted, run_world, steps_stay, halted_is)
 
 -- what a board takes over some turns
 pub taken_later : (clock : BoardClock) (first : LinkState) (later past : List BoardTurn) → AreBoardTurns clock first (later ++ past) → (ms : List Meant) × ((stands_after first (later ++ past)).core.taken ≡ (stands_after first past).core.taken ++ ms)

@@ -1,5 +1,5 @@
 -- A stepper that is bound behind its trigger's first timeout makes no pulse at or behind the tick up to which the timeouts are read.
-use Rattle.std.proofs.Common.{◌≡◌, ℕ, suc, ◌+◌, ◌<◌, ◌≤◌, Bool, true, false, cond, List, [], ◌∷◌, ◌++◌, length, map, refl, ap, sym, ◌∙◌, subst, arith, inl, inr, append_assoc, append-nil, length-append}
+use Rattle.std.proofs.Common.{◌≡◌, ℕ, suc, ◌+◌, ◌<◌, ◌≤◌, Bool, true, false, cond, List, [], ◌∷◌, ◌++◌, length, map, refl, ap, sym, ◌∙◌, subst, arith, inl, inr, append_assoc, append-nil, length-append, rules}
 use Rattle.std.specs.Prelude.{nat_le}
 use Rattle.laws_board.proofs.Names.{leb_tells, Level, BoardDef, Running, Pulse, board_tick, clock_of, Entry, Cmd, Meant, commands_of, Rig, all_left, pass, passes, takes, AllSound, Event, Core, Do, Step, Turn, after_event, in_turn, run_world, takes_in, first_state, orders, LinkState, run_append}
 use Rattle.msg_code.specs.declared.cmd.Cmd.TheVariants as cmd
@@ -193,12 +193,7 @@ commands_many [] = refl
 commands_many (m ∷ ms) = ap suc (commands_many ms)
 
 places : (steps : List Step) (h : Core) → length h.taken + length (commands_in (rig_steps steps h)) ≡ length (run_world steps h).taken
-places steps h =
-    let a = ap length (took_is steps h) in
-    let b = length-append h.taken (took steps h) in
-    let c = ap length (in_steps steps h) in
-    let d = commands_many (took steps h) in
-    omega (arith, a, b, c, d)
+places steps h = search (rules, took_is, length-append, in_steps, commands_many)
 
 -- a turn, in which timeouts are read in time
 abbrev LateTurn : ℕ → ℕ → ℕ → Core → List Step → Type 0
@@ -226,11 +221,7 @@ one_timely b pins place entries n j most t before are reads =
     )
 
 steps_late : (n j most : ℕ) (xs ys : List Step) (h : Core) → LateTurn n j most h xs → LateTurn n j most (run_world xs h) ys → LateTurn n j most h (xs ++ ys)
-steps_late n j most xs ys h a b =
-    let g = run_world xs h in
-    subst (AreLate n (length h.taken) j most h.board) (sym (rig_append xs ys h))
-    (late_both n (length h.taken) (length g.taken) (rig_steps xs h) (rig_steps ys g) j most h.board (places xs h) a
-    (subst (λ (r : Rig). AreLate n (length g.taken) j most r (rig_steps ys g)) (steps_board xs h) b))
+steps_late n j most xs ys h a b = search (rules, run_world, rig_append, late_both, places, steps_board)
 
 -- the steps of some turns behind others
 record LaterSteps (first : LinkState) (n j most : ℕ) (later past : List BoardTurn) : Type 0 where

@@ -1,5 +1,5 @@
 -- What a board was sent by the turns of a homing section: the stepper that moves is bound to its trigger.
-use Rattle.std.proofs.Common.{◌≡◌, ℕ, ◌+◌, ◌<◌, ◌≤◌, ◌==◌, ◌&&◌, ◌⊎◌, inl, inr, Bool, true, false, cond, List, [], ◌∷◌, ◌++◌, length, map, Option, Some, None, refl, ap, sym, ◌∙◌, subst, arith}
+use Rattle.std.proofs.Common.{◌≡◌, ℕ, ◌+◌, ◌<◌, ◌≤◌, ◌==◌, ◌&&◌, ◌⊎◌, inl, inr, Bool, true, false, cond, List, [], ◌∷◌, ◌++◌, length, map, Option, Some, None, refl, ap, sym, ◌∙◌, subst, arith, rules}
 use Rattle.laws_board.proofs.Names.{flat_map, eq-eqb, eqb-true, map-append, Level, Machine, IsValidMachine, stepper_at, dir_commands, reset_commands, step_command, Cmd, Unit as StepUnit, Entry, Switch, commands_of, plain, unit_orders, units_orders, queued_in, orders, Setup, configuration, trigger_of, Connecting, Came, known_by}
 use Rattle.std.specs.List.{filter}
 use Rattle.plan_types.specs.declared.machine.StepperDef.{StepperDef}
@@ -100,15 +100,7 @@ grown_made true s sole = (sole, λ m. refl, λ t. keep_there s t)
 grown_made false s sole = (sole, λ m. keep_made s m, λ t. keep_there s t)
 
 one_grown : (i j : ℕ) (s : Stage) (c : Cmd) → OneOnly j c → s.sole ≡ true → OneGrown i j s c
-one_grown i j s (cmd.ConfigStepper oid step dir invert width) only sole = grown_made (oid == i) s sole
-one_grown i j s (cmd.ConfigTrsync oid) only sole =
-    let Is : Bool → Type 0 = λ t. ((cond t (record s { there = true }) lost_stage).sole ≡ true) × (((s.made ≡ true) ⊎ (false ≡ true)) → (cond t (record s { there = true }) lost_stage).made ≡ true)
-    × (((s.there ≡ true) ⊎ (oid ≡ j)) → (cond t (record s { there = true }) lost_stage).there ≡ true) in
-    subst Is (sym (eq-eqb oid j only)) (sole, λ m. keep_made s m, λ t. refl)
-one_grown i j s (cmd.TrsyncStart oid clock every reason) only sole = grown_if (oid == j) s (record s { bound = false }) refl refl refl sole
-one_grown i j s (cmd.ResetStepClock oid clock) only sole = grown_if (oid == i) s (record s { bound = false }) refl refl refl sole
-one_grown i j s (cmd.StepperStopOnTrigger oid other) only sole = grown_if ((oid == i) && (other == j)) s (record s { bound = s.made && s.there }) refl refl refl sole
-one_grown i j s c only sole = same_grown i j s s refl refl refl sole
+one_grown i j s c p4 p5 = search (rules, grown_made, eq-eqb, keep_made, grown_if, same_grown)
 
 made_first : (i : ℕ) (s u : Stage) (c : Cmd) (n : ℕ) (t : Bool) → makes i c ≡ t → (((s.made ≡ true) ⊎ (makes i c ≡ true)) → u.made ≡ true) → (s.made ≡ true) ⊎ (1 ≤ cond t 1 0 + n) → (u.made ≡ true) ⊎ (1 ≤ n)
 made_first i s u c n t e f (inl m) = inl (f (inl m))
@@ -154,12 +146,7 @@ made_bound true s e = e
 made_bound false s e = e
 
 one_bound : (i j : ℕ) (s : Stage) (c : Cmd) → IsCalm i j c → IsWhole s → (stage_of i j s c).bound ≡ true
-one_bound i j s (cmd.ConfigStepper oid step dir invert width) calm w = made_bound (oid == i) s w.bound
-one_bound i j s (cmd.ConfigTrsync oid) calm w = subst (λ (t : Bool). (cond t (record s { there = true }) lost_stage).bound ≡ true) (sym (eq-eqb oid j calm)) w.bound
-one_bound i j s (cmd.TrsyncStart oid clock every reason) calm w = unless_own (oid == j) s (λ e. calm (eqb-true oid j e)) w.bound
-one_bound i j s (cmd.ResetStepClock oid clock) calm w = unless_own (oid == i) s (λ e. calm (eqb-true oid i e)) w.bound
-one_bound i j s (cmd.StepperStopOnTrigger oid other) calm w = bound_if ((oid == i) && (other == j)) s w.ready w.bound
-one_bound i j s c calm w = w.bound
+one_bound i j s c p4 p5 = search (rules, made_bound, eq-eqb, unless_own, eqb-true, bound_if)
 
 pub whole_on : (i j : ℕ) (s : Stage) (cs : List Cmd) → EachCalm i j cs → IsWhole s → IsWhole (stage_from i j s cs)
 whole_on i j s [] calm w = w
@@ -168,10 +155,7 @@ whole_on i j s (c ∷ cs) calm w =
 
 -- a stepper is bound by some commands
 binds_now : (i j : ℕ) (s : Stage) → Ready s → IsWhole (stage_of i j s (cmd.StepperStopOnTrigger i j))
-binds_now i j s r =
-    let both : ((i == i) && (j == j)) ≡ true = ap (λ (x : Bool). x && (j == j)) (eq-eqb i i refl) ∙ eq-eqb j j refl in
-    subst (λ (t : Bool). IsWhole (cond t (record s { bound = s.made && s.there }) s)) (sym both)
-    (record { ready = record { sole = r.sole; made = r.made; there = r.there }; bound = ap (λ (x : Bool). x && s.there) r.made ∙ r.there })
+binds_now i j s r = search (rules, eq-eqb)
 
 pub whole_by : (i j : ℕ) (s : Stage) (cs : List Cmd) → Only j cs → Ready s → Binds i j cs → IsWhole (stage_from i j s cs)
 whole_by i j s [] only r b = absurd b
@@ -180,14 +164,7 @@ whole_by i j s (c ∷ cs) only r (inr b) = whole_by i j (stage_of i j s c) cs on
 
 -- what units bring
 pub unit_only : (j : ℕ) (u : StepUnit) → Only j (commands_of (unit_orders u))
-unit_only j u = one u.reset u.up
-  where
-    one : (r : Option ℕ) (d : Option Bool)
-        → Only j (commands_of (map plain (reset_commands u.stepper r) ++ (map plain (dir_commands u.stepper d) ++ record { command = step_command u; ticks = unit_ticks u } ∷ [])))
-    one None None = (tt, tt)
-    one None (Some d) = (tt, (tt, tt))
-    one (Some r) None = (tt, (tt, tt))
-    one (Some r) (Some d) = (tt, (tt, (tt, tt)))
+unit_only j u = search (rules, commands_of, plain, reset_commands, dir_commands, step_command)
 
 pub units_only : (j : ℕ) (us : List StepUnit) → Only j (commands_of (units_orders us))
 units_only j [] = tt
@@ -195,14 +172,7 @@ units_only j (u ∷ us) =
     subst (λ (l : List Cmd). Only j l) (sym (commands_both (unit_orders u) (units_orders us))) (only_both j (commands_of (unit_orders u)) (commands_of (units_orders us)) (unit_only j u) (units_only j us))
 
 unit_calm : (i j : ℕ) (u : StepUnit) → (u.stepper ≡ i → u.reset ≡ None) → AreCalm i j (unit_orders u)
-unit_calm i j u none = one u.reset u.up none
-  where
-    one : (r : Option ℕ) (d : Option Bool) → (u.stepper ≡ i → r ≡ None)
-        → AreCalm i j (map plain (reset_commands u.stepper r) ++ (map plain (dir_commands u.stepper d) ++ record { command = step_command u; ticks = unit_ticks u } ∷ []))
-    one None None f = (tt, tt)
-    one None (Some d) f = (tt, (tt, tt))
-    one (Some r) None f = (λ e. let x = f e in absurd (cc), (tt, tt))
-    one (Some r) (Some d) f = (λ e. let x = f e in absurd (cc), (tt, (tt, tt)))
+unit_calm i j u none = search (rules, plain, reset_commands, dir_commands, step_command)
 
 pub units_calm : (i j : ℕ) (us : List StepUnit) → SetNone i us → AreCalm i j (units_orders us)
 units_calm i j [] n = tt

@@ -1,5 +1,5 @@
 -- Turns of a board behind the set-up of a homing section.
-use Rattle.std.proofs.Common.{◌≡◌, ℕ, ◌≤◌, List, [], ◌∷◌, ◌++◌, length, refl, ap, sym, ◌∙◌, subst, arith}
+use Rattle.std.proofs.Common.{◌≡◌, ℕ, ◌≤◌, List, [], ◌∷◌, ◌++◌, length, refl, ap, sym, ◌∙◌, subst, arith, rules}
 use Rattle.laws_board.proofs.Names.{BoardClock, Level, BoardDef, clock_of, Cmd, Entry, Reply, commands_of, Rig, takes, takes_all, Event, IsOrdered, Core, Step, Do, Turn, does, after_event, in_turn, run_world, takes_in, first_state, orders, LinkState, turns_are_steps}
 use Rattle.board_sim.specs.Board.{stepper_at}
 use Rattle.board_sim.specs.RigRuns.{IsHalted}
@@ -21,10 +21,7 @@ all_places r [] = refl
 all_places r (c ∷ cs) = all_places (takes r c).rig cs ∙ takes_places r c
 
 does_places : (h : Core) (e : Event) → length (does h e).board.triggers ≡ length h.board.triggers
-does_places h (event.Pass t) = (passes_beside t h.board).1
-does_places h event.Arrive = all_places h.board (commands_of (takes_in h event.Arrive))
-does_places h event.Repeat = all_places h.board (commands_of (takes_in h event.Repeat))
-does_places h c = refl
+does_places h e = search (rules, passes_beside, all_places, commands_of, takes_in)
 
 run_places : (steps : List Step) (h : Core) → length (run_world steps h).board.triggers ≡ length h.board.triggers
 run_places [] h = refl

@@ -1,5 +1,5 @@
 -- In a turn in which a homing section is known a board is sent no command that begins readings but the section's own.
-use Rattle.std.proofs.Common.{◌≡◌, ℕ, ◌<◌, ◌⊎◌, inl, inr, Bool, true, false, cond, List, [], ◌∷◌, ◌++◌, length, map, Option, Some, None, refl, ap, sym, ◌∙◌, subst, arith, append_assoc, length-append}
+use Rattle.std.proofs.Common.{◌≡◌, ℕ, ◌<◌, ◌⊎◌, inl, inr, Bool, true, false, cond, List, [], ◌∷◌, ◌++◌, length, map, Option, Some, None, refl, ap, sym, ◌∙◌, subst, arith, append_assoc, length-append, rules}
 use Rattle.std.specs.Prelude.{◌==◌}
 use Rattle.laws_board.proofs.Names.{append_cancel_left, Level, Machine, Clocks, axis_at, board_at, clocks_at, Cmd, State, Control, Entry, Switch, Meant, plain, units_orders, Asking, clock_question, drifts, waits_in, queued_in, orders, Ctl, End, Order, Homing, answer_in, by_answer, command_to, commands_to, hears_all, homing_turn, order_command, Known, Connecting, noted, Reacted, homing_commands, stop_command, stops, Came, known_by, last_reacted, cons_same}
 use Rattle.trigger_group.specs.declared.order.End.TheVariants as end
@@ -42,10 +42,7 @@ ctls_are m b own start axis (c ∷ ctls) =
     one false = tt
 
 answer_is : (m : Machine) (b k : ℕ) (own : Clocks) (h : Homing) (o : Option End) → Each (Is (HomeOf m b own h.start h.axis)) (homing_commands m (by_answer k h o) own b)
-answer_is m b k own h None = ctls_are m b own h.start h.axis (by_answer k h None).ctls.items
-answer_is m b k own h (Some (end.Endstop tick)) = tt
-answer_is m b k own h (Some end.NoSwitch) = tt
-answer_is m b k own h (Some (end.Expired board turn)) = tt
+answer_is m b k own h o = search (rules, ctls_are, by_answer)
 
 control_is : (m : Machine) (b k : ℕ) (r : Known) (states : List State) (a : Asking) (x : Reacted) (c : Control) (h : Homing) → (r.phase ≡ Connecting → ⊥) → r.homing ≡ Some h → BoardTurned m r b k states a x c
     → Each (Is (HomeOf m b (clocks_at r.clocks b) h.start h.axis)) c.commands

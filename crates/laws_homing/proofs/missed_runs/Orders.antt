@@ -1,5 +1,5 @@
 -- What a board is sent while a homing section is known: no order to trigger but the relays of the section's group, and readings of the endstop alone.
-use Rattle.std.proofs.Common.{◌≡◌, ℕ, ◌+◌, ◌-◌, ◌*◌, ◌%◌, ◌^◌, ◌==◌, ◌≤◌, inl, inr, Bool, true, false, cond, List, [], ◌∷◌, ◌++◌, map, take, drop, length, Option, Some, None, refl, sym, ◌∙◌, subst, arith}
+use Rattle.std.proofs.Common.{◌≡◌, ℕ, ◌+◌, ◌-◌, ◌*◌, ◌%◌, ◌^◌, ◌==◌, ◌≤◌, inl, inr, Bool, true, false, cond, List, [], ◌∷◌, ◌++◌, map, take, drop, length, Option, Some, None, refl, sym, ◌∙◌, subst, arith, rules}
 use Rattle.std.specs.Prelude.{nat_lt}
 use Rattle.laws_board.proofs.Names.{eqb-true, eqb_tells, Level, AxisDef, Machine, Clocks, axis_at, board_at, clocks_at, Cmd, State, Control, Unit as StepUnit, dir_commands, reset_commands, step_command, Entry, Switch, plain, unit_orders, units_orders, Asking, asks_now, clock_question, drifts, waits_in, queued_in, orders, Ctl, End, Member, Order, Goes, Rests, Sends, Homes, Starts, Fired, Seen, GroupState, all_fired, first_timeout, phase, relay_in, relays_in, round_of, steppers, Homing, answer_in, by_answer, command_to, commands_to, hears_all, homing_turn, order_command, members_of, Known, Connecting, noted, Reacted, homing_commands, stop_command, stops, Came, known_by, last_reacted, states-kept}
 use Rattle.msg_code.specs.declared.cmd.Cmd.TheVariants as cmd
@@ -70,13 +70,7 @@ module _ (O : Order → Type 0) (C : Cmd → Type 0) (b : ℕ) (frees : (c : Cmd
   RoundOf round = Unit {0}
 
   to_are : (round : Round) (x : Seen) → (x.member.board ≡ b → x.member.endstop ≡ true → O order.Home) → RoundOf round → CtlsOf (orders_to round x)
-  to_are (Resets row) x f k = resets_are x (take 6 (drop (row * 6) (steppers x)))
-  to_are (Starts timeout) x f k = (λ e. start_so, (λ e. k, stops_are x (take 8 (steppers x))))
-  to_are Homes x f k =
-      ctls_both (map (stop x) (drop 8 (steppers x))) (cond x.member.endstop (to_board x order.Home ∷ []) []) (stops_are x (drop 8 (steppers x)))
-      (ctls_if x.member.endstop (to_board x order.Home ∷ []) (λ is. (λ e. f e is, tt)))
-  to_are (Timeouts turn) x f k = (λ e. k, tt)
-  to_are Relays x f k = fired_are x.fired (to_board x order.Trigger ∷ []) (λ e. k, tt)
+  to_are round x p2 p3 = search (rules, resets_are, steppers, stops_are, ctls_both, ctls_if, fired_are)
 
   round_are : (round : Round) (xs : List Seen) → (IsReader b (MembersOf xs) → O order.Home) → RoundOf round → CtlsOf (round_of round xs)
   round_are round [] f k = tt
@@ -89,10 +83,7 @@ module _ (O : Order → Type 0) (C : Cmd → Type 0) (b : ℕ) (frees : (c : Cmd
   PhaseOf g turn Rests = Unit {0}
 
   goes_are : (g : GroupState) (turn : ℕ) → (IsReader b (members_of g) → O order.Home) → PhaseOf g turn Goes → CtlsOf (goes g turn)
-  goes_are g turn f k =
-      ctls_both (cond (nat_lt g.sent (limit g)) (round_of (Timeouts (limit g)) g.members) []) (cond (relays_in (relay_in g turn) turn) (round_of Relays g.members) [])
-      (ctls_if (nat_lt g.sent (limit g)) (round_of (Timeouts (limit g)) g.members) (λ e. round_are (Timeouts (limit g)) g.members f (k.0 e)))
-      (ctls_if (relays_in (relay_in g turn) turn) (round_of Relays g.members) (λ e. round_are Relays g.members f (k.1 e)))
+  goes_are g turn f k = search (rules, ctls_both, nat_lt, round_of, relays_in, relay_in, ctls_if, round_are)
 
   in_are : (p : Phase) (g : GroupState) (turn : ℕ) → (IsReader b (members_of g) → O order.Home) → PhaseOf g turn p → CtlsOf (orders_of_group p g turn)
   in_are (Sends round) g turn f q = round_are round g.members f q
@@ -104,11 +95,7 @@ module _ (O : Order → Type 0) (C : Cmd → Type 0) (b : ℕ) (frees : (c : Cmd
   if_of g turn false x y f q = q
 
   phase_of : (g : GroupState) (k : ℕ) → ((g.start - k == 251) ≡ true → O (order.Timeout (first_timeout g.start g.last))) → ((g.start - k == 0) ≡ true → PhaseOf g k Goes) → PhaseOf g k (phase g.start g.last k)
-  phase_of g k first on =
-      let left = g.start - k in
-      if_of g k (left == 254) (Sends (Resets 0)) _ (λ e. tt)
-      (if_of g k (left == 253) (Sends (Resets 1)) _ (λ e. tt)
-      (if_of g k (left == 252) (Sends (Resets 2)) _ (λ e. tt) (if_of g k (left == 251) (Sends (Starts (first_timeout g.start g.last))) _ first (if_of g k (left == 250) (Sends Homes) _ (λ e. tt) (if_of g k (left == 0) Goes Rests on tt)))))
+  phase_of g k first on = search (rules, if_of, first_timeout)
 
   -- their commands
   ctls_are : (m : Machine) (clocks : Clocks) (start : ℕ) (axis : AxisDef) (ctls : List Ctl) → ((what : Order) → O what → C (order_command m clocks b start axis what)) → CtlsOf ctls → Each C (commands_to m clocks b start axis ctls)
@@ -122,10 +109,7 @@ module _ (O : Order → Type 0) (C : Cmd → Type 0) (b : ℕ) (frees : (c : Cmd
       (ctls_are m clocks start axis ctls so a.1)
 
   answer_is : (m : Machine) (k : ℕ) (own : Clocks) (h : Homing) (o : Option End) → ((what : Order) → O what → C (order_command m own b h.start (axis_at m h.axis) what)) → CtlsOf (group_orders h.group k) → Each C (homing_commands m (by_answer k h o) own b)
-  answer_is m k own h None so a = ctls_are m own h.start (axis_at m h.axis) (by_answer k h None).ctls.items so a
-  answer_is m k own h (Some (end.Endstop tick)) so a = tt
-  answer_is m k own h (Some end.NoSwitch) so a = tt
-  answer_is m k own h (Some (end.Expired board turn)) so a = tt
+  answer_is m k own h o p5 p6 = search (rules, ctls_are, axis_at, by_answer)
 
   stop_is : (s : Bool) → Each C (stop_command s)
   stop_is true = (frees cmd.EmergencyStop tt, tt)
@@ -168,16 +152,7 @@ module _ (O : Order → Type 0) (C : Cmd → Type 0) (b : ℕ) (frees : (c : Cmd
   plain_are (c ∷ cs) k = (k.0, plain_are cs k.1)
 
   unit_is : (u : StepUnit) → AllSo C (unit_orders u)
-  unit_is u = one u.reset u.up
-    where
-      steps : C (step_command u)
-      steps = frees (step_command u) tt
-
-      one : (r : Option ℕ) (d : Option Bool) → AllSo C (map plain (reset_commands u.stepper r) ++ (map plain (dir_commands u.stepper d) ++ record { command = step_command u; ticks = unit_ticks u } ∷ []))
-      one None None = (steps, tt)
-      one None (Some d) = (frees (cmd.SetNextStepDir u.stepper (bit d)) tt, (steps, tt))
-      one (Some r) None = (frees (cmd.ResetStepClock u.stepper (r % 2 ^ 32)) tt, (steps, tt))
-      one (Some r) (Some d) = (frees (cmd.ResetStepClock u.stepper (r % 2 ^ 32)) tt, (frees (cmd.SetNextStepDir u.stepper (bit d)) tt, (steps, tt)))
+  unit_is u = search (rules, step_command, plain, reset_commands, dir_commands)
 
   units_are : (us : List StepUnit) → AllSo C (units_orders us)
   units_are [] = tt

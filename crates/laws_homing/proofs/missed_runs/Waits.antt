@@ -1,5 +1,5 @@
 -- A trigger that is to read what is complete at a tick can't trigger from behind this tick on.
-use Rattle.std.proofs.Common.{◌≡◌, ℕ, suc, ◌+◌, ◌≤◌, Bool, true, false, List, [], ◌∷◌, ◌++◌, length, Option, Some, None, refl, ap, sym, ◌∙◌, subst, arith, append_assoc, ◌⊎◌, inl, inr}
+use Rattle.std.proofs.Common.{◌≡◌, ℕ, suc, ◌+◌, ◌≤◌, Bool, true, false, List, [], ◌∷◌, ◌++◌, length, Option, Some, None, refl, ap, sym, ◌∙◌, subst, arith, append_assoc, ◌⊎◌, inl, inr, rules}
 use Rattle.std.specs.Prelude.{slice_index_or}
 use Rattle.laws_board.proofs.Names.{append_cancel_left, get_or-set_same, BoardClock, Level, nearest, board_tick, Trigger, Happening, Nothing, Expires, Switches, Reports, Cmd, Meant, commands_of, Rig, Slot, passes, slot_at, takes_all, AllSound, one_slot, slot_range, LinkState, no_both}
 use Rattle.board_trig.specs.declared.sampling.Homing.{Homing as Reading}
@@ -100,16 +100,7 @@ module _ (x j : ℕ) where
   bound_one pins s i tick (inr k) = inr ((k.0.0, k.0.1, k.0.2), k.1)
 
   follows_one : (tick : ℕ) → Follows (Each_one (tick ≤ x)) (Fits tick)
-  follows_one tick = record {
-    made = λ pins now oid fit own. inl (record { off = refl; idle = refl; before = omega arith });
-    starts = λ pins now oid s clock every reason fit k. absurd fit.0;
-    limits = λ pins now oid s clock fit can ahead k own. limited_one pins s (nearest now clock) tick can (k own);
-    expires = λ pins now oid s clock fit can past k own. ended_one _ now tick pins s _ refl refl refl fit.2 can (k own);
-    says = λ pins oid s n e k own. says_one (tick ≤ x) pins s (k own);
-    fires = λ pins now oid s reason fit can k own. ended_one _ now tick pins s _ refl refl refl fit.2 can (k own);
-    binds = λ pins now oid s i fit k own. bound_one pins s i tick (k own);
-    homes = λ pins now oid s i pin g fit k. absurd fit.1;
-  }
+  follows_one tick = search (rules, limited_one, nearest, ended_one, says_one, bound_one)
 
   fits_each : (tick : ℕ) (ms : List Meant) → EachTame (commands_of ms) → AreBlind ms → Each (Fits tick tick) (commands_of ms)
   fits_each tick [] tame blind = tt

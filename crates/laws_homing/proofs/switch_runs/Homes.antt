@@ -1,5 +1,5 @@
 -- Past connecting the endstop of each axis was made on its board.
-use Rattle.std.proofs.Common.{◌≡◌, ℕ, zero, suc, ◌+◌, ◌<◌, ◌≤◌, ◌==◌, ◌&&◌, ◌⊎◌, inl, inr, Bool, true, false, not, cond, List, [], ◌∷◌, ◌++◌, length, map, refl, sym, subst, arith}
+use Rattle.std.proofs.Common.{◌≡◌, ℕ, zero, suc, ◌+◌, ◌<◌, ◌≤◌, ◌==◌, ◌&&◌, ◌⊎◌, inl, inr, Bool, true, false, not, cond, List, [], ◌∷◌, ◌++◌, length, map, refl, sym, subst, arith, rules}
 use Rattle.std.specs.Prelude.{slice_index_or}
 use Rattle.laws_board.proofs.Names.{flat_map, eq-eqb, eqb_tells, map-append, Level, AxisDef, Machine, IsValidMachine, axis_at, Cmd, Entry, Switch, commands_of, units_orders, queued_in, orders, configuration, trigger_of, Connecting, Came, known_by}
 use Rattle.std.specs.List.{filter}
@@ -125,7 +125,4 @@ run_makes m switches pins entries b axis came turns v r n low on =
     queue_makes e turns (filter_makes e (commands_in turns) (subst (λ (l : List Cmd). MakesEndstop e l) (sym (all_configured m switches pins entries b came turns v r n)) (config_makes m b axis low on)))
 
 pub endstop_small : (m : Machine) (b : ℕ) (axis : AxisDef) → IsValidMachine m → endstop_of m b axis < 256
-endstop_small m b axis v =
-    let q = v.steppers_few in
-    let three = v.axes_three in
-    omega (arith, q, three, on-few b m.steppers, pins-few b m.axes [], place-few (trigger_of m b + 1) axis.pin (endstop_pins m b))
+endstop_small m b axis v = search (rules, on-few, pins-few, place-few, trigger_of)

@@ -1,5 +1,5 @@
 -- A homing section that was told starts before the turn of its last planned step, or in it.
-use Rattle.std.proofs.Common.{◌≡◌, ℕ, ◌≤◌, List, ◌∷◌, ◌++◌, length, Some, subst, arith}
+use Rattle.std.proofs.Common.{◌≡◌, ℕ, ◌≤◌, List, ◌∷◌, ◌++◌, length, Some, subst, arith, rules}
 use Rattle.laws_board.proofs.Names.{Machine, Home, AreStarted, Started, Told, MotionTurn}
 use Rattle.laws_board.specs.plans.Planned.{Plans}
 use Rattle.laws_board.proofs.plans.Cutting.{homed_of}
@@ -7,8 +7,4 @@ use Rattle.laws_board.proofs.plans.Running.{started_in}
 use Rattle.laws_run.proofs.home_headline.Uncut.{planned_at}
 
 pub starts_by : (m : Machine) (ts : List MotionTurn) (p : Plans m (length m.boards) ts) (t : Told) → p.seen.told ≡ Some t → (past : List Started) (s : Started) (later : List Started) (axis : ℕ) → p.seen.begun ≡ past ++ s ∷ later → s.section.kind ≡ Home axis → s.start ≤ s.last
-starts_by m ts p t told past s later axis cut home =
-    let Begun : List Started → Type 0 = λ z. AreStarted m t.clocks t.first z in
-    let homed = homed_of m t.clocks s s.section.kind axis home (planned_at m t.clocks t.first past s later (subst Begun cut (started_in m ts p t told))) in
-    let last = homed.last in
-    omega (arith, last)
+starts_by m ts p t told past s later axis cut home = search (rules, homed_of, planned_at, started_in)

@@ -1,5 +1,5 @@
 -- A run that ends as a board expired does so for the first member of the group that told so.
-use Rattle.std.proofs.Common.{◌≡◌, ◌⊎◌, ℕ, ◌≤◌, ◌==◌, Bool, true, false, cond, List, [], ◌∷◌, length, map, Option, Some, None, refl, ap, sym, ◌∙◌, subst, arith, inl, inr}
+use Rattle.std.proofs.Common.{◌≡◌, ◌⊎◌, ℕ, ◌≤◌, ◌==◌, Bool, true, false, cond, List, [], ◌∷◌, length, map, Option, Some, None, refl, ap, sym, ◌∙◌, subst, arith, inl, inr, rules}
 use Rattle.std.specs.Prelude.{◌&&◌, nat_le}
 use Rattle.laws_board.proofs.Names.{eqb_tells, leb_tells, Machine, axis_at, Scene, End, Member, Fired, Seen, all_fired, Homing, hears_all, members_of, noted, Run, GoesOn, known_by, states-kept, both_parts}
 use Rattle.plan_types.specs.declared.cause.Cause.TheVariants as cause
@@ -32,17 +32,7 @@ expired_if false board b turn at e = absurd (let f : None ≡ Some (Expired b tu
 
 -- one that expired
 here_expired : (last board b turn : ℕ) (o : Option Fired) → expired last board o ≡ Some (Expired b turn) → (f : Fired) × (o ≡ Some f) × (board ≡ b) × (f.reason ≡ 2) × (f.turn ≡ turn) × (f.turn ≤ last)
-here_expired last board b turn None e = absurd (let f : None ≡ Some (Expired b turn) = e in cc)
-here_expired last board b turn (Some f) e =
-    let x = expired_if ((f.reason == 2) && nat_le f.turn last) board b turn f.turn e in
-    let y = both_parts (f.reason == 2) (nat_le f.turn last) x.0 in (
-      f,
-      refl,
-      x.1,
-      elim (eqb_tells f.reason 2) [ inl p ↦ p.1 | inr p ↦ absurd (let bad : false ≡ true = sym p.0 ∙ y.0 in cc) ],
-      x.2,
-      elim (leb_tells f.turn last) [ inl p ↦ p.1 | inr p ↦ absurd (let bad : false ≡ true = sym p.0 ∙ y.1 in cc) ],
-    )
+here_expired last board b turn o p5 = search (rules, expired_if, nat_le, both_parts, eqb_tells, leb_tells)
 
 -- of all members
 all_have : (W : ℕ → Fired → Type 0) (own : ℕ) (xs : List Seen) → Each W own xs → all_fired xs ≡ true → HaveTold W (map (λ (x : Seen). x.member) xs)

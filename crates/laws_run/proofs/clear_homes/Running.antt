@@ -1,5 +1,5 @@
 -- A board of a run in which axes home runs in all its turns, where it isn't told to stop and no unit comes too late to it.
-use Rattle.std.proofs.Common.{◌≡◌, ℕ, List, [], ◌∷◌, ◌++◌, Option, Some, None, ap, sym, ◌∙◌, subst}
+use Rattle.std.proofs.Common.{◌≡◌, ℕ, List, [], ◌∷◌, ◌++◌, Option, Some, None, ap, sym, ◌∙◌, subst, rules}
 use Rattle.laws_board.proofs.Names.{flat_map, Level, BoardDef, BoardState, Running, Shut, clock_of, ShutNews, State, Entry, Core, run_world, new_world, queued_in, first_state}
 use Rattle.link_work.specs.Told.{IsShutNews}
 use Rattle.laws_board.specs.turns.Turns.{AreBoardTurns, BoardTurn, latest_state, stands_after}
@@ -46,7 +46,4 @@ none_before b pins place entries (t ∷ before) are runs =
 
 pub all_none : (b : BoardDef) (pins : List (List Level)) (place : ℕ) (entries : List Entry) (turns : List BoardTurn) (last : State) → AreBoardTurns (clock_of b) (first_state b pins place entries) turns
     → latest_state turns ≡ last ∷ [] → last.shut ≡ None → ShutNone turns
-all_none b pins place entries [] last are at shut = tt
-all_none b pins place entries (t ∷ before) last are at shut =
-    let same : t.state ≡ last = cc in
-    none_before b pins place entries (t ∷ before) are (runs_on t.after.core.board.controller.state t.state.shut are.0.1.shut (ap (λ (y : State). y.shut) same ∙ shut))
+all_none b pins place entries turns last p6 p7 p8 = search (rules, none_before, runs_on)

@@ -1,5 +1,5 @@
 -- A run in which axes home, in a scene without entries, goes through, or ends as it homes.
-use Rattle.std.proofs.Common.{All, ◌≡◌, ◌⊎◌, ℕ, pos, ◌+◌, ◌*◌, ◌^◌, ◌<◌, ◌≤◌, List, [], ◌∷◌, ◌++◌, length, map, Option, Some, None, refl, ap, sym, ◌∙◌, subst, arith, inl, inr}
+use Rattle.std.proofs.Common.{All, ◌≡◌, ◌⊎◌, ℕ, pos, ◌+◌, ◌*◌, ◌^◌, ◌<◌, ◌≤◌, List, [], ◌∷◌, ◌++◌, length, map, Option, Some, None, refl, ap, sym, ◌∙◌, subst, arith, inl, inr, rules}
 use Rattle.laws_board.proofs.Names.{length-map, Cause, Machine, Shut, board_tick, clock_of, turn_ns, lines_tick, IsValidMachine, axis_at, board_at, clocks_at, ShutNews, State, Scene, listen_all, stale, AllKeepLimits, first_state, orders, pins_of, LinkState, Orders, Homing, answer_in, hears_all, homing_turn, Known, Connecting, Stopping, is_out, noted, reacts, IsOwn, first_cause, stop_of, Came, known_by, state_at, parts_on, Started, Told, MotionTurn, ReactorTurn, item, All-nil, BoardDef, Level, Moves}
 use Rattle.gcode_program.specs.Programs.{program_end}
 use Rattle.plan_types.specs.declared.cause.Cause.TheVariants as cause
@@ -75,11 +75,7 @@ use Rattle.laws_run.proofs.run_headline.Earlier.{states_long}
 
 -- those that are sent soon are sent in time
 pub soon_all : (m : Machine) (text : List ℕ) (ts : List MotionTurn) → SendsAllSoon m text ts → SendsAllInTime m text ts
-soon_all m text ts sends = λ p t b same told low.
-    elim (sends p t b same told low) [
-      | inl x ↦ x.1
-      | inr x ↦ spilled (length p.made) (parts_on m t.clocks p.seen.begun b) x
-    ]
+soon_all m text ts sends = search (rules, spilled, parts_on)
 
 -- where all clocks are exact, units that are sent in time are sent soon
 pub exact_all : (m : Machine) (text : List ℕ) (ts : List MotionTurn) → ((b : ℕ) → b < length m.boards → (board_at m b).drift ≡ pos 0) → SendsAllInTime m text ts → SendsAllSoon m text ts
@@ -110,13 +106,7 @@ module _ (m : Machine) (v : IsValidMachine m) (short : HaveShortDictionaries m) 
         omega (arith, eight.1.1, until, few)
 
     alone : (d : Cause) → EndsSo m (noted m end.note f.known) 0 end.states d → c ≡ d → GoesThrough d
-    alone cause.Done h e = tt
-    alone (cause.Line line kind) h e = tt
-    alone (cause.Asked line) h e = tt
-    alone (cause.Late board first arrival spoiled spill) h e = absurd (let g : None ≡ Some (cause.Late board first arrival spoiled spill) = sym (ap (late 0) none_alone) ∙ h in cc)
-    alone (cause.Connect board turn) h e = absurd (silent_alone board turn e)
-    alone (cause.Stale board turn) h e = absurd (h.0 phase_alone)
-    alone d h e = absurd (let g : Connecting ≡ Running = sym phase_alone ∙ h.0 in cc)
+    alone d p1 p2 = search (rules, none_alone, silent_alone, phase_alone)
 
     pub through_alone : GoesThrough c
     through_alone = alone c (ends_so m s.switches f.known 0 end.states end.note c (f.own own).1 f.other (sym (ends_own m s ts [] end c f own))) refl
@@ -342,10 +332,7 @@ module _ (m : Machine) (v : IsValidMachine m) (short : HaveShortDictionaries m) 
     first_is high = first_none m s.switches (known_by m s.switches All_came) (length All_came) end.states end.note c high untold ended
 
     have : (b : ℕ) → b < length m.boards → HaveStates m (came_in end ∷ All_came)
-    have b low =
-        let x = f.boards b first rest low refl in
-        let Have : List Came → Type 0 = λ z. HaveStates m z in
-        have_more m (came_in end) All_came some_came many_states (subst Have (came_cut [] first rest end) x.have_states)
+    have b low = search (rules, have_more, some_came, many_states, came_cut)
 
     silent : (board turn : ℕ) → c ≡ cause.Connect board turn → (known_by m s.switches All_came).phase ≡ Connecting → ⊥
     silent board turn e phase =
@@ -377,11 +364,7 @@ module _ (m : Machine) (v : IsValidMachine m) (short : HaveShortDictionaries m) 
         hindered_first b low (k ∷ ks) many h = unhindered b low k h.0.1
 
     late_never : (d : Cause) → late 0 end.states ≡ Some d → ⊥
-    late_never d e =
-        let x = late_at 0 end.states d e in
-        let low = x.low in
-        let few = many_states in
-        in_time x.b (omega (arith, low, few)) x.state x.news x.at x.shut x.one
+    late_never d e = search (rules, late_at, many_states, in_time)
 
     -- no homing group answers that a board expired
     notes_came : CameNotes p.seen.begun (came_in end ∷ All_came)
@@ -426,15 +409,7 @@ module _ (m : Machine) (v : IsValidMachine m) (short : HaveShortDictionaries m) 
                 record { told = t; told_is = told; past = was.0; x = was.1; later = was.2; axis = was.3; cut = was.4; number = number ∙ was.8; home = was.5; late = at_axis }
 
     goes_through : (d : Cause) → EndsSo m Now (length All_came) end.states d → c ≡ d → GoesOr d
-    goes_through cause.Done h e = inl tt
-    goes_through (cause.Line line kind) h e = inl tt
-    goes_through (cause.Asked line) h e = inl tt
-    goes_through (cause.NoSwitch section) h e = inr (section, refl)
-    goes_through (cause.Expired board turn) h e = absurd (expired_never board turn h.1)
-    goes_through (cause.Late board first arrival spoiled spill) h e = absurd (late_never (cause.Late board first arrival spoiled spill) h)
-    goes_through (cause.Connect board turn) h e = absurd (silent board turn e (sym (noted_phase m end.note (known_by m s.switches All_came)) ∙ h.0))
-    goes_through (cause.Stale board turn) h e = absurd (stale_never board turn e h.1)
-    goes_through d h e = absurd (of_some IsHoming (homing_turn Now.clocks (length All_came) end.states Now.homing).end d h.1 (homing_is Now.clocks (length All_came) end.states Now.homing))
+    goes_through d p1 p2 = search (rules, expired_never, late_never, silent, noted_phase, known_by, stale_never, of_some, homing_turn, homing_is)
 
     pub through_all : GoesOr c
     through_all =

@@ -1,5 +1,5 @@
 -- A link in a scene without entries is clear and idle at the end of each turn.
-use Rattle.std.proofs.Common.{◌≡◌, ℕ, ◌+◌, Bool, true, false, cond, List, [], ◌∷◌, length, ap, arith, inl, inr}
+use Rattle.std.proofs.Common.{◌≡◌, ℕ, ◌+◌, Bool, true, false, cond, List, [], ◌∷◌, length, ap, arith, inl, inr, rules}
 use Rattle.std.specs.Prelude.{nat_le}
 use Rattle.laws_board.proofs.Names.{BoardDef, Level, Machine, clock_of, IsValidMachine, board_at, Entry, Switch, AllKeepLimits, first_state, orders, LinkState, Stopping, Came, known_by}
 use Rattle.wire_scene.specs.Wire.{Line}
@@ -32,13 +32,7 @@ limits_before k (t ∷ turns) a = by (nat_le k (length turns)) (limits_before k 
 
 pub never_hindered : (b : BoardDef) (pins : List (List Level)) (board : ℕ) (entries : List Entry) (turns : List BoardTurn) (k : ℕ) → entries ≡ [] → AreBoardTurns (clock_of b) (first_state b pins board entries) turns
     → AllKeepLimits (orders_in turns) → IsHindered (first_state b pins board entries) turns k → ⊥
-never_hindered b pins board entries turns k e are limits h =
-    let first = first_state b pins board entries in
-    let at = λ (n : ℕ). free_at b pins board entries (before_turn n turns) e (are_before (clock_of b) first n turns are) (limits_before n turns limits) in
-    elim h [
-      | inl d ↦ undisturbed k (length (before_turn (k + d.0 + 1) turns)) (link_at first (k + d.0) turns) (at (k + d.0 + 1)).clear d.2
-      | inr w ↦ let none = ap length (at (k + 1)).none in absurd (omega (arith, none, w))
-    ]
+never_hindered b pins board entries turns k e are limits h = search (rules, first_state, free_at, are_before, clock_of, limits_before, undisturbed)
 
 -- of a board in a run
 pub run_unhindered : (m : Machine) (switches : List Switch) (pins : List (List Level)) (entries : List Entry) (b : ℕ) (came : List Came) (turns : List BoardTurn) (k : ℕ) → IsValidMachine m

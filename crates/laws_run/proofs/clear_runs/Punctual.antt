@@ -1,5 +1,5 @@
 -- Units that are released before the turn in which they are due are never late on a clear link.
-use Rattle.std.proofs.Common.{◌≡◌, ℕ, suc, ◌+◌, ◌*◌, ◌<◌, ◌≤◌, Bool, List, [], ◌∷◌, ◌++◌, All, length, map, take, Option, Some, None, refl, ap, sym, ◌∙◌, subst, arith, inl, inr, append_assoc}
+use Rattle.std.proofs.Common.{◌≡◌, ℕ, suc, ◌+◌, ◌*◌, ◌<◌, ◌≤◌, Bool, List, [], ◌∷◌, ◌++◌, All, length, map, take, Option, Some, None, refl, ap, sym, ◌∙◌, subst, arith, inl, inr, append_assoc, rules}
 use Rattle.std.specs.Prelude.{◌-◌}
 use Rattle.laws_board.proofs.Names.{eqb_tells, leb_tells, All-head, All-tail, BoardClock, BoardDef, Level, board_tick, clock_of, turn_ns, Clocks, lines_tick, Cmd, dir_commands, reset_commands, step_command, StepUnit, Release, batch_at, BoardSection, Entry, Down, Up, Meant, plain, unit_orders, units_orders, Core, Do, Step, world_after, run_world, AreTurns, queued_in, first_state, IsTurn, LinkState, Orders, after_board, after_host, come}
 use Rattle.clock_line.proofs.Turns.{turn-below}
@@ -134,16 +134,7 @@ fair_split [] ys h a = (tt, a)
 fair_split (x ∷ xs) ys h a = let r = fair_split xs ys (world_after h x) a.1 in ((a.0, r.0), r.1)
 
 turn_fair : (clock : BoardClock) (turn : ℕ) (o : Orders) (l m : LinkState) (t u : IsTurn clock turn o l m) → AllFair l.core (steps_of_turn clock turn o t.resent l) → AllFair l.core (turn_steps clock turn o u.resent l)
-turn_fair clock turn o l m t u f =
-    let n = after_host turn o t.resent l in
-    let host = host_steps turn o t.resent in
-    let down = come Down turn n.down.copies in
-    let pass = Do (Pass (board_tick clock (turn + 1))) in
-    let up = come Up turn (after_board clock turn n).up.copies in
-    let Fair : List Step → Type 0 = λ x. AllFair l.core x in
-    let Resent : Bool → Type 0 = λ b. AllFair l.core (turn_steps clock turn o b l) in
-    let here : Resent t.resent = subst Fair (ap (λ x. host ++ x) (append_assoc down (pass ∷ []) up) ∙ sym (append_assoc host down (pass ∷ up))) f in
-    subst Resent (same_bool t.resent u.resent _ t.due u.due) here
+turn_fair clock turn o l m t u f = search (rules, after_host, come, board_tick, after_board, append_assoc, same_bool)
 
 pub fair_turns : (clock : BoardClock) (turn : ℕ) (os : List Orders) (l m : LinkState) (t : AreTurns clock turn os l m) → AllFair l.core (steps_of clock turn os l m t) → AreFairTurns clock turn os l (ends_of clock turn os l m t)
 fair_turns clock turn [] l m t f = tt
@@ -170,13 +161,7 @@ up_to_quiet k (e ∷ ends) q = elim (leb_tells e.turn k) [ inl p ↦ rw p.0 (q.0
 -- steps that begin no sooner than the board's tick of their turn are not late where nothing is spoiled
 pub not_late : (b : BoardDef) (pins : List (List Level)) (place : ℕ) (entries : List Entry) (os : List Orders) (m : LinkState) (t : AreTurns (clock_of b) 0 os (first_state b pins place entries) m) (tick first : ℕ) → entries ≡ []
     → (y : IsLate (clock_of b) os (first_state b pins place entries) (ends_of (clock_of b) 0 os (first_state b pins place entries) m t) tick first) → board_tick (clock_of b) (length y.before) ≤ first → ⊥
-not_late b pins place entries os m t tick first e y low =
-    let l = first_state b pins place entries in
-    let ends = ends_of (clock_of b) 0 os l m t in
-    let quiet = up_to_quiet (length y.before) (stretch (take y.turn ends)) (stretch_quiet (take y.turn ends) (take_quiet y.turn ends (turns_quiet (clock_of b) 0 os l m t (first_clear b pins place entries e)))) in
-    let none = none_unquiet (up_to (length y.before) (stretch (take y.turn ends))) quiet in
-    let many = y.spoiled (length y.before) low in
-    omega (arith, none, many)
+not_late b pins place entries os m t tick first e y low = search (rules, first_state, clock_of, up_to_quiet, stretch_quiet, take_quiet, turns_quiet, first_clear, none_unquiet)
 
 -- nor is a board to which no units are sent
 abbrev pub NoUnits : List Orders → Type 0
@@ -206,8 +191,4 @@ orders_none [] o more n c =
 orders_none (x ∷ before) o more n c = orders_none before o more n.1 c.1
 
 pub none_not_late : (clock : BoardClock) (os : List Orders) (l : LinkState) (ends : List Ended) (tick first : ℕ) → NoUnits os → TookControls os → IsLate clock os l ends tick first → ⊥
-none_not_late clock os l ends tick first none controls y =
-    let No : List Orders → Type 0 = λ x. NoUnits x × TookControls x in
-    let both = subst No y.turns (none, controls) in
-    let Queued : List Meant → Type 0 = λ x. NoSteps x in
-    steps_of_none y.front y.command y.rest (subst Queued y.queued (orders_none y.before y.orders y.after both.0 both.1)) y.steps
+none_not_late clock os l ends tick first none controls y = search (rules, steps_of_none, orders_none)

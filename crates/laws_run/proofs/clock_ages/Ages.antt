@@ -1,5 +1,5 @@
 -- How old the clock lines become that a planner takes up.
-use Rattle.std.proofs.Common.{◌≡◌, ◌⊎◌, ℕ, ◌+◌, ◌*◌, ◌^◌, ◌<◌, ◌≤◌, All, List, [], ◌∷◌, ◌++◌, length, Option, Some, None, refl, ap, sym, ◌∙◌, subst, arith, inl, inr, append_assoc, append-nil, length-append}
+use Rattle.std.proofs.Common.{◌≡◌, ◌⊎◌, ℕ, ◌+◌, ◌*◌, ◌^◌, ◌<◌, ◌≤◌, All, List, [], ◌∷◌, ◌++◌, length, Option, Some, None, refl, ap, sym, ◌∙◌, subst, arith, inl, inr, append_assoc, append-nil, length-append, rules}
 use Rattle.laws_board.proofs.Names.{leb_tells, BoardClock, Machine, Held, Line, clock_of, turn_ns, Clocks, board_at, clocks_at, AreKept, NoteNews, WordMsg, Started, Told, MotionTurn}
 use Rattle.plan_types.specs.Lines.{AreHeld, last_from}
 use Rattle.plan_types.specs.Machines.{IsValidBoard}
@@ -73,10 +73,7 @@ module _ (m : Machine) (b ended running : ℕ) (turns : List BoardTurn) (ws : Li
     held : (clocks_at t.clocks b).held ≡ clocks.held ++ more
 
   kept_here : (clocks : Clocks) → GoesTo clocks → AreKept clocks
-  kept_here clocks g =
-      let all : AreHeld clocks.first clocks.first 0 0 (clocks_at t.clocks b).held = subst (λ (l : Line). AreHeld l l 0 0 (clocks_at t.clocks b).held) g.first kept.held in
-      let parts : AreHeld clocks.first clocks.first 0 0 (clocks.held ++ g.more) = subst (λ (hs : List Held). AreHeld clocks.first clocks.first 0 0 hs) g.held all in
-      record { valid = subst IsValidLine g.first kept.valid; held = held_front clocks.first clocks.first 0 0 clocks.held g.more parts }
+  kept_here clocks g = search (rules, clocks_at, held_front)
 
   -- no more words are taken without one that tells a line, up to the last turn
   few_taken : (limit taken front : ℕ) (before rest : List WordMsg) → before ++ rest ≡ ws → length before ≡ taken → ended < front → limit ≤ taken → limit ≤ length turns → (TellsIn b front (front + 2_200) 0 before → ⊥) → limit ≤ front + 2_203
@@ -104,11 +101,7 @@ module _ (m : Machine) (b ended running : ℕ) (turns : List BoardTurn) (ws : Li
     told : EachTold (IsOwn k (lines_heard here)) ns
 
   here_new : (k taken : ℕ) (before here rest : List WordMsg) (ns : List NoteNews) (clocks : List Clocks) → IsTurn k taken before here rest ns clocks → TellNew Own turns b taken here
-  here_new k taken before here rest ns clocks i =
-      let long = i.long in
-      let all : TellNew Own turns b 0 (before ++ (here ++ rest)) = subst (λ (x : List WordMsg). TellNew Own turns b 0 x) (sym i.words) a.lines in
-      let later = (new_parts Own turns b 0 taken before (here ++ rest) (omega (arith, long)) all).1 in
-      (new_parts Own turns b taken (taken + length here) here rest refl later).0
+  here_new k taken before here rest ns clocks i = search (rules, new_parts)
 
   -- a line that a word of the turn tells from that number on may be taken up
   may_be : (k taken : ℕ) (before here rest : List WordMsg) (ns : List NoteNews) (clocks : List Clocks) → IsTurn k taken before here rest ns clocks → GoesTo (clocks_at clocks b) → (s : Stands k taken before (clocks_at clocks b)) → TellsIn b s.front (s.front + 2_200) taken here
@@ -258,21 +251,7 @@ module _ (m : Machine) (b ended running : ℕ) (turns : List BoardTurn) (ws : Li
   words_next before here later more = ap (λ (x : List WordMsg). before ++ x) (append_assoc here later more) ∙ sym (append_assoc before here (later ++ more))
 
   next : (k taken : ℕ) (before : List WordMsg) (x : MotionTurn) (ts : List MotionTurn) (told : Option Told) → Goes k taken before (x ∷ ts) told → Goes (k + 1) (taken + length x.words) (before ++ x.words) ts (told_behind m k x told)
-  next k taken before x ts told g =
-      let long = g.long in
-      let small = g.small in
-      let size = length-append before x.words in
-      record {
-        more = g.more;
-        words = sym (words_next before x.words (words_in ts) g.more) ∙ g.words;
-        long = omega (arith, size, long);
-        ahead = g.ahead.1;
-        lines = g.lines.2;
-        put = g.put.1;
-        small = omega (arith, small);
-        told_is = g.told_is;
-        in_time = g.in_time.2;
-      }
+  next k taken before x ts told g = search (rules, length-append, words_next)
 
   -- the boards' lines in one turn, and behind it
   abbrev behind : Told → List NoteNews → Told
@@ -282,11 +261,7 @@ module _ (m : Machine) (b ended running : ℕ) (turns : List BoardTurn) (ws : Li
   behind_is k x told now e = ap (told_on x.note.news) e
 
   end_is : (k : ℕ) (x : MotionTurn) (ts : List MotionTurn) (told : Option Told) (now : Told) → connecting_heard m k x.words told ≡ Some now → told_of m k (x ∷ ts) told ≡ Some t → noted_lines (news_in (x ∷ ts)) now.clocks ≡ t.clocks
-  end_is k x ts told now e is =
-      let mid = behind now x.note.news in
-      let all : Some (record { first = now.first; clocks = noted_lines (news_in ts) mid.clocks }) ≡ Some t = sym (told_grows m (k + 1) ts mid) ∙ ap (told_of m (k + 1) ts) (sym (behind_is k x told now e)) ∙ is in
-      let same : (record { first = now.first; clocks = noted_lines (news_in ts) mid.clocks }) ≡ t = cc in
-      noted_both x.note.news (news_in ts) now.clocks ∙ ap (λ (y : Told). y.clocks) same
+  end_is k x ts told now e is = search (rules, told_grows, behind_is, noted_both)
 
   goes_to : (ns : List NoteNews) (clocks : List Clocks) → b < length clocks → noted_lines ns clocks ≡ t.clocks → GoesTo (clocks_at clocks b)
   goes_to ns clocks inside e =
@@ -322,13 +297,7 @@ module _ (m : Machine) (b ended running : ℕ) (turns : List BoardTurn) (ws : Li
   Ends k taken before ts = Stands (k + length ts) (taken + length (words_in ts)) (before ++ words_in ts) (clocks_at t.clocks b)
 
   ends_next : (k taken : ℕ) (before : List WordMsg) (x : MotionTurn) (ts : List MotionTurn) → Ends (k + 1) (taken + length x.words) (before ++ x.words) ts → Ends k taken before (x ∷ ts)
-  ends_next k taken before x ts s =
-      let turns_are : k + 1 + length ts ≡ k + length (x ∷ ts) = omega arith in
-      let size = length-append x.words (words_in ts) in
-      let words_are : taken + length x.words + length (words_in ts) ≡ taken + length (x.words ++ words_in ts) = omega (arith, size) in
-      subst (λ (n : ℕ). Stands n (taken + length (x.words ++ words_in ts)) (before ++ (x.words ++ words_in ts)) (clocks_at t.clocks b)) turns_are
-      (subst (λ (n : ℕ). Stands (k + 1 + length ts) n (before ++ (x.words ++ words_in ts)) (clocks_at t.clocks b)) words_are
-      (subst (λ (z : List WordMsg). Stands (k + 1 + length ts) (taken + length x.words + length (words_in ts)) z (clocks_at t.clocks b)) (append_assoc before x.words (words_in ts)) s))
+  ends_next k taken before x ts s = search (rules, length-append, clocks_at, append_assoc)
 
   on : (k taken : ℕ) (before : List WordMsg) (ts : List MotionTurn) (now : Told) → Goes k taken before ts (Some now) → Stands k taken before (clocks_at now.clocks b) → Ends k taken before ts
   on k taken before [] now g s =
@@ -349,21 +318,7 @@ module _ (m : Machine) (b ended running : ℕ) (turns : List BoardTurn) (ws : Li
 
   -- the turn in which connecting ended
   first_stands : (k taken : ℕ) (before : List WordMsg) (clocks : Clocks) → taken ≡ k → length before ≡ taken → k ≡ ended → clocks.held ≡ [] → Stands k taken before clocks
-  first_stands k taken before clocks even long at none =
-      let soon = a.soon in
-      let Last : List Held → Type 0 = λ hs. (ended + 1) * turn_ns ≤ (last_line clocks.first hs).at + 2_200 * turn_ns in
-      record {
-        front = ended + 1;
-        after = omega arith;
-        fresh = subst Last (sym none) (omega (arith, soon));
-        by = subst (λ (hs : List Held). last_from 0 hs ≤ (ended + 1 + 269) * turn_ns) (sym none) (omega arith);
-        none = none_low b (ended + 1) (ended + 1 + 2_200) 0 before (omega (arith, even, long, at));
-        young = subst (AreYoung clocks.first) (sym none) tt;
-        sampled = subst (AreSampled Own turns) (sym none) tt;
-        late = subst (NoneBefore ended) (sym none) tt;
-        near = omega (arith, even);
-        over = omega (arith, at);
-      }
+  first_stands k taken before clocks even long at none = search (rules, turn_ns, none_low)
 
   starts : (k taken : ℕ) (before : List WordMsg) (ts : List MotionTurn) → taken ≡ k → Goes k taken before ts None → Ends k taken before ts
   starts k taken before [] even g = absurd (let e : None ≡ Some t = g.told_is in cc)

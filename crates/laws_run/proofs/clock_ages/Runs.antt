@@ -1,5 +1,5 @@
 -- A board that drifts tells its clock again and again in a whole run.
-use Rattle.std.proofs.Common.{◌≡◌, ◌⊎◌, ℕ, zero, suc, pos, ◌+◌, ◌-◌, ◌<◌, ◌≤◌, Bool, List, [], ◌∷◌, ◌++◌, length, Some, refl, ap, sym, ◌∙◌, subst, arith, inl, inr, length-append}
+use Rattle.std.proofs.Common.{◌≡◌, ◌⊎◌, ℕ, zero, suc, pos, ◌+◌, ◌-◌, ◌<◌, ◌≤◌, Bool, List, [], ◌∷◌, ◌++◌, length, Some, refl, ap, sym, ◌∙◌, subst, arith, inl, inr, length-append, rules}
 use Rattle.std.specs.Prelude.{if◌then◌else◌}
 use Rattle.laws_board.proofs.Names.{eqb_tells, leb_tells, Machine, clock_of, IsValidMachine, board_at, Line, WordMsg, Scene, Switch, pins_of, Phase, Connecting, Stopping, Came, known_by, last_reacted, Started, Told, MotionTurn, ReactorTurn, gather}
 use Rattle.msg_code.specs.declared.talk.WordNews.{WordNews}
@@ -143,10 +143,7 @@ module _ (m : Machine) (v : IsValidMachine m) (s : Scene) (ts : List MotionTurn)
     in_run b (inr n) l = absurd (n l)
 
     is_there : (b : ℕ) → (b < length m.boards) ⊎ (b < length m.boards → ⊥)
-    is_there b = elim (leb_tells (length m.boards) b) [
-      | inl q ↦ (let over = q.1 in inr (λ h. absurd (omega (arith, over, h))))
-      | inr q ↦ inl q.1
-    ]
+    is_there b = search (rules, leb_tells)
 
     -- connecting ended soon
     pub ended_soon : HaveShortDictionaries m → length Late < 2_200

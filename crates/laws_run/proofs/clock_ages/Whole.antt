@@ -1,5 +1,5 @@
 -- The clock lines of a whole run come in time.
-use Rattle.std.proofs.Common.{◌≡◌, ◌≢◌, ℕ, ℤ, zero, suc, pos, negsuc, ◌+◌, ◌<◌, ◌≤◌, List, [], ◌++◌, length, Some, None, refl, sym, ◌∙◌, subst, arith}
+use Rattle.std.proofs.Common.{◌≡◌, ◌≢◌, ℕ, ℤ, zero, suc, pos, negsuc, ◌+◌, ◌<◌, ◌≤◌, List, [], ◌++◌, length, Some, None, refl, sym, ◌∙◌, subst, arith, rules}
 use Rattle.laws_board.proofs.Names.{length-map, Machine, clock_of, IsValidMachine, board_at, clocks_at, AreKept, WordMsg, Told, MotionTurn}
 use Rattle.clock_line.specs.Samples.{ppm_size}
 use Rattle.laws_board.specs.turns.Turns.{BoardTurn}
@@ -30,20 +30,7 @@ module _ (m : Machine) (n : ℕ) (ts : List MotionTurn) (p : Plans m n ts) (t : 
   kept = known.1 b inside (sample_small (clock_of (board_at m b)) turns (clocks_at t.clocks b).first drifting.board.start drifting.board.freq.high drifting.few a.few a.first_sampled)
 
   goes : Goes m b ended running turns ws t drifting kept known.0.count a p.seen.text p.seen.begun 0 0 [] p.made None
-  goes =
-      let small = p.small in
-      let size = length-map p.made put_of in
-      record {
-        more = more;
-        words = are;
-        long = refl;
-        ahead = p.ahead;
-        lines = p.lines;
-        put = p.put;
-        small = omega (arith, small, size);
-        told_is = sym p.told_is ∙ told;
-        in_time = p.in_time;
-      }
+  goes = search (rules, length-map)
 
   pub plan_young : (until : ℕ) → length turns ≤ length p.made + 1 → until ≤ length turns + 400 → ComeInTime (board_at m b).drift (clocks_at t.clocks b).first (clocks_at t.clocks b).held until
   plan_young until long high = young_all m b ended running turns ws t drifting kept known.0.count a p.seen.text p.seen.begun p.made until goes long high

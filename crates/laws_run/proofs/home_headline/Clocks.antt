@@ -1,5 +1,5 @@
 -- What the reactor knows of the clock lines in a whole run.
-use Rattle.std.proofs.Common.{◌≡◌, ℕ, suc, zero, ◌+◌, ◌*◌, ◌<◌, ◌≤◌, Bool, true, cond, List, [], ◌∷◌, ◌++◌, length, map, Option, Some, None, refl, ap, sym, ◌∙◌, subst, arith, inl, inr, append_assoc, append-nil, length-append}
+use Rattle.std.proofs.Common.{◌≡◌, ℕ, suc, zero, ◌+◌, ◌*◌, ◌<◌, ◌≤◌, Bool, true, cond, List, [], ◌∷◌, ◌++◌, length, map, Option, Some, None, refl, ap, sym, ◌∙◌, subst, arith, inl, inr, append_assoc, append-nil, length-append, rules}
 use Rattle.std.specs.Prelude.{set}
 use Rattle.laws_board.proofs.Names.{eqb_tells, leb_tells, append_cancel_left, get_or-set_same, Machine, Held, Line, tick, turn_ns, Clocks, lines_tick, one_line, IsValidMachine, clocks_at, Note, NoteNews, Scene, Switch, listen_all, ready_all, Known, Connecting, news_of, noted, known_behind, told_all, Reacted, Came, GoesOn, known_by, last_reacted, Started, Told, MotionTurn, ReactorTurn}
 use Rattle.std.proofs.lemmas.List.{get_or-set_other, length-set}
@@ -55,10 +55,7 @@ where_added : (clocks : Clocks) (from : ℕ) (line : Line) → may_hold clocks f
 where_added clocks from line e = ap (λ (b : Bool). cond b (added clocks from line) clocks) e
 
 line_added : (board : ℕ) (line : Line) (from : ℕ) (clocks : List Clocks) → (board < length clocks → may_hold (clocks_at clocks board) from line ≡ true) → added_at board from line clocks ≡ noted_line board line from clocks
-line_added board line from clocks may = elim (leb_tells (suc board) (length clocks)) [
-  | inl p ↦ (let inside = p.1 in rw p.0 (ap (set clocks board) (where_added (clocks_at clocks board) from line (may (omega (arith, inside))))))
-  | inr p ↦ (let outside = p.1 in rw p.0 (sym (set_outside clocks board (added (clocks_at clocks board) from line) (omega (arith, outside)))))
-]
+line_added board line from clocks may = search (rules, leb_tells, where_added, clocks_at, set_outside)
 
 told_clocks : (m : Machine) (ns : List NoteNews) (r : Known) (clocks : List Clocks) → r.clocks ≡ clocks → MayNote ns clocks → (told_all m ns r).clocks ≡ noted_lines ns clocks
 told_clocks m [] r clocks e a = e
@@ -83,10 +80,7 @@ abbrev held_of : Clocks → ℕ → Line → Held
 held_of old from line = record { from = from; line = line; most = lines_tick old from; start = tick line from; plan = tick old.first from }
 
 next_may : (old : Clocks) (line : Line) (from : ℕ) (last more rest : List Held) → last ≡ old.held ++ more → last ≡ (added old from line).held ++ rest → EachMayHold old more → (may_hold old from line ≡ true) × EachMayHold (added old from line) rest
-next_may old line from last more rest a b may =
-    let new = held_of old from line in
-    let is : old.held ++ more ≡ old.held ++ (new ∷ rest) = sym a ∙ b ∙ append_assoc old.held (new ∷ []) rest in
-    subst (EachMayHold old) (append_cancel_left old.held more (new ∷ rest) is) may
+next_may old line from last more rest a b may = search (rules, append_assoc, append_cancel_left)
 
 own_next : (board : ℕ) (line : Line) (from : ℕ) (ns : List NoteNews) (clocks : List Clocks) → board < length clocks → OneFollows (news.Line board line from ∷ ns) clocks board
     → (may_hold (clocks_at clocks board) from line ≡ true) × OneFollows ns (noted_line board line from clocks) board
@@ -143,20 +137,7 @@ record IsOn (m : Machine) (switches : List Switch) (clocks : List Clocks) (came 
 
 on_next : (m : Machine) (switches : List Switch) (clocks : List Clocks) (c : Came) (before : List Came) → (last_reacted m switches c before).ordered.end ≡ None → MayNote (news_of c.note) clocks → IsOn m switches clocks before
     → IsOn m switches (noted_lines (news_of c.note) clocks) (c ∷ before)
-on_next m switches clocks c before g may on =
-    let r = known_by m switches before in
-    let n = noted m c.note r in
-    let phase = noted_phase m c.note r in
-    elim (goes m switches r (length before) c.states c.note g) [
-      | inl a ↦ absurd (on.past (sym phase ∙ a.phase))
-      | inr later ↦ elim later [
-        | inl a ↦ absurd (on.past (sym phase ∙ a.phase))
-        | inr a ↦ record {
-          past = λ e. stop-phase a.stop (sym (ap (λ (y : Reacted). y.known.phase) a.is) ∙ e);
-          clocks_are = ap (λ (y : Reacted). y.known.clocks) a.is ∙ noted_clocks m c.note r clocks on.clocks_are may;
-        }
-      ]
-    ]
+on_next m switches clocks c before g may on = search (rules, known_by, noted, noted_phase, goes, stop-phase, noted_clocks)
 
 module _ (m : Machine) (switches : List Switch) (text : List ℕ) (begun : List Started) (ready : ℕ) (all : List Clocks) where
   abbrev Knows : List Came → Type 0
@@ -219,28 +200,12 @@ lines_clocks (l ∷ ls) = ap (λ z. one_line l ∷ z) (lines_clocks ls)
 -- the clock lines that are known behind the turn that connects are those that its word tells
 pub clocks_on : (m : Machine) (switches : List Switch) (c : Came) (before : List Came) (lines : List Line) → (last_reacted m switches c before).ordered.end ≡ None → (known_by m switches before).phase ≡ Connecting
     → (last_reacted m switches c before).known.phase ≡ Running → (last_reacted m switches c before).ordered.word.news ≡ word.Lines lines ∷ [] → (last_reacted m switches c before).known.clocks ≡ map one_line lines
-clocks_on m switches c before lines g phase_was then news =
-    let r = known_by m switches before in
-    let now = noted m c.note r in
-    let phase : now.phase ≡ Connecting = noted_phase m c.note r ∙ phase_was in
-    elim (goes m switches r (length before) c.states c.note g) [
-      | inl a ↦ absurd (let f : Connecting ≡ Running = sym phase ∙ ap (λ (y : Reacted). y.known.phase) (sym a.is) ∙ then in cc)
-      | inr later ↦ elim later [
-        | inl a ↦
-            let ls = board_lines m 0 (ready_all m 0 (listen_all now.askings.items c.states)) in
-            let same : ls ≡ lines = (let f : word.Lines ls ∷ [] ≡ word.Lines lines ∷ [] = sym (ap (λ (y : Reacted). y.ordered.word.news) a.is) ∙ news in cc) in
-            ap (λ (y : Reacted). y.known.clocks) a.is ∙ lines_clocks ls ∙ ap (map one_line) same
-        | inr a ↦ absurd (let f : Connecting ≡ Running = sym phase ∙ a.phase in cc)
-      ]
-    ]
+clocks_on m switches c before lines g phase_was then news = search (rules, known_by, noted, noted_phase, goes, ready_all, listen_all, lines_clocks, one_line)
 
 -- the turn that connects
 connects_on : (m : Machine) (switches : List Switch) (c : Came) (before : List Came) (clocks : List Clocks) → (last_reacted m switches c before).ordered.end ≡ None → Connected m (known_by m switches before) (length before) (last_reacted m switches c before) clocks
     → IsOn m switches clocks (c ∷ before)
-connects_on m switches c before clocks g x = record {
-  past = λ e. (let f : Running ≡ Connecting = sym x.then ∙ e in cc);
-  clocks_are = clocks_on m switches c before x.lines g x.phase x.then x.news ∙ sym x.clocks_are;
-}
+connects_on m switches c before clocks g x = search (rules, clocks_on)
 
 -- the notes that the reactor took behind some turns
 took_behind : (hp ms : List MotionTurn) (xs ys : List ReactorTurn) → length hp ≡ length xs → TookEach (map (λ (t : MotionTurn). t.note) (hp ++ ms)) (xs ++ ys) → TookEach (map (λ (t : MotionTurn). t.note) ms) ys

@@ -1,5 +1,5 @@
 -- A line that tells of a switch stands in the turn whose word tells of the answer.
-use Rattle.std.proofs.Common.{◌≡◌, ℕ, ◌⊎◌, Bool, true, false, cond, List, [], ◌∷◌, ◌++◌, length, map, Option, Some, None, refl, ap, sym, ◌∙◌, subst, inl, inr, append-nil}
+use Rattle.std.proofs.Common.{◌≡◌, ℕ, ◌⊎◌, Bool, true, false, cond, List, [], ◌∷◌, ◌++◌, length, map, Option, Some, None, refl, ap, sym, ◌∙◌, subst, inl, inr, append-nil, rules}
 use Rattle.std.specs.Prelude.{nat_le}
 use Rattle.laws_board.proofs.Names.{flat_map-append, Cause, Machine, ReadStop, Clocks, axis_at, Note, State, ReportLine, Switch, Member, Fired, Seen, all_fired, Homing, HomingTurn, answer_in, by_answer, hears_all, homing_turn, members_of, Asking, all_connected, giving_up, listen_all, ready_all, stale, Known, Phase, Connecting, Stopping, is_out, news_of, noted, Reacted, by_phase, cut_line, reacts, unless_ended, unless_stale, first_lines, first_cause, stop_of, Came, GoesOn, known_by, last_reacted, Started, ReactorTurn, Scene, Run, states-kept, both_parts}
 use Rattle.plan_types.specs.declared.plan.ReadStop.TheVariants as read
@@ -57,13 +57,7 @@ pub record IsUncut (x : Reacted) : Type 0 where
 
 carried : (m : Machine) (switches : List Switch) (r : Known) (k : ℕ) (lines : List ReportLine) (old askings : List Asking) (turn : HomingTurn) (stop cut : Option ℕ) → turn.cut ≡ cut → cuts_of lines ≡ [] → r.askings.items ≡ old
     → IsCut m switches turn (carries_on m r k (lines ++ cut_line m switches turn.section (axis_at m turn.axis) cut) askings turn stop) ⊎ IsUncut (carries_on m r k (lines ++ cut_line m switches turn.section (axis_at m turn.axis) cut) askings turn stop)
-carried m switches r k lines old askings turn stop (Some tick) e none same =
-    let line = cut_line m switches turn.section (axis_at m turn.axis) (Some tick) in
-    let At : Option ℕ → Type 0 = λ o. TellsHomed (homed o ++ new_lines m 0 r.askings.items askings) in
-    inl (record { tick = tick; cut = e; tells = subst At (sym e) tt; lines = uncut_both lines line none })
-carried m switches r k lines old askings turn stop None e none same =
-    let At : Option ℕ → Type 0 = λ o. TellsHomed (homed o ++ new_lines m 0 r.askings.items askings) → ⊥ in
-    inr (record { none = subst At (sym e) (λ t. lines_none m 0 r.askings.items askings t); lines = ap cuts_of (append-nil lines) ∙ none })
+carried m switches r k lines old askings turn stop cut p10 p11 p12 = search (rules, cut_line, axis_at, uncut_both, lines_none, append-nil)
 
 finished : (o : ReadStop) (m : Machine) (switches : List Switch) (r : Known) (k : ℕ) (lines : List ReportLine) (askings : List Asking) (turn : HomingTurn) → cuts_of lines ≡ []
     → end_of (finishes o m r k (lines ++ cut_line m switches turn.section (axis_at m turn.axis) turn.cut) askings turn) ≡ None
@@ -88,10 +82,7 @@ homing_cuts None m switches r k states lines askings turn none e = ends_or_on (i
 
 stale_cuts : (o : Option Cause) (m : Machine) (switches : List Switch) (r : Known) (k : ℕ) (states : List State) (lines : List ReportLine) (askings : List Asking) → cuts_of lines ≡ [] → end_of (unless_stale o m switches r k states lines askings) ≡ None
     → IsCut m switches (homing_turn r.clocks k states r.homing) (unless_stale o m switches r k states lines askings) ⊎ IsUncut (unless_stale o m switches r k states lines askings)
-stale_cuts (Some cause) m switches r k states lines askings none e = cc
-stale_cuts None m switches r k states lines askings none e =
-    let turn = homing_turn r.clocks k states r.homing in
-    homing_cuts turn.end m switches (after_homing r k states) k states lines askings turn none e
+stale_cuts o m switches r k states lines askings p8 p9 = search (rules, homing_turn, homing_cuts)
 
 given_cuts : (o : Option Cause) (m : Machine) (r : Known) (k : ℕ) (lines : List ReportLine) (askings : List Asking) → cuts_of lines ≡ [] → end_of (unless_given_up o m r k lines askings) ≡ None → IsUncut (unless_given_up o m r k lines askings)
 given_cuts (Some cause) m r k lines askings none e = cc
@@ -109,11 +100,7 @@ late_cuts None m r k lines line e = cc
 
 phase_cuts : (p : Phase) (m : Machine) (switches : List Switch) (r : Known) (k : ℕ) (states : List State) (lines : List ReportLine) → cuts_of lines ≡ [] → end_of (by_phase p m switches r k states lines) ≡ None
     → IsCut m switches (homing_turn r.clocks k states r.homing) (by_phase p m switches r k states lines) ⊎ IsUncut (by_phase p m switches r k states lines)
-phase_cuts Connecting m switches r k states lines none e =
-    let askings = ready_all m 0 (listen_all r.askings.items states) in
-    inr (given_cuts (giving_up k 0 askings) m r k lines askings none e)
-phase_cuts Running m switches r k states lines none e = let askings = listen_all r.askings.items states in stale_cuts (stale k 0 askings) m switches r k states lines askings none e
-phase_cuts (Stopping line) m switches r k states lines none e = inr (late_cuts (stale k 0 (listen_all r.askings.items states)) m r k lines line e)
+phase_cuts p m switches r k states lines p7 p8 = search (rules, ready_all, listen_all, given_cuts, giving_up, stale_cuts, stale, late_cuts)
 
 ended_cuts : (o : Option Cause) (m : Machine) (switches : List Switch) (r : Known) (k : ℕ) (states : List State) (lines : List ReportLine) → cuts_of lines ≡ [] → end_of (unless_ended o m switches r k states lines) ≡ None
     → IsCut m switches (homing_turn r.clocks k states r.homing) (unless_ended o m switches r k states lines) ⊎ IsUncut (unless_ended o m switches r k states lines)
@@ -149,10 +136,7 @@ homing_tells None m r k states lines cuts askings turn tick e cut = on_tells (is
 
 stale_tells : (o : Option Cause) (m : Machine) (switches : List Switch) (r : Known) (k : ℕ) (states : List State) (lines : List ReportLine) (askings : List Asking) (tick : ℕ) → end_of (unless_stale o m switches r k states lines askings) ≡ None
     → (homing_turn r.clocks k states r.homing).cut ≡ Some tick → TellsHomed (unless_stale o m switches r k states lines askings).ordered.word.news
-stale_tells (Some cause) m switches r k states lines askings tick e cut = cc
-stale_tells None m switches r k states lines askings tick e cut =
-    let turn = homing_turn r.clocks k states r.homing in
-    homing_tells turn.end m (after_homing r k states) k states lines (cut_line m switches turn.section (axis_at m turn.axis) turn.cut) askings turn tick e cut
+stale_tells o m switches r k states lines askings tick p9 p10 = search (rules, homing_turn, homing_tells, cut_line, axis_at)
 
 phase_tells : (p : Phase) (m : Machine) (switches : List Switch) (r : Known) (k : ℕ) (states : List State) (lines : List ReportLine) (tick : ℕ) → p ≡ Running → end_of (by_phase p m switches r k states lines) ≡ None
     → (homing_turn r.clocks k states r.homing).cut ≡ Some tick → TellsHomed (by_phase p m switches r k states lines).ordered.word.news
@@ -179,11 +163,7 @@ cut_of clocks k states o h tick is answer =
 -- the answer that a line tells
 pub answer_of : (clocks : List Clocks) (k : ℕ) (states : List State) (o : Option Homing) (tick : ℕ) → (homing_turn clocks k states o).cut ≡ Some tick
     → (h : Homing) × (o ≡ Some h) × (answer_in k h.start (hears_all clocks states h).group ≡ Some (Endstop tick)) × ((homing_turn clocks k states o).section ≡ h.section) × ((homing_turn clocks k states o).axis ≡ h.axis)
-answer_of clocks k states None tick e = absurd (let f : None ≡ Some tick = e in cc)
-answer_of clocks k states (Some h) tick e =
-    let g = hears_all clocks states h in
-    let is = switch_answer k tick g (answer_in k g.start g.group) e in
-    (h, refl, is, ap (λ o. (by_answer k g o).section) is, ap (λ o. (by_answer k g o).axis) is)
+answer_of clocks k states o tick p5 = search (rules, hears_all, switch_answer, answer_in, by_answer)
 
 -- by what came
 pub told_cut : (m : Machine) (switches : List Switch) (c : Came) (before : List Came) → (last_reacted m switches c before).ordered.end ≡ None → TellsHomed (last_reacted m switches c before).ordered.word.news → TellsCut m switches c before

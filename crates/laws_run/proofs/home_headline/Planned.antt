@@ -1,5 +1,5 @@
 -- The turns of the reactor in a whole run took the notes of its planner, as the planner took its words.
-use Rattle.std.proofs.Common.{◌≡◌, ℕ, zero, suc, ◌+◌, ◌-◌, ◌<◌, ◌≤◌, Bool, true, false, List, [], ◌∷◌, ◌++◌, length, map, append_assoc, refl, ap, sym, ◌∙◌, subst, arith, inl, inr}
+use Rattle.std.proofs.Common.{◌≡◌, ℕ, zero, suc, ◌+◌, ◌-◌, ◌<◌, ◌≤◌, Bool, true, false, List, [], ◌∷◌, ◌++◌, length, map, append_assoc, refl, ap, sym, ◌∙◌, subst, arith, inl, inr, rules}
 use Rattle.laws_board.proofs.Names.{Machine, NoteNews, WordMsg, Switch, Came, GoesOn, Started, MotionTurn, ReactorTurn, gather, item}
 use Rattle.msg_code.specs.declared.talk.NoteNews.TheVariants as news
 use Rattle.motion_work.specs.Further.{AreFurther}
@@ -106,10 +106,7 @@ last_silent k l (suc n) (suc j) w e t = last_silent (k + 1) l n j w e t
 -- the words that the reactor put, and behind them those that the planner heard
 words_split : (m : Machine) (n : ℕ) (ts : List MotionTurn) (p : Plans m n ts) (put more left : List WordMsg) → put ++ more ≡ gather (λ t. t.words) ts ++ left
     → put ++ more ≡ words_in (p.made ++ p.last) ++ (gather (λ t. t.words) (heard_all m n ts p).later ++ left)
-words_split m n ts p put more left words =
-    let heard = heard_all m n ts p in
-    let mine = p.made ++ p.last in
-    words ∙ ap (λ z. gather (λ (t : MotionTurn). t.words) z ++ left) heard.are ∙ ap (λ z. z ++ left) (gather_words mine heard.later) ∙ append_assoc (words_in mine) (gather (λ (t : MotionTurn). t.words) heard.later) left
+words_split m n ts p put more left words = search (rules, heard_all, gather, gather_words, append_assoc)
 
 -- turns of the reactor that took the planner's notes, where none of the words that the planner heard behind theirs tells of an answer
 pub planned_on : (m : Machine) (switches : List Switch) (n : ℕ) (ts : List MotionTurn) (p : Plans m n ts) (rs : List ReactorTurn) (more left : List WordMsg) → AreReactorTurns m switches [] rs

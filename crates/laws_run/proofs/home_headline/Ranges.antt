@@ -1,5 +1,5 @@
 -- The ticks at which sections start are in range, and the groups of those that home may be formed.
-use Rattle.std.proofs.Common.{◌≡◌, ℕ, zero, suc, ◌+◌, ◌*◌, ◌^◌, ◌<◌, ◌≤◌, ℤ, true, List, [], ◌∷◌, All, length, map, Some, refl, ◌∙◌, subst, arith, inl, inr}
+use Rattle.std.proofs.Common.{◌≡◌, ℕ, zero, suc, ◌+◌, ◌*◌, ◌^◌, ◌<◌, ◌≤◌, ℤ, true, List, [], ◌∷◌, All, length, map, Some, refl, ◌∙◌, subst, arith, inl, inr, rules}
 use Rattle.laws_board.proofs.Names.{leb_tells, All-head, All-tail, BoardDef, Machine, board_tick, clock_of, Clocks, IsValidMachine, axis_at, board_at, Seen, unseen, members_from, AreStarted, Started, Told, MotionTurn}
 use Rattle.plan_types.specs.Clock.{own_tick}
 use Rattle.plan_types.specs.Machines.{IsValidBoard}
@@ -63,24 +63,10 @@ range_all m all own clocks ready at (s ∷ begun) k small early row ends soon =
 
 -- a group may be formed
 may_true : (ms : List Seen) (start last : ℕ) → 254 ≤ start → start ≤ last → last < 2 ^ 63 → movers ms ≤ 16 → may_be ms start last ≡ true
-may_true ms start last a b c d = elim (leb_tells 254 start) [
-  | inr p ↦ absurd (let q = p.1 in omega (arith, q, a))
-  | inl p ↦ elim (leb_tells start last) [
-    | inr q ↦ absurd (let r = q.1 in omega (arith, r, b))
-    | inl q ↦ elim (leb_tells (suc last) (2 ^ 63)) [
-      | inr r ↦ absurd (let x = r.1 in omega (arith, x, c))
-      | inl r ↦ elim (leb_tells (movers ms) 16) [ inl x ↦ rw (p.0, q.0, r.0, x.0) refl | inr x ↦ absurd (let y = x.1 in omega (arith, y, d)) ]
-    ]
-  ]
-]
+may_true ms start last a b c d = search (rules, leb_tells)
 
 one_may : (m : Machine) (v : IsValidMachine m) (clocks : List Clocks) (s : Started) (axis : ℕ) → IsHomed m clocks s → 254 ≤ s.start → may_be (map unseen (members_from m (axis_at m axis) s.moving 0 m.boards)) s.start s.last ≡ true
-one_may m v clocks s axis h early =
-    let last = h.last in
-    let soon = h.soon in
-    let steppers = movers_few m (axis_at m axis) s.moving in
-    let most = v.steppers_few in
-    may_true (map unseen (members_from m (axis_at m axis) s.moving 0 m.boards)) s.start s.last early (omega (arith, last)) (omega (arith, soon)) (omega (arith, steppers, most))
+one_may m v clocks s axis h early = search (rules, movers_few, axis_at, may_true, unseen, members_from)
 
 may_from : (m : Machine) (v : IsValidMachine m) (clocks : List Clocks) (at : ℕ) (begun : List Started) → 254 ≤ at → AreStarted m clocks at begun → MayHome m begun
 may_from m v clocks at [] late h = tt

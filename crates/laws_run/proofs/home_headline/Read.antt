@@ -1,5 +1,5 @@
 -- What the boards' states tell of their triggers, in the turns of a run before its last one.
-use Rattle.std.proofs.Common.{◌≡◌, ℕ, ◌<◌, List, [], ◌∷◌, ◌++◌, length, Option, refl, ap, sym, ◌∙◌, subst, arith, inl, inr}
+use Rattle.std.proofs.Common.{◌≡◌, ℕ, ◌<◌, List, [], ◌∷◌, ◌++◌, length, Option, refl, ap, sym, ◌∙◌, subst, arith, inl, inr, rules}
 use Rattle.laws_board.proofs.Names.{Level, Machine, board_at, Note, State, Entry, Scene, Switch, pins_of, Run, Came, ReactorTurn, item}
 use Rattle.io_core.specs.declared.traits.Files.{Ghosts as Files}
 use Rattle.io_core.specs.declared.traits.Sink.{Ghosts as Sink}
@@ -62,10 +62,7 @@ last_of t (x ∷ ts) = let r = last_of x ts in (t ∷ r.0, r.1, ap (λ z. t ∷ 
 
 -- in the first turn no state comes
 none_came : (n : ℕ) (states : List State) (taken : Option Note) (b : ℕ) (state : State) → IsRow n 0 states taken → item b states ≡ state ∷ [] → ⊥
-none_came n states taken b state row is = elim row [
-  | inl a ↦ (let none : item b states ≡ [] = ap (item b) a.1 in let no : [] ≡ state ∷ [] = sym none ∙ is in cc)
-  | inr a ↦ absurd (let h = a.0 in omega (arith, h))
-]
+none_came n states taken b state row is = search (rules, item)
 
 module _ {F S : Type 0} (f : Files F) (o : Sink S) (m : Machine) (s : Scene) (name : List ℕ) (files files' : F) (out out' : S) (kept kept' : Kept) (t : Told Run) (r : RunsOver f o m s name files out kept t files' out' kept') where
   front_tells : (front : List ReactorTurn) (last : ReactorTurn) → r.runs.1 ≡ front ++ last ∷ [] → TellOfReadings m s.switches (came_in last ∷ came_from [] front)

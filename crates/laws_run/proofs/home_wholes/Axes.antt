@@ -1,5 +1,5 @@
 -- The sections of a text that home do so with one of the three axes.
-use Rattle.std.proofs.Common.{◌≡◌, ℕ, zero, suc, ◌+◌, ◌<◌, Bool, true, false, ℤ, List, [], ◌∷◌, ◌++◌, map, take, sym, subst, arith}
+use Rattle.std.proofs.Common.{◌≡◌, ℕ, zero, suc, ◌+◌, ◌<◌, Bool, true, false, ℤ, List, [], ◌∷◌, ◌++◌, map, take, sym, subst, arith, rules}
 use Rattle.laws_board.proofs.Names.{Machine, Move, Section, SectionKind, Home, Moves, Started}
 use Rattle.gcode_state.specs.declared.state.Action.{Action}
 use Rattle.gcode_state.specs.declared.state.Action.TheVariants as actions
@@ -31,24 +31,10 @@ home_axes m at a dwell axis true low = (low, tt)
 home_axes m at a dwell axis false low = tt
 
 homes_axes : (m : Machine) (at : List ℤ) (a dwell : ℕ) (axes : List Bool) → HaveAxes (homes m at a dwell axes)
-homes_axes m at a dwell axes =
-    let x = is_named axes 0 in
-    let y = is_named axes 1 in
-    let z = is_named axes 2 in
-    let one = home_of m at a dwell 0 x in
-    let two = home_of m (stood m at 0 x) a (dwell_behind_home dwell x) 1 y in
-    let three = home_of m (stood m (stood m at 0 x) 1 y) a (dwell_behind_home (dwell_behind_home dwell x) y) 2 z in
-    axes_both (one ++ two) three (axes_both one two (home_axes m at a dwell 0 x (omega arith)) (home_axes m (stood m at 0 x) a (dwell_behind_home dwell x) 1 y (omega arith))) (home_axes m (stood m (stood m at 0 x) 1 y) a (dwell_behind_home (dwell_behind_home dwell x) y) 2 z (omega arith))
+homes_axes m at a dwell axes = search (rules, axes_both, home_axes)
 
 by_axes : (m : Machine) (dwell : ℕ) (moves : List Move) (s : State) (a : Action) (rest : ℕ → List Move → List Section) → ((d : ℕ) (ms : List Move) → HaveAxes (rest d ms)) → HaveAxes (sections_by m dwell moves s a rest)
-by_axes m dwell moves s actions.None rest all = all dwell moves
-by_axes m dwell moves s (actions.Move one) rest all = all dwell (moves ++ one ∷ [])
-by_axes m dwell moves s (actions.Dwell ms) rest all = axes_both (closed dwell moves) (rest (dwell_left dwell moves + ms) []) (closed_axes dwell moves) (all (dwell_left dwell moves + ms) [])
-by_axes m dwell moves s (actions.Home axes) rest all =
-    let own = homes m (coordinates_of s) s.acceleration (dwell_left dwell moves) axes in
-    let more = rest (left_by_homes (dwell_left dwell moves) axes) [] in
-    axes_both (closed dwell moves) (own ++ more) (closed_axes dwell moves) (axes_both own more (homes_axes m (coordinates_of s) s.acceleration (dwell_left dwell moves) axes) (all (left_by_homes (dwell_left dwell moves) axes) []))
-by_axes m dwell moves s c rest all = axes_both (closed dwell moves) (rest (dwell_left dwell moves) []) (closed_axes dwell moves) (all (dwell_left dwell moves) [])
+by_axes m dwell moves s a rest p6 = search (rules, axes_both, closed_axes, homes_axes)
 
 -- those that are cut from deeds
 pub have_axes : (m : Machine) (dwell : ℕ) (moves : List Move) (deeds : List Deed) → HaveAxes (sections_of m dwell moves deeds)

@@ -1,5 +1,5 @@
 -- What a board tells of a section of moves in a run in which axes home: all its steps.
-use Rattle.std.proofs.Common.{◌≡◌, ◌≢◌, ℕ, true, false, ◌+◌, ◌-◌, ◌*◌, ◌<◌, ◌≤◌, ◌⊎◌, Bool, List, [], ◌∷◌, ◌++◌, length, take, drop, Some, refl, ap, sym, ◌∙◌, subst, arith, inl, inr, append_assoc, length-append}
+use Rattle.std.proofs.Common.{◌≡◌, ◌≢◌, ℕ, true, false, ◌+◌, ◌-◌, ◌*◌, ◌<◌, ◌≤◌, ◌⊎◌, Bool, List, [], ◌∷◌, ◌++◌, length, take, drop, Some, refl, ap, sym, ◌∙◌, subst, arith, inl, inr, append_assoc, length-append, rules}
 use Rattle.laws_board.proofs.Names.{leb_tells, flat_map-append, append_cancel_left, take-append-drop, All-head, Running, Shut, Pulse, clock_of, turn_ns, lines_tick, ShutNews, State, Entry, only, Core, run_world, new_world, AreBefore, base_of, section_steps, AreTurns, first_state, LinkState, Orders}
 use Rattle.std.proofs.lemmas.List.{length-drop, length-take-le, take-append-le, take_all}
 use Rattle.board_sim.specs.Board.{timer_too_close}
@@ -296,10 +296,7 @@ module _ (place : ℕ) (entries : List Entry) (ready turns from to : ℕ) (x : O
 
     -- as where all are released by then
     pub known_by : (n : ℕ) → to ≤ n → AreBefore n s.section.releases → (E < n) ⊎ AreBefore E s.section.releases
-    known_by n reach released = elim (leb_tells (E + 1) n) [
-      | inl p ↦ (let late = p.1 in inl (omega (arith, late)))
-      | inr p ↦ (let low = p.1 in let same : n ≡ E = omega (arith, low, over, reach) in inr (subst (λ (t : ℕ). AreBefore t s.section.releases) same released))
-    ]
+    known_by n reach released = search (rules, leb_tells)
 
     -- or where it told any pulse behind these turns
     pub passed_whole : told_in to turns x ≢ [] → AreBefore E s.section.releases × ((oid : ℕ) → length (only oid (told_in from to x)) ≡ length (s.section.plan oid))

@@ -1,5 +1,5 @@
 -- The first turns of a board's part of a run in which axes home, up to the end of a section: a run of the sections up to this one.
-use Rattle.std.proofs.Common.{◌≡◌, ℕ, ◌+◌, ◌<◌, ◌≤◌, ◌⊎◌, List, [], ◌∷◌, ◌++◌, All, length, Option, refl, ap, sym, ◌∙◌, subst, arith, inl, inr, append_assoc, append-nil, length-append, false}
+use Rattle.std.proofs.Common.{◌≡◌, ℕ, ◌+◌, ◌<◌, ◌≤◌, ◌⊎◌, List, [], ◌∷◌, ◌++◌, All, length, Option, refl, ap, sym, ◌∙◌, subst, arith, inl, inr, append_assoc, append-nil, length-append, false, rules}
 use Rattle.std.proofs.lemmas.List.{take-append-le}
 use Rattle.laws_board.proofs.Names.{All-cons, All-head, All-nil, All-tail, Clocks, Cmd, batch_at, BoardSection, AreBefore, Orders}
 use Rattle.msg_code.specs.declared.cmd.Cmd.TheVariants as cmd
@@ -42,11 +42,7 @@ sets_either clocks (s ∷ xs) ys turn clock (inl x) = inl (inl x)
 sets_either clocks (s ∷ xs) ys turn clock (inr x) = elim (sets_either clocks xs ys turn clock x) [ inl y ↦ inl (inr y) | inr y ↦ inr y ]
 
 control_front : (clocks : Clocks) (xs later : List RunSection) (end turn : ℕ) (m : Cmd) → AreInTurn end later → turn ≤ end + 5 → IsControlIn clocks (xs ++ later) turn m → IsControlIn clocks xs turn m
-control_front clocks xs later end turn (cmd.QueueStep oid interval count add) row h i = i
-control_front clocks xs later end turn (cmd.SetNextStepDir oid dir) row h i = i
-control_front clocks xs later end turn (cmd.ResetStepClock oid clock) row h i = elim (sets_either clocks xs later turn clock i) [ inl x ↦ x | inr x ↦ absurd (none_sets clocks end turn clock later row h x) ]
-control_front clocks xs later end turn (cmd.ConfigStepper oid step dir invert width) row h i = i
-control_front clocks xs later end turn m row h i = tt
+control_front clocks xs later end turn m p6 p7 p8 = search (rules, sets_either, none_sets)
 
 controls_front : (clocks : Clocks) (xs later : List RunSection) (end turn : ℕ) (cs : List Cmd) → AreInTurn end later → turn ≤ end + 5 → All (IsControlIn clocks (xs ++ later) turn) cs → All (IsControlIn clocks xs turn) cs
 controls_front clocks xs later end turn [] row h a = All-nil (IsControlIn clocks xs turn)

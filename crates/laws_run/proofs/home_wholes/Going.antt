@@ -1,5 +1,5 @@
 -- A board of a run in which axes home runs while the reactor goes on, and stays shut once it is.
-use Rattle.std.proofs.Common.{◌≡◌, ℕ, zero, suc, ◌+◌, Bool, true, false, cond, List, [], ◌∷◌, ◌++◌, length, Option, Some, None, refl, ap, sym, ◌∙◌, subst, inl, inr}
+use Rattle.std.proofs.Common.{◌≡◌, ℕ, zero, suc, ◌+◌, Bool, true, false, cond, List, [], ◌∷◌, ◌++◌, length, Option, Some, None, refl, ap, sym, ◌∙◌, subst, inl, inr, rules}
 use Rattle.std.specs.Prelude.{◌||◌, if◌then◌else◌}
 use Rattle.laws_board.proofs.Names.{eqb_tells, flat_map, Cause, BoardClock, Level, BoardDef, Machine, Running, Shut, clock_of, board_at, ShutNews, State, Entry, Switch, Controller, is_shut, commands_of, Event, IsOrdered, Core, Step, Do, Turn, after_event, in_turn, run_world, new_world, takes_in, queued_in, first_state, orders, LinkState, turns_are_steps, is_out, noted, first_cause, Came, known_by, last_reacted, state_at}
 use Rattle.plan_types.specs.declared.cause.Cause.TheVariants as cause
@@ -32,10 +32,7 @@ none_first m switches c before None e f = refl
 none_first m switches c before (Some x) e f = absurd (some_none x (sym (first-ends m switches (known_by m switches before) (length before) c.states c.note x f) ∙ e))
 
 none_late : (m : Machine) (switches : List Switch) (c : Came) (before : List Came) → (last_reacted m switches c before).ordered.end ≡ None → late 0 c.states ≡ None
-none_late m switches c before e =
-    let stopped = (noted m c.note (known_by m switches before)).stopped in
-    let first = none_first m switches c before (first_cause (is_out c.note) stopped c.states) e refl in
-    (or_none stopped (late 0 c.states) (memory_none (is_out c.note || any_out c.states) (or_cause stopped (late 0 c.states)) first)).1
+none_late m switches c before e = search (rules, noted, known_by, none_first, first_cause, is_out, or_none, memory_none)
 
 not_late : (j : ℕ) (n : ShutNews) → late_of j (Some n) ≡ None → n.reason ≡ 1 → ⊥
 not_late j n e one =
@@ -77,10 +74,7 @@ goes_running m switches pins entries b c before (t ∷ turns) r told e may =
 
 -- nothing that happens changes the state of a board that is shut down
 shut_event : (h : Core) (e : Event) → is_shut h.board.controller.state ≡ true → (after_event h e).board.controller.state ≡ h.board.controller.state
-shut_event h (event.Pass t) shut = passes_state h.board t
-shut_event h event.Arrive shut = ap (λ (x : Controller). x.state) (all_left_by h.board (commands_of (takes_in h event.Arrive)) shut)
-shut_event h event.Repeat shut = ap (λ (x : Controller). x.state) (all_left_by h.board (commands_of (takes_in h event.Repeat)) shut)
-shut_event h c shut = refl
+shut_event h e p2 = search (rules, passes_state, all_left_by, commands_of, takes_in)
 
 shut_steps : (steps : List Step) (h : Core) → is_shut h.board.controller.state ≡ true → (run_world steps h).board.controller.state ≡ h.board.controller.state
 shut_steps [] h shut = refl

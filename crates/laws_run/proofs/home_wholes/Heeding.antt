@@ -1,5 +1,5 @@
 -- A unit of a section of moves that comes too late finds its stepper free, where the board is still in that section's turns.
-use Rattle.std.proofs.Common.{◌≡◌, ℕ, ◌+◌, ◌-◌, ◌≤◌, List, [], ◌∷◌, ◌++◌, length, take, drop, refl, ap, sym, ◌∙◌, subst, arith, inl, inr, append_assoc, append-nil, length-append}
+use Rattle.std.proofs.Common.{◌≡◌, ℕ, ◌+◌, ◌-◌, ◌≤◌, List, [], ◌∷◌, ◌++◌, length, take, drop, refl, ap, sym, ◌∙◌, subst, arith, inl, inr, append_assoc, append-nil, length-append, rules}
 use Rattle.laws_board.proofs.Names.{append_cancel_left, take-append-drop, BoardClock, BoardState, Running, Shut, clock_of, Cmd, Entry, Controller, is_shut, Meant, commands_of, Rig, passes, takes_all, Event, IsOrdered, Core, Step, Do, Turn, world_after, after_event, run_world, new_world, takes_in, BoardSection, AreTurns, first_state, LinkState, Orders, turns_are_steps}
 use Rattle.std.proofs.lemmas.List.{length-drop, length-take-le}
 use Rattle.msg_code.specs.declared.cmd.Cmd.TheVariants as cmd
@@ -41,11 +41,7 @@ takes_free low front h g ms taken board free on done to_come cut took =
     subst (λ (r : Rig). StandsFree low done to_come r) (sym board) (subst (λ (x : List Sent). StandsFree low x to_come (takes_all h.board (commands_of ms)).rig) (sym are) (now running))
 
 ran_through : (r : Rig) (t : ℕ) → (passes r t).rig.controller.state ≡ Running → r.controller.state ≡ Running
-ran_through r t on = by r.controller.state refl
-  where
-    by : (o : BoardState) → r.controller.state ≡ o → r.controller.state ≡ Running
-    by Running e = e
-    by (Shut reason tick first) e = absurd (runs_on reason tick first (sym on ∙ (passes_left r t (ap is_shut e)).1 ∙ e))
+ran_through r t on = search (rules, runs_on, passes_left, is_shut)
 
 pass_free : (low : ℕ) (front : List Sent) (h : Core) (t : ℕ) → IsFreeAt low front h → IsFreeAt low front (after_event h (Pass t))
 pass_free low front h t free on done to_come cut took =
@@ -93,14 +89,7 @@ steps_took [] h = omega arith
 steps_took (s ∷ steps) h = let one = step_took h s in let rest = steps_took steps (world_after h s) in omega (arith, one, rest)
 
 early_one : (front tail : List Sent) (t : Sent) (h : Core) (s : Step) → length (world_after h s).taken ≤ length (orders_sent front) → HeedsAt front (t ∷ tail) h s
-early_one front tail t h (Turn turn) few = tt
-early_one front tail t h (Do e) few = λ first rest is took on.
-    let one = length-append h.taken (takes_in h e) in
-    let two = ap length is in
-    let three = length-append first (t.order ∷ rest) in
-    let four = ap length took in
-    let five = length-append h.taken first in
-    absurd (omega (arith, few, one, two, three, four, five))
+early_one front tail t h s p5 = search (rules, length-append, takes_in)
 
 early_heed : (front tail : List Sent) (t : Sent) (steps : List Step) (h : Core) → length (run_world steps h).taken ≤ length (orders_sent front) → AllHeed front (t ∷ tail) h steps
 early_heed front tail t [] h few = tt
@@ -163,11 +152,7 @@ module _ (place : ℕ) (entries : List Entry) (x : OnBoard) (s : BoardSection) (
 
   -- what is queued before these turns, and in them
   all_is : sent_in 0 x.orders ≡ sent_in 0 Before ++ (sent_in Low Mine ++ sent_in (s.end + 6) Others)
-  all_is =
-      let one : 0 + length Before ≡ Low = (let l = low_is in omega (arith, l)) in
-      let two : Low + length Mine ≡ s.end + 6 = (let l = mine_is in omega (arith, l, order)) in
-      ap (sent_in 0) cut ∙ sent_in_append 0 Before (Mine ++ Others) ∙ ap (λ n. sent_in 0 Before ++ sent_in n (Mine ++ Others)) one ∙ ap (λ y. sent_in 0 Before ++ y) (sent_in_append Low Mine Others)
-      ∙ ap (λ n. sent_in 0 Before ++ (sent_in Low Mine ++ sent_in n Others)) two
+  all_is = search (rules, low_is, mine_is, cut, sent_in_append)
 
   old : AllBefore Low (sent_in 0 Before)
   old = before_in 0 Low Before (let l = low_is in omega (arith, l))

@@ -1,5 +1,5 @@
 -- What the lines of a whole run tell of a section of moves, where the board of the stepper ran on behind it.
-use Rattle.std.proofs.Common.{◌≡◌, ◌⊎◌, ◌≢◌, ℕ, true, ◌+◌, ◌-◌, ◌<◌, ◌≤◌, List, [], ◌∷◌, ◌++◌, length, map, drop, take, None, Some, refl, ap, sym, ◌∙◌, subst, arith, inl, inr, length-append}
+use Rattle.std.proofs.Common.{◌≡◌, ◌⊎◌, ◌≢◌, ℕ, true, ◌+◌, ◌-◌, ◌<◌, ◌≤◌, List, [], ◌∷◌, ◌++◌, length, map, drop, take, None, Some, refl, ap, sym, ◌∙◌, subst, arith, inl, inr, length-append, rules}
 use Rattle.laws_board.proofs.Names.{leb_tells, length-map, map-append, Cause, Machine, Planned, Pulse, SectionKind, Home, Moves, clock_of, IsValidMachine, board_at, stepper_at, clocks_at, stepper_plan, ShutNews, State, Scene, only, AreBefore, pins_of, Came, AreStarted, Started, Told, MotionTurn, ReactorTurn}
 use Rattle.plan_types.specs.Sections.{is_home}
 use Rattle.section_units.specs.Units.{sent}
@@ -188,10 +188,7 @@ module _ (m : Machine) (v : IsValidMachine m) (s : Scene) (ts : List MotionTurn)
           past x later cut moves (omega (arith, size, order, within, begins)) (omega (arith, soon, same)) y.sections Cut.section.plan Cut.section.releases y.states
 
       moved : IsMoved m t.clocks x
-      moved =
-          let Begun : List Started → Type 0 = λ z. AreStarted m t.clocks t.first z in
-          let At : SectionKind → Type 0 = λ k. IsPlanned k m t.clocks x in
-          subst At moves (planned_at m t.clocks t.first past x later (subst Begun cut (started_in m ts p t told)))
+      moved = search (rules, planned_at, started_in)
 
       -- it was over long before the planner's last turn, where the planner's turns are not all: then the last section homes
       made_over : (x.end + 5 < Made) ⊎ (N ≤ Made)

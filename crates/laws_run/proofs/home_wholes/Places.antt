@@ -1,5 +1,5 @@
 -- Where the sections that home stand to one of moves, and the set-ups of which homing sections a board is sent around it.
-use Rattle.std.proofs.Common.{◌≡◌, ℕ, zero, suc, true, false, cond, ◌+◌, ◌-◌, ◌<◌, ◌≤◌, ◌⊎◌, inl, inr, Bool, List, [], ◌∷◌, ◌++◌, length, take, drop, Option, Some, refl, ap, sym, ◌∙◌, subst, arith}
+use Rattle.std.proofs.Common.{◌≡◌, ℕ, zero, suc, true, false, cond, ◌+◌, ◌-◌, ◌<◌, ◌≤◌, ◌⊎◌, inl, inr, Bool, List, [], ◌∷◌, ◌++◌, length, take, drop, Option, Some, refl, ap, sym, ◌∙◌, subst, arith, rules}
 use Rattle.std.specs.Prelude.{◌&&◌}
 use Rattle.laws_board.proofs.Names.{eqb_tells, leb_tells, BoardClock, Level, Machine, Home, Moves, Entry, Switch, AreTurns, orders, IsTurn, LinkState, Orders, Homing, noted, Came, GoesOn, known_by, Started}
 use Rattle.std.proofs.lemmas.List.{take-append-le, take_all}
@@ -33,22 +33,10 @@ kinds_differ axis e = cc
 
 -- where the part of a homing section's steps stops that is begun in a turn
 set_before : (x y turn : ℕ) → x + 260 ≤ y → y ≤ turn + 254 → is_set_in x turn ≡ false
-set_before x y turn h l = elim (leb_tells x (turn + 254)) [
-  | inl p ↦ elim (leb_tells (turn + 252) x) [
-    | inl q ↦ absurd (let f = q.1 in omega (arith, f, h, l))
-    | inr q ↦ rw (p.0, q.0) refl
-  ]
-  | inr p ↦ rw p.0 refl
-]
+set_before x y turn h l = search (rules, leb_tells)
 
 set_now : (x turn : ℕ) → x ≤ turn + 254 → turn + 252 ≤ x → is_set_in x turn ≡ true
-set_now x turn h l = elim (leb_tells x (turn + 254)) [
-  | inl p ↦ elim (leb_tells (turn + 252) x) [
-    | inl q ↦ rw (p.0, q.0) refl
-    | inr q ↦ absurd (let f = q.1 in omega (arith, f, l))
-  ]
-  | inr p ↦ absurd (let f = p.1 in omega (arith, f, h))
-]
+set_now x turn h l = search (rules, leb_tells)
 
 stop_if : (a c : Bool) (x y : Option ℕ) → a ≡ true → c ≡ true → cond (a && c) x y ≡ x
 stop_if true true x y e f = refl

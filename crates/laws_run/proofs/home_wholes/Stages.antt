@@ -1,5 +1,5 @@
 -- So over the turns of a board and its link.
-use Rattle.std.proofs.Common.{◌≡◌, ℕ, ◌+◌, ◌≤◌, List, [], ◌∷◌, ◌++◌, length, drop, map, refl, ap, sym, ◌∙◌, subst, arith, inl, inr, append_assoc, append-nil, length-append}
+use Rattle.std.proofs.Common.{◌≡◌, ℕ, ◌+◌, ◌≤◌, List, [], ◌∷◌, ◌++◌, length, drop, map, refl, ap, sym, ◌∙◌, subst, arith, inl, inr, append_assoc, append-nil, length-append, rules}
 use Rattle.laws_board.proofs.Names.{append_cancel_left, take-append-drop, Running, Shut, Pulse, is_shut, Meant, commands_of, Rig, takes_all, Event, plain, units_orders, Core, Step, Do, Turn, world_after, does, after_event, run_world, takes_in, Orders, queued_in, run_append}
 use Rattle.board_sim.proofs.RigShut.{passes_left}
 use Rattle.board_sim.proofs.Steps.{only-append}
@@ -25,16 +25,7 @@ abbrev pub Stage : (p : Script) → Aim p → Core → Type 0
 Stage p a h = h.board.controller.state ≡ Running → (done left : List Sent) → done ++ left ≡ p.all → orders_sent done ≡ h.taken → Phase p a done h.board h.made
 
 front_same : (xs ys zs ws : List Sent) → xs ++ ys ≡ zs ++ ws → length xs ≡ length zs → xs ≡ zs
-front_same xs ys zs ws e same =
-    elim (cuts xs ys zs ws e) [
-      | inl p ↦
-          let long = ap length p.1 ∙ length-append xs p.0 in
-          let none : p.0 ≡ [] = none_long p.0 (omega (arith, long, same)) in
-          sym (p.1 ∙ ap (λ x. xs ++ x) none ∙ append-nil xs)
-      | inr p ↦
-          let long = ap length p.2 ∙ length-append zs (p.0 ∷ p.1) in
-          absurd (omega (arith, long, same))
-    ]
+front_same xs ys zs ws e same = search (rules, cuts, length-append, none_long, append-nil)
 
 pub done_same : (xs ys zs ws all : List Sent) → xs ++ ys ≡ all → zs ++ ws ≡ all → orders_sent xs ≡ orders_sent zs → xs ≡ zs
 done_same xs ys zs ws all e f same = front_same xs ys zs ws (e ∙ sym f) (sym (orders_long xs) ∙ ap length same ∙ orders_long zs)

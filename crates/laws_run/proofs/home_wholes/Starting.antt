@@ -1,5 +1,5 @@
 -- Which controls start a trigger or bind a stepper: those of the set-up of a homing section of which the board is a member.
-use Rattle.std.proofs.Common.{◌≡◌, ℕ, ◌+◌, ◌-◌, ◌*◌, ◌≤◌, ◌==◌, ◌⊎◌, inl, inr, Bool, true, false, cond, List, [], ◌∷◌, ◌++◌, length, map, take, drop, Option, Some, None, refl, sym, subst, arith}
+use Rattle.std.proofs.Common.{◌≡◌, ℕ, ◌+◌, ◌-◌, ◌*◌, ◌≤◌, ◌==◌, ◌⊎◌, inl, inr, Bool, true, false, cond, List, [], ◌∷◌, ◌++◌, length, map, take, drop, Option, Some, None, refl, sym, subst, arith, rules}
 use Rattle.std.specs.Prelude.{nat_lt}
 use Rattle.laws_board.proofs.Names.{eqb-true, eqb_tells, Level, AxisDef, Machine, Clocks, axis_at, board_at, Cmd, State, Control, Entry, Switch, Ctl, End, Member, Order, Goes, Rests, Sends, Homes, Starts, Fired, Seen, GroupState, all_fired, first_timeout, phase, relay_in, relays_in, round_of, steppers, Homing, answer_in, by_answer, command_to, commands_to, hears_all, homing_turn, order_command, members_of, Asking, Stage, Config, Configure, Connected, Identify, Uptime, Setup, is_question_due, ready, asks_now, clock_question, drifts, waits_in, configuration, Known, noted, Reacted, homing_commands, stop_command, stops, Came, known_by, last_reacted, states-kept}
 use Rattle.msg_code.specs.declared.cmd.Cmd.TheVariants as cmd
@@ -127,13 +127,7 @@ if_still true x y f g = f refl
 if_still false x y f g = g
 
 phase_still : (start last k : ℕ) → (start ≡ k + 251 → ⊥) → (start ≡ k + 250 → ⊥) → PhaseStill (phase start last k)
-phase_still start last k first second =
-    let left = start - k in
-    if_still (left == 254) (Sends (Resets 0)) _ (λ e. tt)
-    (if_still (left == 253) (Sends (Resets 1)) _ (λ e. tt)
-    (if_still (left == 252) (Sends (Resets 2)) _ (λ e. tt)
-    (if_still (left == 251) (Sends (Starts (first_timeout start last))) _ (λ e. let f = eqb-true left 251 e in first (omega (arith, f)))
-    (if_still (left == 250) (Sends Homes) _ (λ e. let f = eqb-true left 250 e in second (omega (arith, f))) (if_still (left == 0) Goes Rests (λ e. tt) tt)))))
+phase_still start last k first second = search (rules, if_still, first_timeout, eqb-true)
 
 -- their commands
 order_still : (m : Machine) (clocks : Clocks) (b start : ℕ) (axis : AxisDef) (what : Order) → OrderStill what → IsStill (order_command m clocks b start axis what)
@@ -166,18 +160,7 @@ answer_still b k h (Some end.NoSwitch) a = tt
 answer_still b k h (Some (end.Expired board turn)) a = tt
 
 group_either : (b k : ℕ) (h : Homing) → (IsMember b (members_of h.group) → PhaseStill (phase h.group.start h.group.last k)) ⊎ ((h.group.start ≤ k + 251) × (k + 250 ≤ h.group.start) × IsMember b (members_of h.group))
-group_either b k h =
-    let start = h.group.start in
-    elim (member_or_not b (members_of h.group)) [
-      | inr n ↦ inl (λ i. absurd (n i))
-      | inl i ↦ elim (eqb_tells start (k + 251)) [
-        | inl p ↦ let e = p.1 in inr (omega (arith, e), omega (arith, e), i)
-        | inr p ↦ elim (eqb_tells start (k + 250)) [
-          | inl q ↦ let e = q.1 in inr (omega (arith, e), omega (arith, e), i)
-          | inr q ↦ inl (λ _. phase_still start h.group.last k (λ e. absurd (p.1 e)) (λ e. absurd (q.1 e)))
-        ]
-      ]
-    ]
+group_either b k h = search (rules, member_or_not, members_of, eqb_tells, phase_still)
 
 homing_either : (m : Machine) (all : List Clocks) (k : ℕ) (states : List State) (o : Option Homing) (own : Clocks) (b : ℕ) → EachStill (homing_commands m (homing_turn all k states o) own b) ⊎ IsSettingUp b k o
 homing_either m all k states None own b = inl tt

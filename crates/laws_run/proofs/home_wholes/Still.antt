@@ -1,5 +1,5 @@
 -- A board of which no trigger can trigger: no command but those that start a trigger or bind a stepper halts one, nor does time.
-use Rattle.std.proofs.Common.{◌≡◌, ℕ, zero, suc, ◌+◌, ◌/◌, ◌==◌, ◌&&◌, not, Bool, true, false, cond, ◌⊎◌, List, [], ◌∷◌, get_or, set, Option, Some, None, refl, ap, sym, ◌∙◌, subst, inl, inr}
+use Rattle.std.proofs.Common.{◌≡◌, ℕ, zero, suc, ◌+◌, ◌/◌, ◌==◌, ◌&&◌, not, Bool, true, false, cond, ◌⊎◌, List, [], ◌∷◌, get_or, set, Option, Some, None, refl, ap, sym, ◌∙◌, subst, inl, inr, rules}
 use Rattle.std.specs.Prelude.{slice_index_or}
 use Rattle.laws_board.proofs.Names.{leb_tells, BoardState, Running, Shut, Pending, Trigger, Cmd, Controller, Passed, Rig, Slot, slot_at, becomes, expires_at_once, set_timeout, acts, acts_running, takes, earliest_moment, runs_to, rests_to, happens_to, goes_on, at_of, passes_by, pass, passes, all_left}
 use Rattle.plan_types.specs.declared.plan.Triple.{Triple}
@@ -46,22 +46,10 @@ abbrev Goes : Rig → Cmd → Rig → Type 0
 Goes r c q = (q.controller ≡ r.controller) ⊎ (q.controller ≡ (board.takes r.controller c).board)
 
 acts_go : (r : Rig) (c : Cmd) → IsStill c → AllFired r → Goes r c (acts r c).rig
-acts_go r (cmd.ConfigTrsync oid) i off = inl (made_same r oid (slot_at r oid))
-acts_go r (cmd.TrsyncStart oid clock every reason) i off = absurd i
-acts_go r (cmd.TrsyncSetTimeout oid clock) i off = inl (timeout_same r oid (slot_at r oid) clock refl off)
-acts_go r (cmd.TrsyncTrigger oid reason) i off = inl (trigger_same r oid (slot_at r oid) reason refl off)
-acts_go r (cmd.StepperStopOnTrigger oid other) i off = absurd i
-acts_go r (cmd.ConfigEndstop oid pin pull) i off = inl (endstop_same r oid pin (slice_index_or r.endstops oid None))
-acts_go r (cmd.EndstopHome oid clock sample count rest value other reason) i off =
-    inl (home_same r (slice_index_or r.endstops oid None) other (slot_at r other) (record { clock = clock; sample_ticks = sample; sample_count = count; rest_ticks = rest; pin_value = value; reason = reason }))
-acts_go r c i off = inr refl
+acts_go r c p2 p3 = search (rules, made_same, slot_at, timeout_same, trigger_same, endstop_same, slice_index_or, home_same)
 
 takes_go : (r : Rig) (c : Cmd) → IsStill c → AllFired r → Goes r c (takes r c).rig
-takes_go r c i off = by r.controller.state
-  where
-    by : (o : BoardState) → Goes r c (acts_running o r c).rig
-    by Running = acts_go r c i off
-    by (Shut reason tick first) = inr refl
+takes_go r c i off = search (rules, acts_running, acts_go)
 
 still_tame : (c : Cmd) → IsStill c → IsTame c
 still_tame (cmd.TrsyncStart oid clock every reason) i = absurd i
@@ -72,11 +60,7 @@ takes_off r c i off = running_off r.controller.state r c (still_tame c i) off
 
 -- steppers' places
 with_free : (b : Controller) (other oid : ℕ) (q : Pending) → (other ≡ oid → q.halted ≡ false) → IsFree oid b → IsFree oid (with_stepper b other q)
-with_free b other oid q free old =
-    elim (set_either b.steppers other oid (Some q)) [
-      | inl p ↦ ap is_halted p.1 ∙ free p.0
-      | inr p ↦ ap is_halted p ∙ old
-    ]
+with_free b other oid q free old = search (rules, set_either)
 
 own_halt : (b : Controller) (other oid : ℕ) (q : Pending) → stepper_at b other ≡ Some q → IsFree oid b → other ≡ oid → q.halted ≡ false
 own_halt b other oid q at free same = sym (ap is_halted at) ∙ ap (λ n. is_halted (stepper_at b n)) same ∙ free
@@ -90,51 +74,32 @@ either_free true b oid x y k l runs = k runs
 either_free false b oid x y k l runs = l runs
 
 queue_free : (b : Controller) (other oid : ℕ) (o : Option Pending) (t : Triple) → stepper_at b other ≡ o → IsFree oid b → (queue_step b other o t).board.state ≡ Running → IsFree oid (queue_step b other o t).board
-queue_free b other oid None t at free runs = free
-queue_free b other oid (Some q) t at free runs =
-    either_free q.halted b oid (board.quiet b) (takes_triple (refusal b.tick q t) b other q (ticks_at (first_of b.tick q t) t)) (λ _. free)
-    (λ e. taken_free (refusal b.tick q t) b other oid q (ticks_at (first_of b.tick q t) t) at free e) runs
+queue_free b other oid o t p5 p6 p7 = search (rules, either_free, taken_free)
 
 dir_free : (b : Controller) (other oid dir : ℕ) (o : Option Pending) → stepper_at b other ≡ o → IsFree oid b → IsFree oid (set_dir b other o dir).board
 dir_free b other oid dir None at free = free
 dir_free b other oid dir (Some q) at free = with_free b other oid (record q { up = dir == 1 }) (own_halt b other oid q at free) free
 
 reset_free : (b : Controller) (other oid clock : ℕ) (o : Option Pending) → IsFree oid b → (reset b other o clock).board.state ≡ Running → IsFree oid (reset b other o clock).board
-reset_free b other oid clock None free runs = free
-reset_free b other oid clock (Some q) free runs =
-    either_free (is_none_pending q.groups) b oid (board.quiet (with_stepper b other (record q { last = clock; halted = false }))) (stop b 3 0)
-    (λ _. with_free b other oid (record q { last = clock; halted = false }) (λ _. refl) free) (λ e. absurd (clash 3 b.tick 0 e)) runs
+reset_free b other oid clock o p5 p6 = search (rules, either_free, with_free, clash)
 
 make_free : (b : Controller) (other oid : ℕ) (o : Option Pending) → IsFree oid b → IsFree oid (make_stepper b other o).board
 make_free b other oid None free = with_free b other oid (record { halted = false; up = false; last = 0; groups = []; slots = b.slots }) (λ _. refl) free
 make_free b other oid (Some q) free = free
 
 acts_free : (b : Controller) (oid : ℕ) (c : Cmd) → IsFree oid b → (board.acts b c).board.state ≡ Running → IsFree oid (board.acts b c).board
-acts_free b oid cmd.EmergencyStop free runs = absurd (clash 5 b.tick 0 runs)
-acts_free b oid (cmd.ConfigStepper other step dir invert width) free runs = make_free b other oid (stepper_at b other) free
-acts_free b oid (cmd.QueueStep other interval count add) free runs = queue_free b other oid (stepper_at b other) (record { interval = interval; count = count; add = add }) refl free runs
-acts_free b oid (cmd.SetNextStepDir other dir) free runs = dir_free b other oid dir (stepper_at b other) refl free
-acts_free b oid (cmd.ResetStepClock other clock) free runs = reset_free b other oid clock (stepper_at b other) free runs
-acts_free b oid c free runs = free
+acts_free b oid c p3 p4 = search (rules, clash, make_free, queue_free, dir_free, reset_free)
 
 running_free : (o : BoardState) (b : Controller) (oid : ℕ) (c : Cmd) → IsFree oid b → (board.acts_running o b c).board.state ≡ Running → IsFree oid (board.acts_running o b c).board
 running_free Running b oid c free runs = acts_free b oid c free runs
 running_free (Shut reason tick first) b oid c free runs = free
 
 board_free : (b : Controller) (oid : ℕ) (c : Cmd) → IsFree oid b → (board.takes b c).board.state ≡ Running → IsFree oid (board.takes b c).board
-board_free b oid (cmd.Identify offset count) free runs = free
-board_free b oid cmd.GetConfig free runs = free
-board_free b oid cmd.GetUptime free runs = free
-board_free b oid c free runs = running_free b.state b oid c free runs
+board_free b oid c p3 p4 = search (rules, running_free)
 
 -- a stepper that isn't halted stays so where the board runs on
 pub takes_free : (r : Rig) (oid : ℕ) (c : Cmd) → IsStill c → AllFired r → (takes r c).rig.controller.state ≡ Running → IsFree oid r.controller → IsFree oid (takes r c).rig.controller
-takes_free r oid c i off runs free =
-    let At : Controller → Type 0 = λ b. b.state ≡ Running → IsFree oid b in
-    elim (takes_go r c i off) [
-      | inl e ↦ subst At (sym e) (λ _. free) runs
-      | inr e ↦ subst At (sym e) (board_free r.controller oid c free) runs
-    ]
+takes_free r oid c i off runs free = search (rules, takes_go, board_free)
 
 -- and one whose clock is set isn't
 set_here : {A : Type 0} (xs : List (Option A)) (i : ℕ) (q : A) (v : Option A) → get_or xs i None ≡ Some q → get_or (set xs i v) i None ≡ v
@@ -148,18 +113,10 @@ set_by true b oid q now runs = now
 set_by false b oid q now runs = absurd (clash 3 b.tick 0 runs)
 
 set_free : (b : Controller) (oid clock : ℕ) (o : Option Pending) → stepper_at b oid ≡ o → (reset b oid o clock).board.state ≡ Running → IsFree oid (reset b oid o clock).board
-set_free b oid clock None at runs = ap is_halted at
-set_free b oid clock (Some q) at runs =
-    let now : Pending = record q { last = clock; halted = false } in
-    set_by (is_none_pending q.groups) b oid now (ap is_halted (set_here b.steppers oid q (Some now) at)) runs
+set_free b oid clock o p4 p5 = search (rules, set_by, set_here)
 
 pub resets_free : (r : Rig) (oid clock : ℕ) → r.controller.state ≡ Running → (takes r (cmd.ResetStepClock oid clock)).rig.controller.state ≡ Running → IsFree oid (takes r (cmd.ResetStepClock oid clock)).rig.controller
-resets_free r oid clock is runs =
-    let c = cmd.ResetStepClock oid clock in
-    let same : (takes r c).rig.controller ≡ (reset r.controller oid (stepper_at r.controller oid) clock).board =
-    ap (λ o. (acts_running o r c).rig.controller) is ∙ ap (λ o. (board.acts_running o r.controller c).board) is in
-    let At : Controller → Type 0 = λ b. b.state ≡ Running → IsFree oid b in
-    subst At (sym same) (set_free r.controller oid clock (stepper_at r.controller oid) refl) runs
+resets_free r oid clock is runs = search (rules, takes, acts_running, set_free)
 
 -- time passes
 pub record Outlasts (r q : Rig) : Type 0 where

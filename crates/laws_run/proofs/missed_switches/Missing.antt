@@ -1,5 +1,5 @@
 -- A run that ends since no switch closed in a homing section missed its switch.
-use Rattle.std.proofs.Common.{◌≡◌, ◌≢◌, ℕ, ◌+◌, ◌-◌, ◌*◌, ◌^◌, ◌<◌, ◌≤◌, List, [], ◌∷◌, ◌++◌, length, map, Option, Some, None, refl, ap, sym, ◌∙◌, subst, arith, length-append}
+use Rattle.std.proofs.Common.{◌≡◌, ◌≢◌, ℕ, ◌+◌, ◌-◌, ◌*◌, ◌^◌, ◌<◌, ◌≤◌, List, [], ◌∷◌, ◌++◌, length, map, Option, Some, None, refl, ap, sym, ◌∙◌, subst, arith, length-append, rules}
 use Rattle.laws_board.proofs.Names.{∥∥₁_map, Cause, Level, Machine, Running, Home, board_tick, clock_of, turn_ns, lines_tick, IsValidMachine, axis_at, board_at, clocks_at, State, Entry, Scene, Switch, first_state, pins_of, Homing, answer_in, hears_all, Known, Connecting, noted, Run, IsOwn, Came, GoesOn, known_by, Started, Told, MotionTurn, ReactorTurn}
 use Rattle.plan_types.specs.declared.cause.Cause.TheVariants as cause
 use Rattle.plan_types.proofs.OwnTicks.{rise}
@@ -67,10 +67,7 @@ use Rattle.laws_homing.proofs.missed_groups.Told.{same_state}
 -- a board whose latest state tells of no shutdown runs
 last_runs : (m : Machine) (switches : List Switch) (pins : List (List Level)) (entries : List Entry) (b : ℕ) (came : List Came) (turns : List BoardTurn) (last : State)
     → IsInRun m switches pins entries b came turns → latest_state turns ≡ last ∷ [] → last.shut ≡ None → (stands_after (first_state (board_at m b) pins b entries) turns).core.board.controller.state ≡ Running
-last_runs m switches pins entries b came [] last r at shut = absurd (cc)
-last_runs m switches pins entries b came (t ∷ turns) last r at shut =
-    let same : t.state ≡ last = cc in
-    runs_on t.after.core.board.controller.state t.state.shut r.turns_are.0.1.shut (ap (λ (y : State). y.shut) same ∙ shut)
+last_runs m switches pins entries b came turns last p8 p9 p10 = search (rules, runs_on)
 
 module _ (m : Machine) (v : IsValidMachine m) (s : Scene) (ts : List MotionTurn) (p : Plans m (length m.boards) ts) (t : Told) (first : ReactorTurn) (rest : List ReactorTurn) (end : ReactorTurn) (c : Cause) (told : p.seen.told ≡ Some t) (f : Facts m s ts (first ∷ rest) end c)
     (short : HaveShortDictionaries m) (own : IsOwn c) (reads : AllReadAsTold m s ts (first ∷ rest) end) (shut : NoneShut m end) where
@@ -134,10 +131,7 @@ module _ (m : Machine) (v : IsValidMachine m) (s : Scene) (ts : List MotionTurn)
         )
 
     last_of : Lasts b rest end (map (λ (x : BoardTurn). x.state) (whole m v s ts p t first rest end c told f short b low).made)
-    last_of =
-        let w = whole m v s ts p t first rest end c told f short b low in
-        let states = map (λ (x : BoardTurn). x.state) w.made in
-        lasts b rest end states (took b (rest ++ end ∷ []) states w.states)
+    last_of = search (rules, lasts, took)
 
     latest : latest_state (Turns b low) ≡ last_of.last ∷ []
     latest = latest_behind [] (whole m v s ts p t first rest end c told f short b low).made last_of.front last_of.last last_of.are

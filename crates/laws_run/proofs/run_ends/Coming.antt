@@ -1,5 +1,5 @@
 -- A cause that is so in a turn ends the run, or one before it does.
-use Rattle.std.proofs.Common.{◌≡◌, ◌⊎◌, ℕ, ◌<◌, Bool, true, false, cond, List, ◌++◌, Option, Some, None, refl, ap, sym, ◌∙◌, subst, arith, inl, inr}
+use Rattle.std.proofs.Common.{◌≡◌, ◌⊎◌, ℕ, ◌<◌, Bool, true, false, cond, List, ◌++◌, Option, Some, None, refl, ap, sym, ◌∙◌, subst, arith, inl, inr, rules}
 use Rattle.std.specs.Prelude.{◌-◌, ◌&&◌, ◌||◌, nat_lt}
 use Rattle.laws_board.proofs.Names.{leb_tells, Cause, Machine, ReadStop, axis_at, Note, State, ReportLine, Switch, Asking, listen_all, stale, HomingTurn, homing_turn, Known, Phase, Connecting, Stopping, noted, news_of, is_out, by_phase, cut_line, reacts, unless_ended, unless_stale, first_lines, first_cause, stop_of, and_from}
 use Rattle.plan_types.specs.declared.cause.Cause.TheVariants as cause
@@ -53,24 +53,10 @@ module _ (m : Machine) (switches : List Switch) (r : Known) (k : ℕ) (states : 
 
   -- the causes that come first
   behind_first : (d : Cause) → 2 < order d → (first_cause (is_out note) (noted m note r).stopped states ≡ None → Comes d End) → Comes d End
-  behind_first d high then = by_out (is_out note || any_out states) refl
-    where
-      by_late : (l : Option Cause) → (is_out note || any_out states) ≡ false → late 0 states ≡ l → Comes d End
-      by_late None e f = then (late-is-next (is_out note) (noted m note r).stopped states e none ∙ f)
-      by_late (Some c) e f =
-          let is = late-is-next (is_out note) (noted m note r).stopped states e none ∙ f in
-          ends_as d c (first-ends m switches r k states note c is) (inr (let o = late_order c (of_some IsLate (late 0 states) c f (late_is 0 states)) in omega (arith, o, high)))
-
-      by_out : (b : Bool) → (is_out note || any_out states) ≡ b → Comes d End
-      by_out true e = ends_as d cause.Memory (first-ends m switches r k states note cause.Memory (memory-is-first (is_out note) (noted m note r).stopped states e)) (inr (omega (arith, high)))
-      by_out false e = by_late (late 0 states) e refl
+  behind_first d high then = search (rules, is_out, late-is-next, noted, ends_as, first-ends, late_order, of_some, late_is, memory-is-first)
 
   late_comes : (d : Cause) → 0 < order d → late 0 states ≡ Some d → Comes d End
-  late_comes d high f = by_out (is_out note || any_out states) refl
-    where
-      by_out : (b : Bool) → (is_out note || any_out states) ≡ b → Comes d End
-      by_out true e = ends_as d cause.Memory (first-ends m switches r k states note cause.Memory (memory-is-first (is_out note) (noted m note r).stopped states e)) (inr (omega (arith, high)))
-      by_out false e = ends_as d d (first-ends m switches r k states note d (late-is-next (is_out note) (noted m note r).stopped states e none ∙ f)) (inl refl)
+  late_comes d high f = search (rules, is_out, ends_as, first-ends, memory-is-first, noted, late-is-next)
 
   -- then the phase decides
   decides : (p : Phase) → first_cause (is_out note) (noted m note r).stopped states ≡ None → (noted m note r).phase ≡ p → End ≡ (by_phase p m switches (noted m note r) k states Heard).ordered.end
@@ -83,21 +69,11 @@ module _ (m : Machine) (switches : List Switch) (r : Known) (k : ℕ) (states : 
 
   -- while running, behind a board that gives no answer
   behind_stale : (d : Cause) → 3 < order d → first_cause (is_out note) (noted m note r).stopped states ≡ None → (noted m note r).phase ≡ Running → (stale k 0 Askings ≡ None → Comes d End) → Comes d End
-  behind_stale d high f p then = by (stale k 0 Askings) refl
-    where
-      by : (o : Option Cause) → stale k 0 Askings ≡ o → Comes d End
-      by None e = then e
-      by (Some c) e = ends_as d c (stale-ends m switches r k states note c f p e) (inr (let o = stale_order c (of_some IsStale (stale k 0 Askings) c e (stale_is k 0 Askings)) in omega (arith, o, high)))
+  behind_stale d high f p then = search (rules, stale, ends_as, stale-ends, stale_order, of_some, stale_is)
 
   -- and behind homing
   behind_homing : (d : Cause) → 4 < order d → first_cause (is_out note) (noted m note r).stopped states ≡ None → (noted m note r).phase ≡ Running → stale k 0 Askings ≡ None → (Turn.end ≡ None → Comes d End) → Comes d End
-  behind_homing d high f p s then = by Turn.end refl
-    where
-      by : (o : Option Cause) → Turn.end ≡ o → Comes d End
-      by None e = then e
-      by (Some c) e =
-          ends_as d c (homing-ends m switches r k states note c f p s e)
-          (inr (let o = homing_order c (of_some IsHoming Turn.end c e (homing_is (noted m note r).clocks k states (noted m note r).homing)) in omega (arith, o, high)))
+  behind_homing d high f p s then = search (rules, ends_as, homing-ends, homing_order, of_some, homing_is, noted)
 
   -- a run that went through
   through_comes : (stop : ReadStop) (d : Cause) → 4 < order d → WentThrough (noted m note r) k states stop
@@ -129,14 +105,7 @@ module _ (m : Machine) (switches : List Switch) (r : Known) (k : ℕ) (states : 
           (inr (let o = stale_order c (of_some IsStale (stale k 0 Askings) c e (stale_is k 0 Askings)) in omega (arith, o)))
 
   comes : (d : Cause) → EndsSo m (noted m note r) k states d → Comes d End
-  comes (cause.Late board first arrival spoiled spill) h = late_comes (cause.Late board first arrival spoiled spill) (omega arith) h
-  comes (cause.Connect board turn) h =
-      behind_first (cause.Connect board turn) (omega arith) (λ f. ends_as (cause.Connect board turn) (cause.Connect board turn) (connecting-ends m switches r k states note (cause.Connect board turn) f h.0 h.1) (inl refl))
-  comes (cause.Stale board turn) h = behind_first (cause.Stale board turn) (omega arith) (λ f. stale_comes (noted m note r).phase (cause.Stale board turn) f refl h.0 h.1)
-  comes cause.Done h = through_comes read.End cause.Done (omega arith) h (λ lines askings turn. refl)
-  comes (cause.Line line kind) h = through_comes (read.Refused line kind) (cause.Line line kind) (omega arith) h (λ lines askings turn. refl)
-  comes (cause.Asked line) h = asked_comes line h.0
-  comes d h = homing_comes d h.0 h.1
+  comes d p1 = search (rules, late_comes, behind_first, ends_as, connecting-ends, stale_comes, noted, through_comes, asked_comes, homing_comes)
 
 -- a turn that goes on has no cause
 pub none_comes : (m : Machine) (switches : List Switch) (r : Known) (k : ℕ) (states : List State) (note : Option Note) → (reacts m switches r k states note).ordered.end ≡ None → (c : Cause) → EndsSo m (noted m note r) k states c → ⊥

@@ -1,5 +1,5 @@
 -- The numbers of what was read stand in the turn that ends a run.
-use Rattle.std.proofs.Common.{◌≡◌, ◌⊎◌, inl, inr, ℕ, ◌+◌, Bool, true, false, List, [], ◌∷◌, ◌++◌, length, Option, Some, None, refl, ap, sym, ◌∙◌, subst}
+use Rattle.std.proofs.Common.{◌≡◌, ◌⊎◌, inl, inr, ℕ, ◌+◌, Bool, true, false, List, [], ◌∷◌, ◌++◌, length, Option, Some, None, refl, ap, sym, ◌∙◌, subst, rules}
 use Rattle.laws_board.proofs.Names.{flat_map, flat_map-append, Cause, AxisDef, Machine, Line, Pulse, ReadStop, axis_at, Note, NoteNews, State, ReportLine, Switch, Asking, all_connected, giving_up, listen_all, ready_all, stale, HomingTurn, homing_turn, Known, Phase, Connecting, Stopping, noted, news_of, is_out, Reacted, by_phase, cut_line, reacts, unless_ended, unless_stale, first_lines, machine_line, stop_of}
 use Rattle.std.specs.Prelude.{◌==◌, ◌||◌, if◌then◌else◌}
 use Rattle.plan_types.specs.declared.cause.Cause.TheVariants as cause
@@ -119,18 +119,10 @@ either true r x y a b = a
 either false r x y a b = b
 
 connecting : (o : Option Cause) (m : Machine) (r : Known) (k : ℕ) (lines : List ReportLine) (askings : List Asking) → If IsConnect o → counts_of lines ≡ [] → Counted r (unless_given_up o m r k lines askings)
-connecting (Some c) m r k lines askings i n = fails r (ends m r k lines c) c refl (no_connect c i) n
-connecting None m r k lines askings i n =
-    let ls = board_lines m 0 askings in
-    either (all_connected askings) r (is_connected_now m r k lines askings) (asks_boards m r k lines askings) (goes_on r (is_connected_now m r k lines askings) refl (both_none lines (connected_lines k 0 ls) n (lines_none k 0 ls)))
-    (goes_on r (asks_boards m r k lines askings) refl n)
+connecting o m r k lines askings p6 p7 = search (rules, fails, no_connect, either, all_connected, goes_on, both_none, lines_none)
 
 told : (m : Machine) (r q : Known) (k : ℕ) (lines : List ReportLine) (c : Cause) → q.reading ≡ r.reading → counts_of lines ≡ [] → Counted r (ends m q k (lines ++ count_lines q.reading) c)
-told m r q k lines c same n = record {
-  on = λ f. absurd (let g : Some c ≡ None = f in cc);
-  through = λ d f g. counts_append lines (count_lines q.reading) ∙ ap (λ z. z ++ counts_of (count_lines q.reading)) n ∙ own_counts q.reading ∙ ap count_lines same;
-  any = inr (counts_append lines (count_lines q.reading) ∙ ap (λ z. z ++ counts_of (count_lines q.reading)) n ∙ own_counts q.reading ∙ ap count_lines same);
-}
+told m r q k lines c same n = search (rules, counts_append, own_counts)
 
 finishing : (s : ReadStop) (m : Machine) (r q : Known) (k : ℕ) (lines : List ReportLine) (askings : List Asking) (turn : HomingTurn) → q.reading ≡ r.reading → counts_of lines ≡ [] → Counted r (finishes s m q k lines askings turn)
 finishing (read.Stop line) m r q k lines askings turn same n = goes_on r (carries_on m q k lines askings turn (Some line)) refl n
@@ -139,11 +131,7 @@ finishing (read.Refused line kind) m r q k lines askings turn same n = told m r 
 
 homing : (o : Option Cause) (m : Machine) (r q : Known) (k : ℕ) (states : List State) (lines cut : List ReportLine) (askings : List Asking) (turn : HomingTurn) → If IsHoming o → q.reading ≡ r.reading → counts_of lines ≡ [] → counts_of cut ≡ []
     → Counted r (unless_homing_ends o m q k states lines cut askings turn)
-homing (Some c) m r q k states lines cut askings turn i same n d = fails r (ends m q k lines c) c refl (no_homing c i) n
-homing None m r q k states lines cut askings turn i same n d =
-    let all = both_none lines cut n d in
-    either (is_finished q k states) r (finishes (stop_of q.reading) m q k (lines ++ cut) askings turn) (carries_on m q k (lines ++ cut) askings turn None) (finishing (stop_of q.reading) m r q k (lines ++ cut) askings turn same all)
-    (goes_on r (carries_on m q k (lines ++ cut) askings turn None) refl all)
+homing o m r q k states lines cut askings turn p10 p11 p12 p13 = search (rules, fails, no_homing, both_none, either, stop_of, finishing, goes_on)
 
 running : (o : Option Cause) (m : Machine) (switches : List Switch) (r : Known) (k : ℕ) (states : List State) (lines : List ReportLine) (askings : List Asking) → If IsStale o → counts_of lines ≡ [] → Counted r (unless_stale o m switches r k states lines askings)
 running (Some c) m switches r k states lines askings i n = fails r (ends m r k lines c) c refl (no_stale c i) n
@@ -162,10 +150,7 @@ phases (Stopping line) m switches r k states lines n = let askings = listen_all 
 
 first : (b : Bool) (stopped l : Option Cause) (m : Machine) (switches : List Switch) (r : Known) (k : ℕ) (states : List State) (lines : List ReportLine) → stopped ≡ None → If IsLate l → counts_of lines ≡ []
     → Counted r (unless_ended (if b then Some cause.Memory else or_cause stopped l) m switches r k states lines)
-first true stopped l m switches r k states lines e i n = fails r (ends m r k lines cause.Memory) cause.Memory refl (λ g. g) n
-first false (Some d) l m switches r k states lines e i n = absurd (let f : Some d ≡ None = e in cc)
-first false None (Some d) m switches r k states lines e i n = fails r (ends m r k lines d) d refl (no_late d i) n
-first false None None m switches r k states lines e i n = phases r.phase m switches r k states lines n
+first b stopped l m switches r k states lines p9 p10 p11 = search (rules, fails, no_late, phases)
 
 pub counted : (m : Machine) (switches : List Switch) (r : Known) (k : ℕ) (states : List State) (note : Option Note) → r.stopped ≡ None → Counted (noted m note r) (reacts m switches r k states note)
 counted m switches r k states note e =

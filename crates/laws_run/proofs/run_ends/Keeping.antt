@@ -1,5 +1,5 @@
 -- What a turn of the reactor leaves of what the notes told.
-use Rattle.std.proofs.Common.{◌≡◌, ◌⊎◌, ℕ, Bool, true, false, List, ◌++◌, Option, Some, None, refl, inl, inr}
+use Rattle.std.proofs.Common.{◌≡◌, ◌⊎◌, ℕ, Bool, true, false, List, ◌++◌, Option, Some, None, refl, inl, inr, rules}
 use Rattle.std.specs.Prelude.{if◌then◌else◌}
 use Rattle.laws_board.proofs.Names.{Cause, Machine, ReadStop, axis_at, Note, State, ReportLine, Switch, Asking, all_connected, giving_up, listen_all, ready_all, stale, HomingTurn, homing_turn, Known, Phase, Connecting, Stopping, noted, news_of, is_out, Reacted, by_phase, cut_line, reacts, unless_ended, unless_stale, first_lines, first_cause, stop_of}
 use Rattle.plan_types.specs.declared.plan.ReadStop.TheVariants as read
@@ -27,18 +27,10 @@ finishing (read.Stop line) m r k lines askings turn = record { done = refl; read
 finishing c m r k lines askings turn = record { done = refl; reading = refl; ended = inl refl }
 
 homing : (o : Option Cause) (m : Machine) (r : Known) (k : ℕ) (states : List State) (lines cut : List ReportLine) (askings : List Asking) (turn : HomingTurn) → Keeps r k (unless_homing_ends o m r k states lines cut askings turn)
-homing (Some c) m r k states lines cut askings turn = record { done = refl; reading = refl; ended = inl refl }
-homing None m r k states lines cut askings turn =
-    either (is_finished r k states) r k (finishes (stop_of r.reading) m r k (lines ++ cut) askings turn) (carries_on m r k (lines ++ cut) askings turn None) (finishing (stop_of r.reading) m r k (lines ++ cut) askings turn)
-    (record { done = refl; reading = refl; ended = inl refl })
+homing o m r k states lines cut askings turn = search (rules, either, stop_of, finishing)
 
 running : (o : Option Cause) (m : Machine) (switches : List Switch) (r : Known) (k : ℕ) (states : List State) (lines : List ReportLine) (askings : List Asking) → Keeps r k (unless_stale o m switches r k states lines askings)
-running (Some c) m switches r k states lines askings = record { done = refl; reading = refl; ended = inl refl }
-running None m switches r k states lines askings =
-    let turn = homing_turn r.clocks k states r.homing in
-    let s = after_homing r k states in
-    let h = homing turn.end m s k states lines (cut_line m switches turn.section (axis_at m turn.axis) turn.cut) askings turn in
-    record { done = h.done; reading = h.reading; ended = h.ended }
+running o m switches r k states lines askings = search (rules, homing_turn, homing, cut_line, axis_at)
 
 stopping : (o : Option Cause) (m : Machine) (r : Known) (k : ℕ) (lines : List ReportLine) (line : ℕ) → Keeps r k (unless_late_stale o m r k lines line)
 stopping (Some c) m r k lines line = record { done = refl; reading = refl; ended = inl refl }

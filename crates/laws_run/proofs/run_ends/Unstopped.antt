@@ -1,5 +1,5 @@
 -- Until the reactor stops, no board is told to.
-use Rattle.std.proofs.Common.{◌≡◌, ◌⊎◌, ℕ, Bool, true, false, cond, List, [], ◌∷◌, ◌++◌, All, drop, length, map, Option, Some, None, refl, sym, ◌∙◌, subst, inl, inr}
+use Rattle.std.proofs.Common.{◌≡◌, ◌⊎◌, ℕ, Bool, true, false, cond, List, [], ◌∷◌, ◌++◌, All, drop, length, map, Option, Some, None, refl, sym, ◌∙◌, subst, inl, inr, rules}
 use Rattle.laws_board.proofs.Names.{All-cons, All-nil, Level, Machine, Clocks, board_at, Cmd, State, Control, Entry, Switch, orders, Orders, Asking, Stage, Identify, Uptime, Configure, Config, Connected, Setup, is_question_due, ready, asks_now, drifts, waits_in, configuration, Homing, homing_turn, Known, Phase, Connecting, Stopping, noted, Reacted, stop_command, stops, Came, known_by, last_reacted}
 use Rattle.msg_code.specs.declared.cmd.Cmd.TheVariants as cmd
 use Rattle.board_asking.specs.declared.setup.Setup.TheVariants.{Oids, Stepper, Trsync, Endstop, Finish}
@@ -52,16 +52,7 @@ runs_none m k b clocks states own a None None e n = asked (asks_now [] a)
     asked false = tt
 
 turn_none : (m : Machine) (b k : ℕ) (c : Came) (r : Known) (a : Asking) (x : Reacted) (t : BoardTurn) → BoardTurned m r b k c.states a x t.control → r.homing ≡ None → ((line : ℕ) → x.known.phase ≡ Stopping line → ⊥) → NoStops t.control.commands
-turn_none m b k c r a x t (Asks p g) h n =
-    let Of : Control → Type 0 = λ y. NoStops y.commands in
-    let s = ready (configuration m b) a in
-    subst Of (sym g.control_is) (asks_none k (configuration m b) s s.stage)
-turn_none m b k c r a x t (Ends p g) h n =
-    let Of : Control → Type 0 = λ y. NoStops y.commands in
-    subst Of (sym g.control_is) tt
-turn_none m b k c r a x t (Runs p g) h n =
-    let Of : Control → Type 0 = λ y. NoStops y.commands in
-    subst Of (sym g.control_is) (runs_none m k b r.clocks c.states g.own (waits_in (drifts (board_at m b).drift) k a) r.homing g.stop h (λ line e. n line (g.phase ∙ e)))
+turn_none m b k c r a x t p8 p9 p10 = search (rules, ready, configuration, asks_none, runs_none, waits_in, drifts, board_at)
 
 -- a turn that goes on finds the reactor not stopping
 pub not_yet : (p : Phase) (line : ℕ) → (p ≡ Connecting) ⊎ (p ≡ Running) → p ≡ Stopping line → ⊥
@@ -69,12 +60,7 @@ not_yet p line (inl c) f = let g : Connecting ≡ Stopping line = sym c ∙ f in
 not_yet p line (inr c) f = let g : Running ≡ Stopping line = sym c ∙ f in cc
 
 pub not_before : (m : Machine) (switches : List Switch) (c : Came) (before : List Came) → (last_reacted m switches c before).ordered.end ≡ None → (line : ℕ) → (known_by m switches before).phase ≡ Stopping line → ⊥
-not_before m switches c before e line f =
-    let r = known_by m switches before in
-    not_yet (noted m c.note r).phase line (elim (goes m switches r (length before) c.states c.note e) [
-      | inl a ↦ inl a.phase
-      | inr a ↦ elim a [ inl x ↦ inl x.phase | inr x ↦ inr x.phase ]
-    ]) (noted_phase m c.note r ∙ f)
+not_before m switches c before e line f = search (rules, known_by, not_yet, noted, goes, noted_phase)
 
 pub none_later : (xs : List Orders) (o : Orders) → NeverStop xs → All IsNoStop o.control.commands → NeverStop (xs ++ o ∷ [])
 none_later [] o n a = (a, tt)

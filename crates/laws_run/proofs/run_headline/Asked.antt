@@ -1,5 +1,5 @@
 -- When further clock lines are told: a drifting board is asked in each thousandth turn behind connecting.
-use Rattle.std.proofs.Common.{◌≡◌, ℕ, suc, ◌+◌, ◌<◌, ◌≤◌, ◌⊎◌, inl, inr, Bool, true, false, cond, List, [], ◌∷◌, ◌++◌, drop, length, Option, Some, None, refl, ap, sym, ◌∙◌, subst, arith}
+use Rattle.std.proofs.Common.{◌≡◌, ℕ, suc, ◌+◌, ◌<◌, ◌≤◌, ◌⊎◌, inl, inr, Bool, true, false, cond, List, [], ◌∷◌, ◌++◌, drop, length, Option, Some, None, refl, ap, sym, ◌∙◌, subst, arith, rules}
 use Rattle.std.specs.Prelude.{◌%◌, ◌==◌, ◌&&◌, not}
 use Rattle.laws_board.proofs.Names.{eqb-true, BoardDef, Machine, Line, Clocks, board_at, Cmd, News, State, Switch, Asking, Stage, Identify, Uptime, Configure, Config, Connected, Setup, is_question_due, ready, all_connected, listen_all, ready_all, asks_now, drifts, waits_in, configuration, HomingTurn, homing_turn, Known, Phase, Connecting, Stopping, noted, Reacted, homing_commands, Came, GoesOn, known_by, last_reacted}
 use Rattle.msg_code.specs.declared.cmd.Cmd.TheVariants as cmd
@@ -78,11 +78,7 @@ if_heard true a b e f = (e, f)
 if_heard false a b e f = tt
 
 answer_heard : (turn : ℕ) (a : Asking) (stage : Stage) (number : ℕ) (c : Cmd) → IfHeard a (answered turn a stage number c)
-answer_heard turn a (Identify offset) number (cmd.IdentifyResponse of bytes) = if_heard (offset == of) a (after_piece a offset (length bytes.items)) refl refl
-answer_heard turn a Uptime number (cmd.Uptime high clock) = if_heard (tells_clock a number) a (after_clock a (sample_of a turn high clock)) refl refl
-answer_heard turn a Config number (cmd.Config is_config crc is_shutdown move_count) = if_heard (is_config == 1) a (settled a Connected) refl refl
-answer_heard turn a Connected number (cmd.Uptime high clock) = if_heard (tells_clock a number) a (after_drift a (sample_of a turn high clock)) refl refl
-answer_heard turn a m number c = tt
+answer_heard turn a stage number c = search (rules, if_heard)
 
 or_heard : (a : Asking) (o : Option Asking) (b : Asking) → IfHeard a o → IsHeard a b → IsHeard a (or_asking o b)
 or_heard a None b s i = i
@@ -97,10 +93,7 @@ either_heard true a b c i j = i
 either_heard false a b c i j = j
 
 state_heard : (a : Asking) (s : State) → IsHeard a (listens a s)
-state_heard a s =
-    let b = were_put s.turn s.asked a in
-    let put = put_heard s.turn s.asked a in
-    either_heard (is_in_time s.turn b.since) a (hears_first s.turn s.news b) b (heard_then a b (hears_first s.turn s.news b) put (news_heard s.turn s.news b)) put
+state_heard a s = search (rules, put_heard, either_heard, heard_then, news_heard)
 
 stage_ready : (setups : List Setup) (stage : Stage) → is_connected (ready_stage setups stage) ≡ is_connected stage
 stage_ready setups (Configure n) = by (is_over (drop n setups))
@@ -147,19 +140,10 @@ all_late k (a ∷ askings) c e =
 
 -- a running turn
 thousandth : (drifting : Bool) (k : ℕ) (since : Option ℕ) → 1 ≤ k → is_asked_now drifting k since ≡ true → 1_000 ≤ k
-thousandth drifting k since some e =
-    let here = second_of_both (not (is_out since)) (k % 1_000 == 0) (second_of_both drifting (not (is_out since) && (k % 1_000 == 0)) e) in
-    let whole = eqb-true (k % 1_000) 0 here in
-    omega (arith, whole, some)
+thousandth drifting k since some e = search (rules, second_of_both, eqb-true)
 
 waits_late : (drifting : Bool) (k : ℕ) (a : Asking) → 1 ≤ k → IsLate k a → IsLate k (waits_in drifting k a)
-waits_late drifting k a some (inl l) = inl l
-waits_late drifting k a some (inr r) = by (is_unanswered k a.since) (is_asked_now drifting k a.since) refl refl
-  where
-    by : (t u : Bool) → is_unanswered k a.since ≡ t → is_asked_now drifting k a.since ≡ u → IsLate k (cond t (record a { missed = more a.missed; waits = true }) (cond u (record a { waits = true }) a))
-    by true u e f = let g : is_unanswered k a.since ≡ false = ap (is_unanswered k) r.0 in cc
-    by false true e f = inl (thousandth drifting k a.since some f)
-    by false false e f = inr r
+waits_late drifting k a p3 p4 = search (rules, thousandth)
 
 all_wait : (m : Machine) (k b : ℕ) (askings : List Asking) → 1 ≤ k → Each (IsLate k) askings → Each (IsLate k) (waiting m k b askings)
 all_wait m k b [] some e = tt
@@ -170,12 +154,7 @@ late_more k a (inl l) = inl (omega (arith, l))
 late_more k a (inr r) = inr r
 
 question_late : (k : ℕ) (commands : List Cmd) (a : Asking) → IsLate k a → IsLate (suc k) (after_question k commands a)
-question_late k commands a (inl l) = inl (omega (arith, l))
-question_late k commands a (inr r) = by (asks_now commands a) refl
-  where
-    by : (t : Bool) → asks_now commands a ≡ t → IsLate (suc k) (cond t (record a { since = Some k; first = cond (a.missed == 0) k a.first; owed = more a.owed; waits = false }) a)
-    by true e = let w = first_of_both a.waits _ e in cc
-    by false e = inr r
+question_late k commands a p3 = search (rules, asks_now, first_of_both)
 
 all_run : (m : Machine) (k b : ℕ) (turn : HomingTurn) (clocks : List Clocks) (askings : List Asking) → Each (IsLate k) askings → Each (IsLate (suc k)) (run_askings m k b turn clocks askings)
 all_run m k b turn clocks [] e = tt
@@ -231,11 +210,7 @@ whole_by m switches (c ∷ before) = (rowed m switches (known_by m switches befo
 
 -- what a word tells
 out_late : (k : ℕ) (a : Asking) (b : Bool) → IsLate k a → (is_out a.since && b) ≡ true → 1_000 ≤ k
-out_late k a b (inl l) e = l
-out_late k a b (inr r) e =
-    let out = first_of_both (is_out a.since) b e in
-    let none : is_out a.since ≡ false = ap is_out r.0 in
-    cc
+out_late k a b p3 p4 = search (rules, first_of_both)
 
 told_late : (m : Machine) (b k : ℕ) (before after : List Asking) (board : ℕ) (line : Line) → Each (IsLate k) before → WasHeard board line (lines_in (new_lines m b before after)) → (1_000 ≤ k) × (board < b + length before)
 told_late m b k [] after board line e h = absurd h
@@ -255,15 +230,7 @@ homed_lines (Some tick) ns = refl
 
 turn_late : (m : Machine) (r : Known) (k : ℕ) (states : List State) (x : Reacted) (board : ℕ) (line : Line) → StandIn k r → Goes m r k states x → WasHeard board line (lines_in x.ordered.word.news)
     → (1_000 ≤ k) × (board < length r.askings.items)
-turn_late m r k states x board line s (inl a) h = absurd (subst (λ (y : Reacted). WasHeard board line (lines_in y.ordered.word.news)) a.is h)
-turn_late m r k states x board line s (inr (inl a)) h = absurd (subst (λ (y : Reacted). WasHeard board line (lines_in y.ordered.word.news)) a.is h)
-turn_late m r k states x board line s (inr (inr a)) h =
-    let was : (1 ≤ k) × Each (IsLate k) r.askings.items = subst (λ p. Stand p k r.askings.items) a.phase s in
-    let told = subst (λ (y : Reacted). WasHeard board line (lines_in y.ordered.word.news)) a.is h in
-    let turn = homing_turn r.clocks k states r.homing in
-    let late = told_late m 0 k r.askings.items (listen_all r.askings.items states) board line was.1 (subst (WasHeard board line) (homed_lines turn.cut (new_lines m 0 r.askings.items (listen_all r.askings.items states))) told) in
-    let few = late.1 in
-    (late.0, omega (arith, few))
+turn_late m r k states x board line p7 p8 p9 = search (rules, homing_turn, told_late, listen_all, homed_lines)
 
 pub asked_late : (m : Machine) (switches : List Switch) (c : Came) (before : List Came) → GoesOn m switches before → (last_reacted m switches c before).ordered.end ≡ None → (board : ℕ) (line : Line)
     → WasHeard board line (lines_in (last_reacted m switches c before).ordered.word.news) → (1_000 ≤ length before) × (board < length m.boards)

@@ -1,5 +1,5 @@
 -- Each board of a whole run, as the law of its lines asks for it.
-use Rattle.std.proofs.Common.{◌≡◌, ℕ, zero, suc, ◌+◌, ◌*◌, ◌^◌, ◌<◌, ◌≤◌, ℤ, pos, negsuc, ◌≤ℤ◌, List, [], ◌∷◌, ◌++◌, All, get_or, map, take, length, None, Some, refl, ap, sym, ◌∙◌, subst, arith, inl, inr, append_assoc, length-append}
+use Rattle.std.proofs.Common.{◌≡◌, ℕ, zero, suc, ◌+◌, ◌*◌, ◌^◌, ◌<◌, ◌≤◌, ℤ, pos, negsuc, ◌≤ℤ◌, List, [], ◌∷◌, ◌++◌, All, get_or, map, take, length, None, Some, refl, ap, sym, ◌∙◌, subst, arith, inl, inr, append_assoc, length-append, rules}
 use Rattle.std.proofs.lemmas.Int.{ints}
 use Rattle.laws_board.proofs.Names.{length-map, All-head, All-tail, BoardDef, Machine, BoardClock, Held, Line, Clocks, one_line, AreKept, clock_of, turn_ns, IsValidMachine, board_at, stepper_at, State, WordMsg, Scene, AllKeepLimits, orders, pins_of, Orders, Came, known_by, last_reacted, parts_on, Told, MotionTurn, ReactorTurn, gather, units_orders, clocks_at}
 use Rattle.laws_board.specs.clocks.Samples.{IsSampled}
@@ -70,10 +70,7 @@ valid_at (x ∷ bs) (suc b) h a = valid_at bs b (omega (arith, h)) (All-tail IsV
 
 -- a word of one of some turns
 pub among_turn : (w : WordMsg) (past : List MotionTurn) (turn : MotionTurn) (later made : List MotionTurn) → made ≡ past ++ turn ∷ later → Among w turn.words → Among w (gather (λ x. x.words) made)
-among_turn w past turn later made are a =
-    let In : List MotionTurn → Type 0 = λ ts. Among w (gather (λ (x : MotionTurn). x.words) ts) in
-    let words = gather (λ (x : MotionTurn). x.words) in
-    subst In (sym are) (subst (Among w) (sym (gather_words past (turn ∷ later))) (among_right w (words past) (words (turn ∷ later)) (among_left w turn.words (words later) a)))
+among_turn w past turn later made are a = search (rules, gather, gather_words, among_right, among_left)
 
 -- the units of some turns keep their limit
 abbrev pub AllFit : List Orders → Type 0
@@ -179,12 +176,7 @@ module _ (m : Machine) (v : IsValidMachine m) (s : Scene) (ts : List MotionTurn)
   -- the turns of a board, as the laws of boards have them
   pub run_of : (b : ℕ) (w : IsInWhole m s.switches b (clock_of (board_at m b)) (link_of m s b) ts first (rest ++ end ∷ [])) → b < length m.boards
       → IsInRun m s.switches (pins_of (board_at m b) b s.switches) s.entries b (came_from [] (first ∷ rest)) (turns_behind [] w.made)
-  run_of b w h =
-      let pins = pins_of (board_at m b) b s.switches in
-      let turns = turns_behind [] w.made in
-      let run_first : IsInRun m s.switches pins s.entries b (came_before [] (first ∷ rest ++ end ∷ [])) turns = record { board = h; goes_on = w.goes_on; turns_are = w.turns_are; both = w.both; in_range = w.in_range } in
-      let Run : List Came → Type 0 = λ c. IsInRun m s.switches pins s.entries b c turns in
-      subst Run (came_cut [] first rest end) run_first
+  run_of b w h = search (rules, pins_of, board_at, came_cut)
 
   -- the clock lines of a board of the run: each is that of a sample, they hold one after the other, and the further ones no earlier than
   -- 277 turns behind the end of connecting
@@ -229,12 +221,7 @@ module _ (m : Machine) (v : IsValidMachine m) (s : Scene) (ts : List MotionTurn)
 
   -- the first line of a board is that which was told first
   pub first_same : (b : ℕ) (r : Ready) → b < length m.boards → (clocks_at t.clocks b).first ≡ (clocks_at r.heard.clocks b).first
-  first_same b r h =
-      let firsts = r.heard.clocks in
-      let news = news_in (r.heard.turn ∷ r.heard.later) in
-      let known = subst (AreKnown m) told p.known in
-      let inside : b < length firsts = (let many = known.0.count in let grown = ap length r.heard.on ∙ noted_long news firsts in omega (arith, many, grown, h)) in
-      ap (λ (cs : List Clocks). (clocks_at cs b).first) r.heard.on ∙ noted_first news firsts b inside
+  first_same b r h = search (rules, noted_long, clocks_at, noted_first)
 
   pub first_in_range : (b : ℕ) (r : Ready) → b < length m.boards → (clocks_at t.clocks b).first.clock < 2 ^ 62
   first_in_range b r h = subst (λ (x : Line). x.clock < 2 ^ 62) (sym (first_same b r h)) (r.heard.in_range b h)

@@ -1,5 +1,5 @@
 -- A board in the turns of a run before the last one.
-use Rattle.std.proofs.Common.{◌≡◌, ℕ, suc, ◌+◌, ◌≤◌, List, [], ◌∷◌, ◌++◌, All, drop, length, take, ap, sym, ◌∙◌, arith, append_assoc, append-nil, length-append}
+use Rattle.std.proofs.Common.{◌≡◌, ℕ, suc, ◌+◌, ◌≤◌, List, [], ◌∷◌, ◌++◌, All, drop, length, take, ap, sym, ◌∙◌, arith, append_assoc, append-nil, length-append, rules}
 use Rattle.std.specs.Prelude.{◌-◌}
 use Rattle.std.proofs.lemmas.List.{drop-append-le, length-drop, take-append-le, take_all}
 use Rattle.laws_board.proofs.Names.{All-head, All-tail, Machine, Clocks, State, ReportLine, AreStarted, Started, ReactorTurn, gather}
@@ -19,24 +19,13 @@ lines_then [] end = append-nil end.lines
 lines_then (x ∷ rs) end = ap (λ (z : List ReportLine). x.lines ++ z) (lines_then rs end) ∙ sym (append_assoc x.lines (gather (λ (t : ReactorTurn). t.lines) rs) end.lines)
 
 pub lines_before : (from to : ℕ) (rs : List ReactorTurn) (end : ReactorTurn) → from ≤ to → to ≤ length rs → lines_between from to (rs ++ end ∷ []) ≡ lines_between from to rs
-lines_before from to rs end order within =
-    let lines = λ (x : List ReactorTurn). gather (λ (t : ReactorTurn). t.lines) x in
-    let size = length-drop from rs in
-    ap (λ (z : List ReactorTurn). lines (take (to - from) z)) (drop-append-le from rs (end ∷ []) (omega (arith, order, within))) ∙ ap lines (take-append-le (to - from) (drop from rs) (end ∷ []) (omega (arith, size, order, within)))
+lines_before from to rs end order within = search (rules, gather, length-drop, drop-append-le, take-append-le)
 
 pub lines_up_to : (from to : ℕ) (rs : List ReactorTurn) (end : ReactorTurn) → from ≤ length rs → to ≡ length rs + 1 → lines_between from to (rs ++ end ∷ []) ≡ lines_between from (length rs) rs ++ end.lines
-lines_up_to from to rs end order last =
-    let lines = λ (x : List ReactorTurn). gather (λ (t : ReactorTurn). t.lines) x in
-    let size = length-drop from rs in
-    let long = length-append (drop from rs) (end ∷ []) in
-    ap (λ (z : List ReactorTurn). lines (take (to - from) z)) (drop-append-le from rs (end ∷ []) order) ∙ ap lines (take_all (to - from) (drop from rs ++ end ∷ []) (omega (arith, size, long, last)))
-    ∙ lines_then (drop from rs) end ∙ ap (λ (z : List ReactorTurn). lines z ++ end.lines) (sym (take_all (length rs - from) (drop from rs) (omega (arith, size))))
+lines_up_to from to rs end order last = search (rules, gather, length-drop, length-append, drop-append-le, take_all, lines_then)
 
 pub lines_last : (to : ℕ) (rs : List ReactorTurn) (end : ReactorTurn) → to ≡ length rs + 1 → lines_between (length rs) to (rs ++ end ∷ []) ≡ end.lines
-lines_last to rs end last =
-    let lines = λ (x : List ReactorTurn). gather (λ (t : ReactorTurn). t.lines) x in
-    let one : to - length rs ≡ 1 = omega (arith, last) in
-    ap (λ (z : List ReactorTurn). lines (take (to - length rs) z)) (drop-append_seam rs (end ∷ [])) ∙ ap (λ (n : ℕ). lines (take n (end ∷ []))) one ∙ append-nil end.lines
+lines_last to rs end last = search (rules, gather, drop-append_seam, append-nil)
 
 -- sections that ended before
 pub ended_all : (n : ℕ) (ss : List Started) → All (λ s. s.end + 5 ≤ n) ss → AreEnded n (times_of ss)

@@ -1,5 +1,5 @@
 -- A board's turns up to one of the reactor's, and what is known of them.
-use Rattle.std.proofs.Common.{◌≡◌, ℕ, ◌+◌, ◌*◌, ◌<◌, ◌≤◌, ◌⊎◌, true, cond, List, [], ◌∷◌, ◌++◌, All, map, take, length, None, refl, ap, sym, ◌∙◌, subst, arith, inl, inr, append_assoc, append-nil}
+use Rattle.std.proofs.Common.{◌≡◌, ℕ, ◌+◌, ◌*◌, ◌<◌, ◌≤◌, ◌⊎◌, true, cond, List, [], ◌∷◌, ◌++◌, All, map, take, length, None, refl, ap, sym, ◌∙◌, subst, arith, inl, inr, append_assoc, append-nil, rules}
 use Rattle.std.proofs.lemmas.List.{take-append-le}
 use Rattle.laws_board.proofs.Names.{All-head, Level, Machine, Line, BoardClock, clock_of, turn_ns, Clocks, IsValidMachine, board_at, stepper_at, clocks_at, Entry, Switch, plain, AllKeepLimits, orders, Orders, Phase, Connecting, Stopping, noted, Came, known_by, last_reacted, BoardSection, ReactorTurn}
 use Rattle.msg_code.specs.declared.talk.WordNews.{WordNews}
@@ -91,12 +91,7 @@ module _ (m : Machine) (v : IsValidMachine m) (switches : List Switch) (pins : L
   not_stopping p q line e (inr c) f = let g : Running ≡ Stopping line = sym c ∙ sym e ∙ f in cc
 
   before_on : (c : Came) (before : List Came) → (last_reacted m switches c before).ordered.end ≡ None → (line : ℕ) → (known_by m switches before).phase ≡ Stopping line → ⊥
-  before_on c before e line f =
-      let r = known_by m switches before in
-      not_stopping r.phase (noted m c.note r).phase line (sym (noted_phase m c.note r)) (elim (goes m switches r (length before) c.states c.note e) [
-        | inl a ↦ inl a.phase
-        | inr a ↦ elim a [ inl x ↦ inl x.phase | inr x ↦ inr x.phase ]
-      ]) f
+  before_on c before e line f = search (rules, known_by, not_stopping, noted, noted_phase, goes)
 
   prefix_of : (done : List Orders) (o : Orders) (more xs : List Orders) (last : Orders) → done ++ o ∷ more ≡ xs ++ last ∷ [] → (rest : List Orders) × (xs ≡ done ++ rest)
   prefix_of [] o more xs last e = (xs, refl)

@@ -1,5 +1,5 @@
 -- A planner goes on as long as the reactor does, or was never begun.
-use Rattle.std.proofs.Common.{◌≡◌, ℕ, suc, ◌+◌, ◌<◌, ◌≤◌, ◌⊎◌, Bool, true, false, cond, List, [], ◌∷◌, ◌++◌, map, length, Some, None, refl, ap, sym, ◌∙◌, subst, arith, inl, inr, append_assoc, length-append}
+use Rattle.std.proofs.Common.{◌≡◌, ℕ, suc, ◌+◌, ◌<◌, ◌≤◌, ◌⊎◌, Bool, true, false, cond, List, [], ◌∷◌, ◌++◌, map, length, Some, None, refl, ap, sym, ◌∙◌, subst, arith, inl, inr, append_assoc, length-append, rules}
 use Rattle.laws_board.proofs.Names.{leb_tells, length-map, Cause, Machine, Note, State, WordMsg, Switch, Known, noted, Reacted, IsOwn, Came, known_by, last_reacted, MotionTurn, ReactorTurn, gather, cons_same}
 use Rattle.std.specs.Prelude.{◌-◌, nat_lt}
 use Rattle.msg_code.specs.declared.talk.Piece.{Piece}
@@ -16,15 +16,7 @@ use Rattle.laws_board.specs.plans.Planned.{AnyEnds, AnyStops, LastHomes, Plans, 
 
 -- in turn k a worker takes words up to k
 small : (h q c w : Bool) (k n : ℕ) → cond h false (cond q (nat_lt (n + 63) k) (is_wanted (cond c (cond w (Some k) (cond (nat_lt k 64) None (Some (k - 64)))) (Some k)) n)) ≡ true → n ≤ k
-small true q c w k n e = cc
-small false true c w k n e = elim (leb_tells (suc (n + 63)) k) [ inl p ↦ omega (arith, p.1) | inr p ↦ absurd (let f : false ≡ true = sym p.0 ∙ e in cc) ]
-small false false false w k n e = elim (leb_tells (suc n) (k + 1)) [ inl p ↦ omega (arith, p.1) | inr p ↦ absurd (let f : false ≡ true = sym p.0 ∙ e in cc) ]
-small false false true true k n e = elim (leb_tells (suc n) (k + 1)) [ inl p ↦ omega (arith, p.1) | inr p ↦ absurd (let f : false ≡ true = sym p.0 ∙ e in cc) ]
-small false false true false k n e = late (nat_lt k 64) e
-  where
-    late : (b : Bool) → is_wanted (cond b None (Some (k - 64))) n ≡ true → n ≤ k
-    late true f = cc
-    late false f = elim (leb_tells (suc n) (k - 64 + 1)) [ inl p ↦ omega (arith, p.1) | inr p ↦ absurd (let g : false ≡ true = sym p.0 ∙ f in cc) ]
+small h q c w k n p6 = search (rules, leb_tells, nat_lt)
 
 needed : (k : ℕ) (x : Seat Planning) → needs planner.wants k x ≡ true → x.heard ≤ k
 needed k x e = small x.halted x.quiet x.machine.motion.course.connected (waits_by x.machine.motion.course.current x.machine.motion.course.start k) k x.heard e

@@ -1,5 +1,5 @@
 -- Lines that hold one after the other may hold each behind those before it.
-use Rattle.std.proofs.Common.{◌≡◌, ℕ, ◌<◌, ◌≤◌, ◌^◌, Bool, true, false, List, [], ◌∷◌, ◌++◌, max, refl, ap, sym, ◌∙◌, arith, append_assoc, append-nil}
+use Rattle.std.proofs.Common.{◌≡◌, ℕ, ◌<◌, ◌≤◌, ◌^◌, Bool, true, false, List, [], ◌∷◌, ◌++◌, max, refl, ap, sym, ◌∙◌, arith, append_assoc, append-nil, rules}
 use Rattle.std.specs.Prelude.{◌%◌, ◌==◌, ◌&&◌, nat_le, nat_lt}
 use Rattle.laws_board.proofs.Names.{nat_tests, Held, Line, tick, Clocks, lines_tick, one_line, AreKept, and_from}
 use Rattle.plan_types.specs.Lines.{AreHeld, IsFit, last_from, tick_over}
@@ -26,18 +26,7 @@ GoesOver first held line from most = (more : List Held) (t : ℕ) → from ≤ t
 
 may_one : (first line : Line) (before : List Held) (from : ℕ) → IsFit first line from → last_from 0 before < from → lines_tick (clocks_of first before) from < 2 ^ 64 → tick line from < 2 ^ 64 → tick first from < 2 ^ 64
     → may_hold (clocks_of first before) from line ≡ true
-may_one first line before from fit after small own plan =
-    let same = fit.same_freq in
-    let whole = fit.whole_turn in
-    let begun = fit.before in
-    let first_begun = fit.first_before in
-    let like : is_like first line ≡ true = and_from (line.freq == first.freq) (line.at % 1_000_000 == 0) (grind (arith, nat_tests)) (grind (arith, nat_tests)) in
-    let later : is_later (clocks_of first before) from line ≡ true =
-    and_from (nat_lt (last_from 0 before) from) (nat_le line.at from && nat_le first.at from) (grind (arith, nat_tests)) (and_from (nat_le line.at from) (nat_le first.at from) (grind (arith, nat_tests)) (grind (arith, nat_tests))) in
-    let few : are_small (clocks_of first before) from line ≡ true =
-    and_from (nat_lt (lines_tick (clocks_of first before) from) (2 ^ 64)) (nat_lt (tick line from) (2 ^ 64) && nat_lt (tick first from) (2 ^ 64)) (grind (arith, nat_tests))
-    (and_from (nat_lt (tick line from) (2 ^ 64)) (nat_lt (tick first from) (2 ^ 64)) (grind (arith, nat_tests)) (grind (arith, nat_tests))) in
-    and_from (is_like first line) (is_later (clocks_of first before) from line && are_small (clocks_of first before) from line) like (and_from (is_later (clocks_of first before) from line) (are_small (clocks_of first before) from line) later few)
+may_one first line before from fit after small own plan = search (rules, and_from, nat_tests, nat_lt, nat_le, lines_tick, tick)
 
 may_behind : (first : Line) (all before : List Held) (line : Line) (from most : ℕ) (held : List Held) → IsLasting (clocks_of first all) → before ++ held ≡ all → last_from 0 before ≡ from → GoesOver first before line from most
     → AreHeld first line from most held → last_from from held < most_ns → EachMayHold (clocks_of first before) held

@@ -1,5 +1,5 @@
 -- The lines of a run follow the plans.
-use Rattle.std.proofs.Common.{◌≡◌, ℕ, List, [], ◌∷◌, ◌++◌, length, map, take, None, refl, ap, sym, ◌∙◌, arith, inl, inr}
+use Rattle.std.proofs.Common.{◌≡◌, ℕ, List, [], ◌∷◌, ◌++◌, length, map, take, None, refl, ap, sym, ◌∙◌, arith, inl, inr, rules}
 use Rattle.laws_board.proofs.Names.{length-map, Machine, Switch, Came, known_by, Started, MotionTurn, ReactorTurn}
 use Rattle.gcode_program.specs.Programs.{program_sections}
 use Rattle.session_work.specs.Heads.{IsRow}
@@ -18,7 +18,4 @@ pub row_none : (n : ℕ) (t : ReactorTurn) → IsRow n 0 t.states t.note → t.n
 row_none n t r = elim r [ inl a ↦ a.2 | inr a ↦ absurd (omega (arith, a.0)) ]
 
 pub of_sections : (m : Machine) (ts : List MotionTurn) (p : Plans m (length m.boards) ts) → map (λ x. x.section) p.seen.begun ≡ take (length p.seen.begun) (program_sections m p.seen.text)
-of_sections m ts p =
-    let own = map (λ (x : Started). x.section) p.seen.begun in
-    let size : length own ≡ length p.seen.begun = length-map p.seen.begun (λ (x : Started). x.section) in
-    sym (take_all own p.of_text.0) ∙ ap (λ n. take n (own ++ p.of_text.0)) size ∙ ap (take (length p.seen.begun)) (sym p.of_text.1)
+of_sections m ts p = search (rules, length-map, take_all)

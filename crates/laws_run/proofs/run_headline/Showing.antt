@@ -1,5 +1,5 @@
 -- What a whole run shows of the sections that its planner begun.
-use Rattle.std.proofs.Common.{◌≡◌, ◌≢◌, ℕ, suc, ◌+◌, ◌<◌, ◌≤◌, ◌⊎◌, List, [], ◌∷◌, ◌++◌, All, map, length, Option, Some, None, refl, ap, sym, ◌∙◌, subst, arith, inl, inr, append_assoc, append-nil, length-append}
+use Rattle.std.proofs.Common.{◌≡◌, ◌≢◌, ℕ, suc, ◌+◌, ◌<◌, ◌≤◌, ◌⊎◌, List, [], ◌∷◌, ◌++◌, All, map, length, Option, Some, None, refl, ap, sym, ◌∙◌, subst, arith, inl, inr, append_assoc, append-nil, length-append, rules}
 use Rattle.laws_board.proofs.Names.{leb_tells, length-map, Cause, Machine, Moves, one_line, IsValidMachine, board_at, clocks_at, Note, WordMsg, Line, Scene, Known, Connecting, Stopping, noted, IsOwn, Came, known_by, last_reacted, AreStarted, Started, Told, MotionTurn, ReactorTurn, gather, clock_of}
 use Rattle.gcode_program.specs.Programs.{program_end, program_sections}
 use Rattle.plan_types.specs.declared.cause.Cause.TheVariants as cause
@@ -57,20 +57,11 @@ module _ (m : Machine) (v : IsValidMachine m) (s : Scene) (ts : List MotionTurn)
 
   -- the sections start one behind the other
   pub started : (o : Option Told) → p.seen.told ≡ o → (260 ≤ ready_heard p.seen.told) × AreStarted m (clocks_heard p.seen.told) (ready_heard p.seen.told) p.seen.begun
-  started None e =
-      let At : Option Told → Type 0 = λ o. (260 ≤ ready_heard o) × AreStarted m (clocks_heard o) (ready_heard o) p.seen.begun in
-      subst At (sym e) (omega arith, subst (λ (b : List Started). AreStarted m [] 260 b) (sym (not_told e)) tt)
-  started (Some t) e =
-      let At : Option Told → Type 0 = λ o. (260 ≤ ready_heard o) × AreStarted m (clocks_heard o) (ready_heard o) p.seen.begun in
-      let late : IsLate (Some t) = subst IsLate (sym p.told_is ∙ e) (turns_late m 0 p.made None tt) in
-      subst At (sym e) (omega (arith, late), subst (λ o. AreToldBy m o p.seen.begun) e p.sections)
+  started o p1 = search (rules, not_told, turns_late)
 
   -- why the last turn ended the run
   ends : (rs : List ReactorTurn) (f : Facts m s ts rs end c) → GoesThrough c → EndsSo m (noted m end.note (known_by m s.switches (came_from [] rs))) (length (came_from [] rs)) end.states c
-  ends rs f g =
-      let own = f.own (own_cause c g) in
-      let At : Known → Type 0 = λ r. EndsSo m (noted m end.note r) (length (came_from [] rs)) end.states c in
-      subst At own.0 (ends_so m s.switches f.known (length (came_from [] rs)) end.states end.note c own.1 f.other (sym (ends_own m s ts rs end c f (own_cause c g))))
+  ends rs f g = search (rules, own_cause, noted, ends_so)
 
   module _ (first : ReactorTurn) (rest : List ReactorTurn) (f : Facts m s ts (first ∷ rest) end c) where
     pub each : EachNoted (rest ++ end ∷ [])
@@ -214,10 +205,7 @@ module _ (m : Machine) (v : IsValidMachine m) (s : Scene) (ts : List MotionTurn)
         }
 
     pub boards_told : (o : Option Told) → p.seen.told ≡ o → p.seen.begun ≢ [] → TellBoards (clocks_heard p.seen.told) (ready_heard p.seen.told) (first ∷ (rest ++ end ∷ []))
-    boards_told None e some = absurd (some (not_told e))
-    boards_told (Some t) e some =
-        let At : Option Told → Type 0 = λ o. TellBoards (clocks_heard o) (ready_heard o) (first ∷ (rest ++ end ∷ [])) in
-        subst At (sym e) (told_boards t e)
+    boards_told o p1 p2 = search (rules, not_told, told_boards)
 
     -- by sound clock lines
     pub sound_by : (o : Option Told) → p.seen.told ≡ o → p.seen.begun ≢ [] → AreSound m (clocks_heard p.seen.told) (ready_heard p.seen.told)
@@ -359,13 +347,7 @@ module _ (m : Machine) (v : IsValidMachine m) (s : Scene) (ts : List MotionTurn)
         record { all = all.all; over = subst Over (sym size) all.over; cause_is = w.1 ∙ ap text_end all.stop_is }
 
     through_before : Stopped → length (rest ++ end ∷ []) ≤ length p.made → AreThrough m p.seen c (length (rest ++ end ∷ []))
-    through_before x l =
-        let all = gone_before x l in
-        record {
-          all = all.all;
-          over = over_later (length rest) (length (rest ++ end ∷ [])) p.seen.begun (omega (arith, size)) all.over;
-          cause_is = x.cause_is ∙ ap text_end all.stop_is;
-        }
+    through_before x l = search (rules, gone_before, size)
 
     pub through_long : GoesThrough c → length (rest ++ end ∷ []) ≤ length p.made → AreThrough m p.seen c (length (rest ++ end ∷ []))
     through_long g l = elim (through_so g) [ inl w ↦ through_by w l | inr a ↦ through_before (stopped a) l ]

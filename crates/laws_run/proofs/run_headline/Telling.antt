@@ -1,5 +1,5 @@
 -- A reactor tells only lines that it may tell.
-use Rattle.std.proofs.Common.{◌≡◌, ◌∙◌, ℕ, suc, ◌+◌, ◌<◌, Bool, true, false, List, [], ◌∷◌, ◌++◌, length, get_or, ◌⊎◌, inl, inr, subst, ap, sym, refl, arith, Option, Some, None}
+use Rattle.std.proofs.Common.{◌≡◌, ◌∙◌, ℕ, suc, ◌+◌, ◌<◌, Bool, true, false, List, [], ◌∷◌, ◌++◌, length, get_or, ◌⊎◌, inl, inr, subst, ap, sym, refl, arith, Option, Some, None, rules}
 use Rattle.std.specs.Prelude.{◌==◌, ◌&&◌, if◌then◌else◌}
 use Rattle.laws_board.proofs.Names.{flat_map, nat_tests, Cause, AxisDef, Machine, Line, Pulse, ReadStop, axis_at, stepper_at, ReportLine, Note, NoteNews, State, Homing, HomingTurn, homing_turn, Asking, all_connected, giving_up, listen_all, ready_all, stale, Known, Phase, Connecting, Stopping, is_out, news_of, noted, Reacted, by_phase, cut_line, reacts, unless_ended, unless_stale, first_lines, machine_line, first_cause, stop_of, Came, GoesOn, known_by, Clocks, ReactorTurn, gather, Switch, both_parts}
 use Rattle.plan_types.specs.declared.machine.StepperDef.{StepperDef}
@@ -100,11 +100,7 @@ MayHome homes o = (homes ≡ true) ⊎ (o ≡ None)
 
 turn_told : (homes : Bool) (m : Machine) (switches : List Switch) (clocks : List Clocks) (k : ℕ) (states : List State) (o : Option Homing) → MayHome homes o
     → AreTold homes m (cut_line m switches (homing_turn clocks k states o).section (axis_at m (homing_turn clocks k states o).axis) (homing_turn clocks k states o).cut)
-turn_told homes m switches clocks k states o (inl h) =
-    let turn = homing_turn clocks k states o in
-    cut_told homes m switches turn.section (axis_at m turn.axis) turn.cut h
-turn_told homes m switches clocks k states None (inr h) = tt
-turn_told homes m switches clocks k states (Some x) (inr h) = absurd (let f : Some x ≡ None = h in cc)
+turn_told homes m switches clocks k states o p7 = search (rules, homing_turn, cut_told, axis_at)
 
 -- what a turn gives
 abbrev Tells : Bool → Machine → Reacted → Type 0
@@ -124,16 +120,10 @@ finishing homes (read.Stop line) m r k lines askings turn told = told
 finishing homes c m r k lines askings turn told = told_append homes m lines (count_lines r.reading) told (count_told homes m r.reading)
 
 homing : (homes : Bool) (o : Option Cause) (m : Machine) (r : Known) (k : ℕ) (states : List State) (lines cut : List ReportLine) (askings : List Asking) (turn : HomingTurn) → AreTold homes m lines → AreTold homes m cut → Tells homes m (unless_homing_ends o m r k states lines cut askings turn)
-homing homes (Some cause) m r k states lines cut askings turn told more = told
-homing homes None m r k states lines cut askings turn told more =
-    let all = told_append homes m lines cut told more in
-    either homes m (is_finished r k states) (finishes (stop_of r.reading) m r k (lines ++ cut) askings turn) (carries_on m r k (lines ++ cut) askings turn None) (finishing homes (stop_of r.reading) m r k (lines ++ cut) askings turn all) all
+homing homes o m r k states lines cut askings turn p10 p11 = search (rules, told_append, either, stop_of, finishing)
 
 running : (homes : Bool) (o : Option Cause) (m : Machine) (switches : List Switch) (r : Known) (k : ℕ) (states : List State) (lines : List ReportLine) (askings : List Asking) → MayHome homes r.homing → AreTold homes m lines → Tells homes m (unless_stale o m switches r k states lines askings)
-running homes (Some cause) m switches r k states lines askings h told = told
-running homes None m switches r k states lines askings h told =
-    let turn = homing_turn r.clocks k states r.homing in
-    homing homes turn.end m (after_homing r k states) k states lines (cut_line m switches turn.section (axis_at m turn.axis) turn.cut) askings turn told (turn_told homes m switches r.clocks k states r.homing h)
+running homes o m switches r k states lines askings p9 p10 = search (rules, homing_turn, homing, cut_line, axis_at, turn_told)
 
 stopping : (homes : Bool) (o : Option Cause) (m : Machine) (r : Known) (k : ℕ) (lines : List ReportLine) (line : ℕ) → AreTold homes m lines → Tells homes m (unless_late_stale o m r k lines line)
 stopping homes (Some cause) m r k lines line told = told

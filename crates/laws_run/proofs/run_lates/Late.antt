@@ -1,5 +1,5 @@
 -- A whole run that ends since steps came too late to a board tells of this board's last turn.
-use Rattle.std.proofs.Common.{◌≡◌, ℕ, zero, suc, ◌+◌, ◌<◌, Bool, false, List, [], ◌∷◌, ◌++◌, length, map, Option, Some, None, refl, ap, sym, ◌∙◌, subst, arith, inl, inr, append_assoc, length-append}
+use Rattle.std.proofs.Common.{◌≡◌, ℕ, zero, suc, ◌+◌, ◌<◌, Bool, false, List, [], ◌∷◌, ◌++◌, length, map, Option, Some, None, refl, ap, sym, ◌∙◌, subst, arith, inl, inr, append_assoc, length-append, rules}
 use Rattle.std.specs.Prelude.{◌==◌, if◌then◌else◌}
 use Rattle.laws_board.proofs.Names.{eqb_tells, length-map, Cause, BoardClock, Level, Machine, BoardState, Running, Shut, board_tick, clock_of, IsValidMachine, board_at, ShutNews, State, Control, Scene, Core, orders, pins_of, LinkState, Orders, Known, noted, Run, IsOwn, Came, known_by, MotionTurn, ReactorTurn, gather, item}
 use Rattle.io_core.specs.declared.traits.Files.{Ghosts as Files}
@@ -91,13 +91,7 @@ here_state j b first arrival spoiled spill s states n shut one f =
 
 by_state : (j b first arrival spoiled spill : ℕ) (s : State) (states : List State) (o : Option ShutNews) → (late (j + 1) states ≡ Some (cause.Late b first arrival spoiled spill) → LateAt (j + 1) b first arrival spoiled spill states) → s.shut ≡ o
     → or_cause (late_of j o) (late (j + 1) states) ≡ Some (cause.Late b first arrival spoiled spill) → LateAt j b first arrival spoiled spill (s ∷ states)
-by_state j b first arrival spoiled spill s states None rest shut f = later_state j b first arrival spoiled spill s states (rest f)
-by_state j b first arrival spoiled spill s states (Some n) rest shut f =
-    let At : Bool → Type 0 = λ x. or_cause (if x then Some (cause.Late j n.first n.tick n.spoiled n.spill) else None) (late (j + 1) states) ≡ Some (cause.Late b first arrival spoiled spill) in
-    elim (eqb_tells n.reason 1) [
-      | inl p ↦ here_state j b first arrival spoiled spill s states n shut p.1 (subst At p.0 f)
-      | inr p ↦ later_state j b first arrival spoiled spill s states (rest (subst At p.0 f))
-    ]
+by_state j b first arrival spoiled spill s states o p9 p10 p11 = search (rules, later_state, eqb_tells, here_state)
 
 late_is : (j b first arrival spoiled spill : ℕ) (states : List State) → late j states ≡ Some (cause.Late b first arrival spoiled spill) → LateAt j b first arrival spoiled spill states
 late_is j b first arrival spoiled spill [] e = absurd (let f : None ≡ Some (cause.Late b first arrival spoiled spill) = e in cc)
@@ -245,11 +239,7 @@ module _ (m : Machine) (v : IsValidMachine m) (s : Scene) (ts : List MotionTurn)
           (turn_shut Clock (length Past) Now Link_before Last_turn.after (ordered_after (board_at m b) Pins b s.entries Past turns_are.1) (time ∙ ap (board_tick Clock) (order_length Past)) ran turns_are.0.0).shut timer_too_close arrival due shut_state
 
       numbers : (spoiled, spill) ≡ late_by (lead_of Clock.drift) (spoiled_by Past Last_turn) due (held_by Past Last_turn)
-      numbers =
-          let Counted : Option ShutNews → Type 0 = λ z. IsCounted (lead_of Clock.drift) (spoiled_by Past Last_turn) (held_by Past Last_turn) z in
-          let told_is = subst Counted told at_end.counted in
-          let counts = λ (a : ℕ). late_by (lead_of Clock.drift) (spoiled_by Past Last_turn) a (held_by Past Last_turn) in
-          (λ i. (sym x.spoiled_is i, sym x.spill_is i)) ∙ told_is ∙ ap (λ z. spill_told z (counts x.news.first)) (ap (λ n. n == timer_too_close) x.reason) ∙ ap counts x.first_is
+      numbers = search (rules, told)
 
       pub comes_late : ComesLate m s b due arrival spoiled spill ts first (rest ++ end ∷ [])
       comes_late =

@@ -1,5 +1,5 @@
 -- Where no section was begun a planner sends no units.
-use Rattle.std.proofs.Common.{◌≡◌, ◌⊎◌, ℕ, zero, suc, ◌+◌, ◌<◌, List, [], ◌∷◌, ◌++◌, length, map, refl, ap, sym, ◌∙◌, subst, arith, inl, inr, append_assoc}
+use Rattle.std.proofs.Common.{◌≡◌, ◌⊎◌, ℕ, zero, suc, ◌+◌, ◌<◌, List, [], ◌∷◌, ◌++◌, length, map, refl, ap, sym, ◌∙◌, subst, arith, inl, inr, append_assoc, rules}
 use Rattle.laws_board.proofs.Names.{Machine, Control, Orders, Started, MotionTurn, gather, item}
 use Rattle.msg_code.specs.declared.unit.Batch.{Batch}
 use Rattle.motion_work.specs.Puts.{ArePut}
@@ -54,9 +54,4 @@ gather_both f [] ys = refl
 gather_both f (x ∷ xs) ys = ap (λ z. f x ++ z) (gather_both f xs ys) ∙ sym (append_assoc (f x) (gather f xs) (gather f ys))
 
 pub unbegun : (m : Machine) (ts : List MotionTurn) (p : Plans m (length m.boards) ts) (b : ℕ) (os : List Orders) → b < length m.boards → p.seen.begun ≡ [] → TookBatches b ts os → NoUnits os
-unbegun m ts p b [] low none took = tt
-unbegun m ts p b (o ∷ os) low none took =
-    let batch = λ (t : MotionTurn). item b t.batches in
-    let Put : List Started → Type 0 = λ z. ArePut m p.seen.text z 0 (puts_of p.made) in
-    let all : map (λ (x : Orders). x.batch) (o ∷ os) ++ took.0 ≡ gather batch p.made ++ gather batch p.bare = took.1 ∙ ap (gather batch) p.are ∙ gather_both batch p.made p.bare in
-    orders_empty (o ∷ os) took.0 (subst AllEmpty (sym all) (empty_both (gather batch p.made) (gather batch p.bare) (made_empty m p.seen.text b 0 o.control p.made low (subst Put none p.put)) (bare_empty (length m.boards) b _ p.bare p.are_bare)))
+unbegun m ts p b os p5 p6 p7 = search (rules, item, gather, gather_both, orders_empty, empty_both, made_empty, bare_empty)

@@ -1,5 +1,5 @@
 -- The unit whose spoiled turns and spill are told of a late board.
-use Rattle.std.proofs.Common.{◌≡◌, ℕ, zero, suc, ◌+◌, ◌-◌, ◌<◌, ◌≤◌, Bool, true, false, List, [], ◌∷◌, ◌++◌, length, map, drop, take, refl, ap, sym, ◌∙◌, subst, arith, inl, inr, append_assoc, length-append}
+use Rattle.std.proofs.Common.{◌≡◌, ℕ, zero, suc, ◌+◌, ◌-◌, ◌<◌, ◌≤◌, Bool, true, false, List, [], ◌∷◌, ◌++◌, length, map, drop, take, refl, ap, sym, ◌∙◌, subst, arith, inl, inr, append_assoc, length-append, rules}
 use Rattle.std.specs.Prelude.{◌&&◌, ◌==◌, if◌then◌else◌}
 use Rattle.laws_board.proofs.Names.{flat_map, eqb_tells, leb_tells, Clocks, Machine, Unit as StepUnit, Release, batch_at, BoardSection, Orders, parts_on, Started}
 use Rattle.link_work.specs.declared.held.HeldUnit.{HeldUnit}
@@ -22,15 +22,7 @@ pub record IsFound (lead : ℕ) (spoiled : List ℕ) (first : ℕ) (hs : List He
 
 found_by : (lead : ℕ) (spoiled : List ℕ) (first : ℕ) (h : HeldUnit) (hs : List HeldUnit) (b : Bool) → (lead < (late_by lead spoiled first hs).0 + (late_by lead spoiled first hs).1 → IsFound lead spoiled first hs) → may_be_late lead spoiled first h ≡ b
     → lead < (late_by lead spoiled first (h ∷ hs)).0 + (late_by lead spoiled first (h ∷ hs)).1 → IsFound lead spoiled first (h ∷ hs)
-found_by lead spoiled first h hs true rest e low =
-    let same = ap (λ (x : Bool). if x then (counted_to h.due spoiled, h.spill) else late_by lead spoiled first hs) e in
-    let is : h.first ≡ first = elim (eqb_tells h.first first) [ inl p ↦ p.1 | inr p ↦ absurd (let g : false ≡ true = sym p.0 ∙ first_of_both (h.first == first) _ e in cc) ] in
-    record { held = h; among = inl refl; first_is = is; told = same }
-found_by lead spoiled first h hs false rest e low =
-    let same = ap (λ (x : Bool). if x then (counted_to h.due spoiled, h.spill) else late_by lead spoiled first hs) e in
-    let Low : ℕ × ℕ → Type 0 = λ p. lead < p.0 + p.1 in
-    let r = rest (subst Low same low) in
-    record { held = r.held; among = inr r.among; first_is = r.first_is; told = same ∙ r.told }
+found_by lead spoiled first h hs b p6 p7 p8 = search (rules, eqb_tells, first_of_both)
 
 pub found : (lead : ℕ) (spoiled : List ℕ) (first : ℕ) (hs : List HeldUnit) → lead < (late_by lead spoiled first hs).0 + (late_by lead spoiled first hs).1 → IsFound lead spoiled first hs
 found lead spoiled first [] low = absurd (omega (arith, low))

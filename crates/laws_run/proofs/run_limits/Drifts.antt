@@ -1,5 +1,5 @@
 -- The further clock lines of a run tell ticks that the boards may have.
-use Rattle.std.proofs.Common.{◌≡◌, ℕ, ◌+◌, ◌*◌, ◌^◌, ◌<◌, ◌≤◌, Bool, true, false, List, [], ◌∷◌, ◌++◌, length, Some, sym, refl, subst, arith, inl, inr}
+use Rattle.std.proofs.Common.{◌≡◌, ℕ, ◌+◌, ◌*◌, ◌^◌, ◌<◌, ◌≤◌, Bool, true, false, List, [], ◌∷◌, ◌++◌, length, Some, sym, refl, subst, arith, inl, inr, rules}
 use Rattle.std.specs.Prelude.{◌==◌, if◌then◌else◌}
 use Rattle.laws_board.proofs.Names.{eqb_tells, BoardClock, Machine, Held, Line, clock_of, turn_ns, IsValidMachine, board_at, clocks_at, ReportLine, Scene, Told, MotionTurn, ReactorTurn}
 use Rattle.plan_types.specs.Clock.{own_tick}
@@ -25,17 +25,7 @@ use Rattle.laws_homing.proofs.clear_groups.Noted.{drift_small}
 
 -- the tick that a line tells which is that of a sample
 clock_low : (clock : BoardClock) (turns : List BoardTurn) (line : Line) → clock.start ≤ 2 ^ 40 → clock.freq ≤ 200_000_000 → ppm_size clock.drift ≤ 200 → length turns ≤ 2 ^ 63 → IsSampled clock turns line → line.clock ≤ greatest_tick (turn_at line.at)
-clock_low clock turns line low high few small x =
-    let s = x.0 in
-    let i = x.1 in
-    let from = i.from in
-    let to = i.to in
-    let near = i.soon in
-    let got = told_before (i.block + 1) s.clock s.got turns i.told in
-    let own = own_few clock.start clock.freq clock.drift i.turn low high few in
-    let is : s.clock ≡ own_tick clock.start clock.freq clock.drift i.turn = i.own in
-    let when : turn_at (s.sent * turn_ns) ≡ s.sent = omega (arith, got, small, from, to) in
-    subst (λ (l : Line). l.clock ≤ greatest_tick (turn_at l.at)) (sym x.2) (omega (arith, is, own, from, to, near, when))
+clock_low clock turns line low high few small x = search (rules, told_before, own_few, turn_ns)
 
 -- so those of a board
 held_low : (clock : BoardClock) (turns : List BoardTurn) (b : ℕ) (held : List Held) → clock.start ≤ 2 ^ 40 → clock.freq ≤ 200_000_000 → ppm_size clock.drift ≤ 200 → length turns ≤ 2 ^ 63 → AreSampled clock turns held → DriftsLow (held_lines b held)

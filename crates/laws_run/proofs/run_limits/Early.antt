@@ -1,5 +1,5 @@
 -- No section of a run starts late.
-use Rattle.std.proofs.Common.{◌≡◌, ◌⊎◌, ℕ, zero, suc, ◌+◌, ◌^◌, ◌<◌, ◌≤◌, Bool, true, false, List, [], ◌∷◌, ◌++◌, All, get_or, length, refl, ap, sym, ◌∙◌, subst, arith, inl, inr}
+use Rattle.std.proofs.Common.{◌≡◌, ◌⊎◌, ℕ, zero, suc, ◌+◌, ◌^◌, ◌<◌, ◌≤◌, Bool, true, false, List, [], ◌∷◌, ◌++◌, All, get_or, length, refl, ap, sym, ◌∙◌, subst, arith, inl, inr, rules}
 use Rattle.std.specs.Prelude.{◌==◌, if◌then◌else◌}
 use Rattle.laws_board.proofs.Names.{eqb_tells, leb_tells, flat_map-append, length-map, Machine, Note, NoteNews, ReportLine, Started, machine_line, MotionTurn, ReactorTurn, gather}
 use Rattle.msg_code.specs.declared.talk.NoteNews.TheVariants as news
@@ -75,11 +75,7 @@ spread_late x (suc n) (s ∷ ss) d h lt = (let later = spread_late (s.start + 26
 
 -- so no section that was begun starts late
 pub starts_early : (m : Machine) (n : ℕ) (ts : List MotionTurn) (p : Plans m n ts) (boards : ℕ) (x e : Seat Planning) → Goes (MotionStep planner boards) 0 x ts e → All (λ s. s.start < start_limit) p.seen.begun
-starts_early m n ts p boards x e goes = λ k d lt.
-    let early = early_front 0 p.made p.bare (subst (AreEarly 0) p.are (turns_early boards 0 ts x e goes)) in
-    let count : length (puts_of p.made) ≡ length p.made = length-map p.made put_of in
-    let high = p.started k d lt in
-    begun_early m p.seen.text p.seen.begun 0 p.made k d lt p.put early (spread_late 260 k p.seen.begun d (plans_spread m n ts p) lt) (omega (arith, high, count))
+starts_early m n ts p boards x e goes = search (rules, early_front, turns_early, length-map, begun_early, spread_late, plans_spread)
 
 pub low_both : (xs ys : List ReportLine) → AreLow xs → AreLow ys → AreLow (xs ++ ys)
 low_both [] ys a b = b
@@ -105,10 +101,7 @@ machine_none m k = by (k == 0) where
   by false = refl
 
 turn_low : (m : Machine) (ss : List Started) (k : ℕ) (t : ReactorTurn) → Spread 260 ss → All (λ s. s.start < start_limit) ss → TellsTurn m ss k t → AreLow (heads_of t.lines)
-turn_low m ss k t spread early h =
-    let starts = starts_at k 0 ss in
-    let cut = ap heads_of h.are ∙ flat_map-append head_in (machine_line m k) (starts ++ h.rest) ∙ ap (λ z. z ++ heads_of (starts ++ h.rest)) (machine_none m k) ∙ flat_map-append head_in starts h.rest in
-    subst AreLow (sym cut) (low_both (heads_of starts) (heads_of h.rest) (starts_low k 0 260 ss (omega arith) spread early) (subst AreLow (sym h.heads) tt))
+turn_low m ss k t spread early h = search (rules, flat_map-append, machine_line, machine_none, low_both, starts_low)
 
 pub heads_low : (m : Machine) (ss : List Started) (k : ℕ) (ts : List ReactorTurn) → Spread 260 ss → All (λ s. s.start < start_limit) ss → TellTurns m ss k ts → AreLow (heads_of (gather (λ t. t.lines) ts))
 heads_low m ss k [] spread early h = tt

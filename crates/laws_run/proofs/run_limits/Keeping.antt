@@ -1,5 +1,5 @@
 -- The lines of a whole run keep their limits.
-use Rattle.std.proofs.Common.{◌≡◌, ◌≢◌, ℕ, ◌+◌, ◌*◌, ◌<◌, ◌≤◌, List, [], ◌∷◌, ◌++◌, All, length, map, Option, None, Some, refl, ap, sym, ◌∙◌, subst, arith, append_assoc, append-nil, length-append}
+use Rattle.std.proofs.Common.{◌≡◌, ◌≢◌, ℕ, ◌+◌, ◌*◌, ◌<◌, ◌≤◌, List, [], ◌∷◌, ◌++◌, All, length, map, Option, None, Some, refl, ap, sym, ◌∙◌, subst, arith, append_assoc, append-nil, length-append, rules}
 use Rattle.laws_board.proofs.Names.{flat_map-append, length-map, Cause, Machine, tick, turn_ns, Clocks, IsValidMachine, clocks_at, ReportLine, Scene, AreStarted, Started, Told, MotionTurn, ReactorTurn, gather}
 use Rattle.gcode_program.specs.Programs.{program_sections}
 use Rattle.report_text.specs.declared.line.ReportLine.TheVariants as report
@@ -78,11 +78,7 @@ module _ (m : Machine) (v : IsValidMachine m) (s : Scene) (ts : List MotionTurn)
         (lines_low (ready_heard p.seen.told) 0 (clocks_heard p.seen.told) (ready_by m (clocks_heard p.seen.told) (ready_heard p.seen.told) p.seen.begun shows.started some early) (λ i lt. low_ticks p.seen.told refl i (omega (arith, lt, count))))
 
     counts_low : AreLow (counts_of (gather (λ t. t.lines) (first ∷ (rest ++ end ∷ []))))
-    counts_low =
-        let few = read_few m p.seen.text in
-        let deeds = few.deeds in
-        let passed = few.passed in
-        subst AreLow (sym (shows.counts through)) ((omega (arith, deeds), omega (arith, passed)), tt)
+    counts_low = search (rules, read_few)
 
     further_low : DriftsLow (gather (λ t. t.lines) (first ∷ (rest ++ end ∷ [])))
     further_low = by p.seen.told refl

@@ -1,5 +1,5 @@
 -- The own ticks of boards are small.
-use Rattle.std.proofs.Common.{◌≡◌, ℕ, ℤ, pos, negsuc, ◌+◌, ◌*◌, ◌/◌, ◌^◌, ◌<◌, ◌≤◌, List, length, ap, arith}
+use Rattle.std.proofs.Common.{◌≡◌, ℕ, ℤ, pos, negsuc, ◌+◌, ◌*◌, ◌/◌, ◌^◌, ◌<◌, ◌≤◌, List, length, ap, arith, rules}
 use Rattle.std.proofs.Math.Nat.{div-le_of_le-mul, mul-le-mul}
 use Rattle.laws_board.proofs.Names.{BoardClock, Line}
 use Rattle.plan_types.specs.Clock.{own_tick, rate}
@@ -23,12 +23,4 @@ own_few start freq d turn low high few =
 
 -- and so is the tick of a sample that was got in a run of fewer than 2^43 turns
 pub sample_small : (clock : BoardClock) (turns : List BoardTurn) (line : Line) → clock.start ≤ 2 ^ 40 → clock.freq ≤ 200_000_000 → ppm_size clock.drift ≤ 200 → length turns ≤ 2 ^ 43 → IsSampled clock turns line → line.clock < 2 ^ 62
-sample_small clock turns line low high few small x =
-    let s = x.0 in
-    let i = x.1 in
-    let to = i.to in
-    let got = told_before (i.block + 1) s.clock s.got turns i.told in
-    let own = own_few clock.start clock.freq clock.drift i.turn low high few in
-    let is : s.clock ≡ own_tick clock.start clock.freq clock.drift i.turn = i.own in
-    let tells = ap (λ (l : Line). l.clock) x.2 in
-    omega (arith, is, own, to, got, small, tells)
+sample_small clock turns line low high few small x = search (rules, told_before, own_few)

@@ -1,5 +1,5 @@
 -- The boards' lines tell ticks that the boards may have.
-use Rattle.std.proofs.Common.{◌≡◌, ℕ, suc, ◌+◌, ◌-◌, ◌*◌, ◌/◌, ◌^◌, ◌<◌, ◌≤◌, List, [], ◌∷◌, ◌++◌, All, length, Some, ap, sym, ◌∙◌, subst, arith}
+use Rattle.std.proofs.Common.{◌≡◌, ℕ, suc, ◌+◌, ◌-◌, ◌*◌, ◌/◌, ◌^◌, ◌<◌, ◌≤◌, List, [], ◌∷◌, ◌++◌, All, length, Some, ap, sym, ◌∙◌, subst, arith, rules}
 use Rattle.std.proofs.Math.Nat.{div-le_of_le-mul, mul-le-mul}
 use Rattle.laws_board.proofs.Names.{All-head, BoardClock, Machine, Line, clock_of, tick, turn_ns, Clocks, IsValidMachine, board_at, clocks_at, Scene, pins_of, Came, Told, MotionTurn, ReactorTurn}
 use Rattle.plan_types.specs.Clock.{own_tick}
@@ -24,19 +24,7 @@ use Rattle.laws_homing.proofs.clear_groups.Noted.{drift_small}
 
 -- the line of a sample that was got before a turn
 line_low : (clock : BoardClock) (turns : List BoardTurn) (line : Line) (ready : ℕ) → clock.start ≤ 2 ^ 40 → clock.freq ≤ 200_000_000 → ppm_size clock.drift ≤ 200 → length turns ≤ ready → IsSampled clock turns line → tick line (ready * turn_ns) ≤ greatest_tick ready
-line_low clock turns line ready low high few soon x =
-    let s = x.0 in
-    let i = x.1 in
-    let from = i.from in
-    let to = i.to in
-    let near = i.soon in
-    let got = told_before (i.block + 1) s.clock s.got turns i.told in
-    let own = own_few clock.start clock.freq clock.drift i.turn low high few in
-    let is : s.clock ≡ own_tick clock.start clock.freq clock.drift i.turn = i.own in
-    let away : (ready * 1_000_000 - s.sent * 1_000_000) * clock.freq ≤ (ready * 1_000_000 - s.sent * 1_000_000) * 200_000_000 =
-    mul-le-mul {n₁ = ready * 1_000_000 - s.sent * 1_000_000} {m₁ = clock.freq} {n₂ = ready * 1_000_000 - s.sent * 1_000_000} {m₂ = 200_000_000} (omega arith) high in
-    let since : (ready * 1_000_000 - s.sent * 1_000_000) * clock.freq / 1_000_000_000 ≤ (ready - s.sent) * 200_000 = div-le_of_le-mul 1_000_000_000 (omega (arith, away)) in
-    subst (λ (l : Line). tick l (ready * turn_ns) ≤ greatest_tick ready) (sym x.2) (omega (arith, is, own, since, from, to, near, got, soon))
+line_low clock turns line ready low high few soon x = search (rules, told_before, own_few, mul-le-mul, div-le_of_le-mul, tick, turn_ns)
 
 -- the clock line of a board of a run, where connecting ended in a turn of it
 pub board_low : (m : Machine) (v : IsValidMachine m) (s : Scene) (ts : List MotionTurn) (p : Plans m (length m.boards) ts) (t : Told) (first : ReactorTurn) (rest : List ReactorTurn) (end : ReactorTurn) (told : p.seen.told ≡ Some t)

@@ -1,5 +1,5 @@
 -- What a planner puts for a board, batch by batch.
-use Rattle.std.proofs.Common.{◌≡◌, ℕ, zero, suc, ◌+◌, ◌<◌, ◌≤◌, All, List, [], ◌∷◌, ◌++◌, length, map, refl, ap, sym, ◌∙◌, subst, arith, inl, inr}
+use Rattle.std.proofs.Common.{◌≡◌, ℕ, zero, suc, ◌+◌, ◌<◌, ◌≤◌, All, List, [], ◌∷◌, ◌++◌, length, map, refl, ap, sym, ◌∙◌, subst, arith, inl, inr, rules}
 use Rattle.laws_board.proofs.Names.{eqb_tells, leb_tells, All-cons, All-nil, Machine, SectionKind, Moves, Home, Clocks, Release, batch_at, AreStarted, Started, MotionTurn, gather, item}
 use Rattle.std.specs.List.{range_with_len}
 use Rattle.std.specs.Prelude.{false, slice_index_or}
@@ -19,11 +19,7 @@ use Rattle.laws_board.proofs.plans.Giving.{item_at}
 use Rattle.laws_homing.proofs.home_parts.Cut.{batch_before}
 
 own_batch : (m : Machine) (k b : ℕ) (sections : List (List (List Release))) → b < length m.boards → item b (batches_at (length m.boards) k sections) ≡ record { turn = k; units = units_at b k sections; end = false } ∷ []
-own_batch m k b sections h =
-    let f : ℕ → Batch = λ i. record { turn = k; units = units_at i k sections; end = false } in
-    let At : ℕ → Type 0 = λ i. item b (map f (range_with_len 0 (length m.boards))) ≡ f i ∷ [] in
-    let e : 0 + b ≡ b = omega arith in
-    subst At e (item_at f 0 (length m.boards) b h)
+own_batch m k b sections h = search (rules, item, range_with_len, item_at)
 
 bare_item : (n b : ℕ) (x : Batch) → b < n → item b (copies n x) ≡ x ∷ []
 bare_item zero b x h = absurd (omega (arith, h))

@@ -25,7 +25,7 @@ use Rattle.session_work.specs.declared.seat.Seat.{Seat}
 use Rattle.session_work.specs.Motions.{MotionStep, seated}
 use Rattle.session_work.specs.Seats.{MakeStep, PieceStep, Told as ToldTo, WordStep, hungers, is_wanted, needs}
 use Rattle.session_work.specs.Turns.{Goes}
-use Rattle.laws_board.specs.plans.Planned.{AnyEnds, AnyStops, AreBare, AreReadInOrder, BeginInRange, IsBare, IsPlanning, LastHomes, LoseNone, Plans, StopsAt, TextSofar, TookInTime, fresh_in, connecting_heard, nothing_read, planning, put_of, puts_of, read_all, read_on, told_behind, words_in}
+use Rattle.laws_board.specs.plans.Planned.{AnyEnds, AnyStops, AreBare, AreReadInOrder, BeginInRange, IsBare, IsPlanning, LastHomes, LoseNone, Plans, StopsAt, ReadText, TookInTime, fresh_in, connecting_heard, nothing_read, planning, put_of, puts_of, read_all, read_on, told_behind, words_in}
 use Rattle.laws_board.specs.plans.Answers.{TookNoneAhead}
 use Rattle.laws_board.proofs.plans.Answering.{HaveHeard, Homing, heard_piece, heard_turn, heard_word, homing_word, none_heard, words_end, words_snoc}
 use Rattle.laws_board.proofs.plans.Wholes.{Ran, whole_plans}
@@ -37,7 +37,7 @@ Dead x = (x.halted ≡ true) ⊎ (x.quiet ≡ true)
 
 -- a worker in turn k whose planner took these words in it, behind these turns, and has seen what tells these that were put, with this text,
 -- this told, and these further lines that words told since the turn before
-record Live {M : Type 0} (view : M → Planner) (m : Machine) (k : ℕ) (done : List MotionTurn) (words : List WordMsg) (puts : List Put) (text : TextSofar) (told : Option Told) (fresh : List BoardLine) (x : Seat M) : Type 0 where
+record Live {M : Type 0} (view : M → Planner) (m : Machine) (k : ℕ) (done : List MotionTurn) (words : List WordMsg) (puts : List Put) (text : ReadText) (told : Option Told) (fresh : List BoardLine) (x : Seat M) : Type 0 where
   halted : x.halted ≡ false
   quiet : x.quiet ≡ false
   seen : Seen
@@ -102,11 +102,11 @@ note_out g n k b y t d e (_, halted, _, inr s) =
     ]
 
 -- a live worker hears a word
-record Told_on {M : Type 0} (view : M → Planner) (m : Machine) (k : ℕ) (done : List MotionTurn) (words : List WordMsg) (puts : List Put) (text : TextSofar) (told : Option Told) (fresh : List BoardLine) (from : Seen) (y : Seat M) : Type 0 where
+record Told_on {M : Type 0} (view : M → Planner) (m : Machine) (k : ℕ) (done : List MotionTurn) (words : List WordMsg) (puts : List Put) (text : ReadText) (told : Option Told) (fresh : List BoardLine) (from : Seen) (y : Seat M) : Type 0 where
   live : Live view m k done words puts text told fresh y
   homing : Homing k from.begun from.going → Homing k live.seen.begun live.seen.going
 
-word_heard : {M : Type 0} (g : Motion M) (view : M → Planner) (m : Machine) (k : ℕ) (done : List MotionTurn) (us : List WordMsg) (puts : List Put) (text : TextSofar) (told : Option Told) (fresh : List BoardLine) (x y : Seat M) (w : WordMsg) → IsPlanning g view → length puts ≡ k
+word_heard : {M : Type 0} (g : Motion M) (view : M → Planner) (m : Machine) (k : ℕ) (done : List MotionTurn) (us : List WordMsg) (puts : List Put) (text : ReadText) (told : Option Told) (fresh : List BoardLine) (x y : Seat M) (w : WordMsg) → IsPlanning g view → length puts ≡ k
     → (l : Live view m k done us puts text told fresh x) → WordStep g.hears x w y → Told_on view m k done (us ++ w ∷ []) puts text (heard m k w told) (fresh ++ lines_kept (heard m k w told) (lines_in w.news)) l.seen y ⊎ (Dead y × ((w.end ≡ true) ⊎ (y.out ≡ true)))
 word_heard g view m k done us puts text told fresh x y w is long l (_, inl s) = inr (inl s.1, inl s.0)
 word_heard g view m k done us puts text told fresh x y w is long l (_, inr s) =
@@ -170,7 +170,7 @@ waiting m (opens.Goes s true) c told begun going k h e =
     elim (leb_tells c.start k) [ inl p ↦ (let late = p.1 in subst (Homing k begun) (sym h.is) (sym h.homes_is, omega (arith, start, late))) | inr p ↦ absurd (true_false (sym e ∙ p.0)) ]
 waiting m x c told begun going k h e = absurd (true_false (sym e))
 
-wanted : {M : Type 0} (g : Motion M) (view : M → Planner) (m : Machine) (k : ℕ) (done : List MotionTurn) (words : List WordMsg) (puts : List Put) (text : TextSofar) (told : Option Told) (fresh : List BoardLine) (x : Seat M) → IsPlanning g view → (l : Live view m k done words puts text told fresh x)
+wanted : {M : Type 0} (g : Motion M) (view : M → Planner) (m : Machine) (k : ℕ) (done : List MotionTurn) (words : List WordMsg) (puts : List Put) (text : ReadText) (told : Option Told) (fresh : List BoardLine) (x : Seat M) → IsPlanning g view → (l : Live view m k done words puts text told fresh x)
     → needs g.wants k x ≡ true → (x.heard ≤ k) × (x.heard ≡ k → (told ≡ None) ⊎ Homing k l.seen.begun l.seen.going)
 wanted g view m k done words puts text told fresh x is l e =
     let p = view x.machine in
@@ -188,13 +188,13 @@ heard_none m k w None e = refl
 heard_none m k w (Some t) e = e
 
 -- a live worker hears words
-record Spoken {M : Type 0} (view : M → Planner) (m : Machine) (k : ℕ) (done : List MotionTurn) (words : List WordMsg) (puts : List Put) (text : TextSofar) (told after : Option Told) (fresh : List BoardLine) (from : Seen) (first : ℕ) (a : Seat M) : Type 0 where
+record Spoken {M : Type 0} (view : M → Planner) (m : Machine) (k : ℕ) (done : List MotionTurn) (words : List WordMsg) (puts : List Put) (text : ReadText) (told after : Option Told) (fresh : List BoardLine) (from : Seen) (first : ℕ) (a : Seat M) : Type 0 where
   live : Live view m k done words puts text after fresh a
   low : a.heard ≤ k + 1
   early : first ≤ k → a.heard ≡ k + 1 → (told ≡ None) ⊎ Homing k live.seen.begun live.seen.going
   homing : Homing k from.begun from.going → Homing k live.seen.begun live.seen.going
 
-words_heard : {M : Type 0} (g : Motion M) (view : M → Planner) (m : Machine) (k i : ℕ) (done : List MotionTurn) (us : List WordMsg) (puts : List Put) (text : TextSofar) (told : Option Told) (fresh : List BoardLine) (ws : List WordMsg) (x a : Seat M) → IsPlanning g view → length puts ≡ k
+words_heard : {M : Type 0} (g : Motion M) (view : M → Planner) (m : Machine) (k i : ℕ) (done : List MotionTurn) (us : List WordMsg) (puts : List Put) (text : ReadText) (told : Option Told) (fresh : List BoardLine) (ws : List WordMsg) (x a : Seat M) → IsPlanning g view → length puts ≡ k
     → x.heard ≤ k + 1 → (l : Live view m k done us puts text told fresh x) → Goes (λ _ y w z. (needs g.wants k y ≡ true) × WordStep g.hears y w z) i x ws a
     → Spoken view m k done (us ++ ws) puts text told (connecting_heard m k ws told) (fresh ++ fresh_in m k ws told) l.seen x.heard a ⊎ (Dead a × (AnyEnds ws ⊎ (a.out ≡ true)))
 words_heard g view m k i done us puts text told fresh [] x a is long few l h =
@@ -260,7 +260,7 @@ reads_put p q seen ps bytes end of put reads =
     let Of : Machine → Type 0 = λ n. ArePutBy n (motion.read_on seen bytes end r.0) ps in
     (r.0, r.1, r.2, subst Of (sym reads.0) (text_kept p.machine seen ps bytes end r.0 r.1 put))
 
-piece_read : {M : Type 0} (g : Motion M) (view : M → Planner) (m : Machine) (k now : ℕ) (done : List MotionTurn) (words : List WordMsg) (puts : List Put) (text : TextSofar) (told : Option Told) (fresh : List BoardLine) (x y : Seat M) (p : Piece) → IsPlanning g view
+piece_read : {M : Type 0} (g : Motion M) (view : M → Planner) (m : Machine) (k now : ℕ) (done : List MotionTurn) (words : List WordMsg) (puts : List Put) (text : ReadText) (told : Option Told) (fresh : List BoardLine) (x y : Seat M) (p : Piece) → IsPlanning g view
     → Live view m now done words puts text told fresh x → hungers g.hungry k x ≡ true → PieceStep g.reads x p y → Live view m now done words puts (read_on text p) told fresh y ⊎ (Dead y × (Stops x.heard p ⊎ (y.out ≡ true)))
 piece_read g view m k now done words puts text told fresh x y p is l hungry (_, halted, inl s) = let (stop, turn, _, quiet, _) = s in inr (inr quiet, inl (stop, turn))
 piece_read g view m k now done words puts text told fresh x y p is l hungry (_, halted, inr (inr s)) = inr (inr s.1, inr s.2)
@@ -289,7 +289,7 @@ piece_read g view m k now done words puts text told fresh x y p is l hungry (_, 
       fresh_are = l.fresh_are;
     })
 
-pieces_read : {M : Type 0} (g : Motion M) (view : M → Planner) (m : Machine) (k now i : ℕ) (done : List MotionTurn) (words : List WordMsg) (puts : List Put) (text : TextSofar) (told : Option Told) (fresh : List BoardLine) (ps : List Piece) (x b : Seat M) → IsPlanning g view
+pieces_read : {M : Type 0} (g : Motion M) (view : M → Planner) (m : Machine) (k now i : ℕ) (done : List MotionTurn) (words : List WordMsg) (puts : List Put) (text : ReadText) (told : Option Told) (fresh : List BoardLine) (ps : List Piece) (x b : Seat M) → IsPlanning g view
     → Live view m now done words puts text told fresh x → Goes (λ _ y p z. (hungers g.hungry k y ≡ true) × PieceStep g.reads y p z) i x ps b → Live view m now done words puts (read_all text ps) told fresh b ⊎ (Dead b × (AnyStops x.heard ps ⊎ (b.out ≡ true)))
 pieces_read g view m k now i done words puts text told fresh [] x b is l h = inl (subst (Live view m now done words puts text told fresh) h l)
 pieces_read g view m k now i done words puts text told fresh (p ∷ ps) x b is l (y, step, more) =
@@ -338,7 +338,7 @@ lose_none m k news fresh None taken = tt
 lose_none m k news fresh (Some t) taken = taken t refl
 
 -- what a live one puts is its planner's, or it is the last
-live_makes : {M : Type 0} (g : Motion M) (view : M → Planner) (m : Machine) (n k : ℕ) (all : List MotionTurn) (puts : List Put) (text : TextSofar) (told : Option Told) (fresh : List BoardLine) (b y : Seat M) (t : MotionTurn) → IsPlanning g view → length all ≤ k + 1
+live_makes : {M : Type 0} (g : Motion M) (view : M → Planner) (m : Machine) (n k : ℕ) (all : List MotionTurn) (puts : List Put) (text : ReadText) (told : Option Told) (fresh : List BoardLine) (b y : Seat M) (t : MotionTurn) → IsPlanning g view → length all ≤ k + 1
     → Live view m (k + 1) all [] puts text told fresh b → MakeStep n g.turns k b t.batches t.note y
     → (Live view m (k + 1) all [] (puts ++ put_of t ∷ []) text (told_on t.note.news told) [] y × BeginInRange m told × WereHeard fresh t.note.news × LoseNone m k t.note.news fresh told) ⊎ (IsBare n k t × Dead y × (t.note.out ≡ true))
 live_makes g view m n k all puts text told fresh b y t is size l (_, halted, _, inl s) =
@@ -412,7 +412,7 @@ soon_wants false false true false k n a b e = elim (leb_tells (suc k) 64) [
       elim (leb_tells (suc n) (k - 64 + 1)) [ inl q ↦ absurd (true_false (sym q.0 ∙ subst At p.0 e)) | inr q ↦ omega (arith, q.1, late) ]
 ]
 
-wants_more : {M : Type 0} (g : Motion M) (view : M → Planner) (m : Machine) (k : ℕ) (done : List MotionTurn) (words : List WordMsg) (puts : List Put) (text : TextSofar) (told : Option Told) (fresh : List BoardLine) (a : Seat M) → IsPlanning g view → Live view m k done words puts text told fresh a
+wants_more : {M : Type 0} (g : Motion M) (view : M → Planner) (m : Machine) (k : ℕ) (done : List MotionTurn) (words : List WordMsg) (puts : List Put) (text : ReadText) (told : Option Told) (fresh : List BoardLine) (a : Seat M) → IsPlanning g view → Live view m k done words puts text told fresh a
     → needs g.wants k a ≡ false → (told ≡ None → k < a.heard) × (k < a.heard + 64)
 wants_more g view m k done words puts text told fresh a is l enough =
     let p = view a.machine in
@@ -432,7 +432,7 @@ waits_now false false c false k n a b d e = absurd (true_false (sym d))
 waits_now false false true true k n a b d e = elim (leb_tells (suc n) (k + 1)) [ inl p ↦ absurd (true_false (sym p.0 ∙ e)) | inr p ↦ omega (arith, p.1) ]
 waits_now false false false true k n a b d e = elim (leb_tells (suc n) (k + 1)) [ inl p ↦ absurd (true_false (sym p.0 ∙ e)) | inr p ↦ omega (arith, p.1) ]
 
-answers_over : {M : Type 0} (g : Motion M) (view : M → Planner) (m : Machine) (k : ℕ) (done : List MotionTurn) (puts : List Put) (text : TextSofar) (told : Option Told) (fresh : List BoardLine) (t : MotionTurn) (a : Seat M) → IsPlanning g view → length done ≡ k
+answers_over : {M : Type 0} (g : Motion M) (view : M → Planner) (m : Machine) (k : ℕ) (done : List MotionTurn) (puts : List Put) (text : ReadText) (told : Option Told) (fresh : List BoardLine) (t : MotionTurn) (a : Seat M) → IsPlanning g view → length done ≡ k
     → a.heard ≡ length (words_in (done ++ t ∷ [])) → (l : Live view m k done t.words puts text told fresh a) → needs g.wants k a ≡ false → HaveHeard (k + 1) (done ++ t ∷ []) [] l.seen.begun l.seen.going
 answers_over g view m k done puts text told fresh t a is size many l enough =
     let p = view a.machine in
@@ -441,7 +441,7 @@ answers_over g view m k done puts text told fresh t a is size many l enough =
     let wait = λ (w : waits_by p.course.current p.course.start k ≡ true). waits_now a.halted a.quiet p.course.connected (waits_by p.course.current p.course.start k) k a.heard l.halted l.quiet w needed in
     words_end p.machine p.course l.seen k a.heard done t l.is.going size many wait l.answers
 
-words_over : {M : Type 0} (g : Motion M) (view : M → Planner) (m : Machine) (k : ℕ) (done : List MotionTurn) (puts : List Put) (text : TextSofar) (told : Option Told) (fresh : List BoardLine) (t : MotionTurn) (a : Seat M) → IsPlanning g view → length done ≡ k
+words_over : {M : Type 0} (g : Motion M) (view : M → Planner) (m : Machine) (k : ℕ) (done : List MotionTurn) (puts : List Put) (text : ReadText) (told : Option Told) (fresh : List BoardLine) (t : MotionTurn) (a : Seat M) → IsPlanning g view → length done ≡ k
     → a.heard ≡ length (words_in (done ++ t ∷ [])) → Live view m k done t.words puts text told fresh a → needs g.wants k a ≡ false → Live view m (k + 1) (done ++ t ∷ []) [] puts text told fresh a
 words_over g view m k done puts text told fresh t a is size many l enough =
     record {
@@ -459,7 +459,7 @@ words_over g view m k done puts text told fresh t a is size many l enough =
     }
 
 -- all turns from here on are bare
-ends_here : {M : Type 0} (view : M → Planner) (m : Machine) (n k : ℕ) (done : List MotionTurn) (puts : List Put) (text : TextSofar) (told : Option Told) (x : Seat M) (ts : List MotionTurn)
+ends_here : {M : Type 0} (view : M → Planner) (m : Machine) (n k : ℕ) (done : List MotionTurn) (puts : List Put) (text : ReadText) (told : Option Told) (x : Seat M) (ts : List MotionTurn)
     → (l : Live view m k done [] puts text told [] x) → AreBare n k ts → ((begun : List Started) → StopsAt k x.heard l.seen.told begun ts []) → Ran m n k done puts text told x.heard ts
 ends_here view m n k done puts text told x ts l bare why =
     let e : k + 0 ≡ k = omega arith in
@@ -496,7 +496,7 @@ heard_some m k [] t = refl
 heard_some m k (w ∷ ws) t = heard_some m k ws t
 
 -- from a turn on, in which no more of the text could be read
-stops_here : {M : Type 0} (view : M → Planner) (m : Machine) (n k : ℕ) (done : List MotionTurn) (puts : List Put) (text : TextSofar) (told : Option Told) (fresh : List BoardLine) (x a : Seat M) (t : MotionTurn) (ts : List MotionTurn) → (l : Live view m k done [] puts text told [] x)
+stops_here : {M : Type 0} (view : M → Planner) (m : Machine) (n k : ℕ) (done : List MotionTurn) (puts : List Put) (text : ReadText) (told : Option Told) (fresh : List BoardLine) (x a : Seat M) (t : MotionTurn) (ts : List MotionTurn) → (l : Live view m k done [] puts text told [] x)
     → (la : Spoken view m k done t.words puts text told (connecting_heard m k t.words told) fresh l.seen x.heard a) → HaveHeard (k + 1) (done ++ t ∷ []) [] la.live.seen.begun la.live.seen.going → AreBare n k (t ∷ ts) → x.heard ≤ k → a.heard ≡ x.heard + length t.words
     → AnyStops a.heard t.pieces → Ran m n k done puts text told x.heard (t ∷ ts)
 stops_here view m n k done puts text None fresh x a t ts l la answers bare low count stops =
@@ -572,7 +572,7 @@ stops_here view m n k done puts text (Some told) fresh x a t ts l la answers bar
     }
 
 -- one turn ahead
-one_ahead : (m : Machine) (n k : ℕ) (done : List MotionTurn) (puts : List Put) (text : TextSofar) (told : Option Told) (taken after : ℕ) (t : MotionTurn) (ts : List MotionTurn) → after ≡ taken + length t.words → after ≤ k + 1
+one_ahead : (m : Machine) (n k : ℕ) (done : List MotionTurn) (puts : List Put) (text : ReadText) (told : Option Told) (taken after : ℕ) (t : MotionTurn) (ts : List MotionTurn) → after ≡ taken + length t.words → after ≤ k + 1
     → (connecting_heard m k t.words told ≡ None → k < after) → k < after + 64 → BeginInRange m (connecting_heard m k t.words told) → WereHeard (fresh_in m k t.words told) t.note.news → LoseNone m k t.note.news (fresh_in m k t.words told) (connecting_heard m k t.words told) → Ran m n (k + 1) (done ++ t ∷ []) (puts ++ put_of t ∷ []) (read_all text t.pieces) (told_behind m k t told) after ts → Ran m n k done puts text told taken (t ∷ ts)
 one_ahead m n k done puts text told taken after t ts number low here soon range own lines p =
     let e : k + 1 + length p.made ≡ k + length (t ∷ p.made) = omega arith in
@@ -608,7 +608,7 @@ one_ahead m n k done puts text told taken after t ts number low here soon range 
       stops = subst (Stops_at (k + length (t ∷ p.made))) f (subst (λ i. Stops_at i (after + length (words_in p.made))) e p.stops);
     }
 
-live_goes : {M : Type 0} (g : Motion M) (view : M → Planner) (m : Machine) (n k : ℕ) (done : List MotionTurn) (puts : List Put) (text : TextSofar) (told : Option Told) (ts : List MotionTurn) (x e : Seat M) → IsPlanning g view → length puts ≡ k → length done ≡ k
+live_goes : {M : Type 0} (g : Motion M) (view : M → Planner) (m : Machine) (n k : ℕ) (done : List MotionTurn) (puts : List Put) (text : ReadText) (told : Option Told) (ts : List MotionTurn) (x e : Seat M) → IsPlanning g view → length puts ≡ k → length done ≡ k
     → x.heard ≡ length (words_in done) → x.heard ≤ k → Live view m k done [] puts text told [] x → Goes (MotionStep g n) k x ts e → Ran m n k done puts text told x.heard ts
 live_goes g view m n k done puts text told [] x e is long size words low l h = ends_here view m n k done puts text told x [] l tt (λ begun. refl)
 live_goes g view m n k done puts text told (t ∷ ts) x e is long size words low l (y, step, more) =

@@ -13,10 +13,10 @@ use Rattle.motion_stream.specs.Wholes.{ArePlanned, IsToldOf, AreSentIn}
 use Rattle.motion_stream.proofs.Planning.{are_planned}
 use Rattle.laws_board.specs.plans.Answers.{TookNoneAhead}
 use Rattle.laws_board.proofs.plans.Answering.{HaveHeard, Homing, all_end, all_homing}
-use Rattle.laws_board.specs.plans.Planned.{AllInRange, AreBare, AreKnown, AreReadInOrder, AreToldBy, LastHomes, Plans, StopsAt, TakeUpLines, TextSofar, TookInTime, nothing_read, puts_of, read_by, told_of, words_in}
+use Rattle.laws_board.specs.plans.Planned.{AllInRange, AreBare, AreKnown, AreReadInOrder, AreToldBy, LastHomes, Plans, StopsAt, TakeUpLines, ReadText, TookInTime, nothing_read, puts_of, read_by, told_of, words_in}
 
 -- Turns of a planner from turn k on, behind these turns, these that were put, this text, this that was told and so many words.
-pub record Ran (m : Machine) (n k : ℕ) (done : List MotionTurn) (before : List Put) (text : TextSofar) (told : Option Told) (taken : ℕ) (ts : List MotionTurn) : Type 0 where
+pub record Ran (m : Machine) (n k : ℕ) (done : List MotionTurn) (before : List Put) (text : ReadText) (told : Option Told) (taken : ℕ) (ts : List MotionTurn) : Type 0 where
   pub planner : Planner
   pub seen : stream.Seen
   pub made : List MotionTurn

@@ -59,25 +59,25 @@ abbrev pub puts_of : List MotionTurn → List Put
 puts_of ts = map put_of ts
 
 -- what was read of a text: its bytes so far, and whether it ended
-pub record TextSofar : Type 0 where
+pub record ReadText : Type 0 where
   pub bytes : List ℕ
   pub ended : Bool
 
 -- nothing was read of a text
-abbrev pub nothing_read : TextSofar
+abbrev pub nothing_read : ReadText
 nothing_read = record { bytes = []; ended = false }
 
 -- what is read behind a piece
-abbrev pub read_on : TextSofar → Piece → TextSofar
+abbrev pub read_on : ReadText → Piece → ReadText
 read_on r p = record { bytes = r.bytes ++ p.bytes; ended = p.end }
 
 -- and behind some
-abbrev pub read_all : TextSofar → List Piece → TextSofar
+abbrev pub read_all : ReadText → List Piece → ReadText
 read_all r [] = r
 read_all r (p ∷ ps) = read_all (read_on r p) ps
 
 -- what was read in some turns
-abbrev pub read_by : TextSofar → List MotionTurn → TextSofar
+abbrev pub read_by : ReadText → List MotionTurn → ReadText
 read_by r [] = r
 read_by r (t ∷ ts) = read_by (read_all r t.pieces) ts
 
@@ -220,7 +220,7 @@ TakeUpLines m k (t ∷ ts) told =
 -- turn in which the word that tells them is taken, and of each board of which one is told that it may have,
 -- one is taken up. From the first turn on in which memory was wanted, or no text could be read, or nothing
 -- was to follow, all is bare.
-pub record PlansFrom (m : Machine) (n k : ℕ) (before : List Put) (text : TextSofar) (told : Option Told) (taken : ℕ)
+pub record PlansFrom (m : Machine) (n k : ℕ) (before : List Put) (text : ReadText) (told : Option Told) (taken : ℕ)
     (ts : List MotionTurn) : Type 0 where
   pub seen : PlannerInput
   pub made : List MotionTurn
@@ -249,7 +249,7 @@ abbrev pub Plans : Machine → ℕ → List MotionTurn → Type 0
 Plans m n ts = PlansFrom m n 0 [] nothing_read None 0 ts
 
 -- what was read of a text in any of the first ones of some turns is its beginning, and all of it where it ended
-abbrev pub AreReadInOrder : TextSofar → List MotionTurn → List ℕ → Type 0
+abbrev pub AreReadInOrder : ReadText → List MotionTurn → List ℕ → Type 0
 AreReadInOrder text ts whole =
     (front rest : List MotionTurn) → ts ≡ front ++ rest →
     MayBecome (read_by text front).ended (read_by text front).bytes whole

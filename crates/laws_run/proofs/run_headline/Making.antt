@@ -18,7 +18,7 @@ use Rattle.session_run.specs.Machines.{planner}
 use Rattle.session_run.specs.Runs.{RunsOver}
 use Rattle.session_run.proofs.First.{count}
 use Rattle.session_run.proofs.Reacting as reacting
-use Rattle.laws_board.specs.plans.Planned.{AreReadInOrder, IsPlanning, Plans, TextSofar, nothing_read}
+use Rattle.laws_board.specs.plans.Planned.{AreReadInOrder, IsPlanning, Plans, ReadText, nothing_read}
 use Rattle.laws_board.proofs.plans.Planning.{plans}
 use Rattle.laws_run.specs.run_headline.Made.{IsMade}
 use Rattle.laws_run.proofs.run_headline.Reading as reading
@@ -54,7 +54,7 @@ module _ {F S : Type 0} (f : Files F) (o : Sink S) (m : Machine) (s : Scene) (na
       let put = put_is _ _ _ met.6 in
       let parts : gather (λ (z : ReactorTurn). z.pieces) (rs ++ end ∷ []) ≡ pieces_of front ++ (pieces_of rest ++ met.6.2.0) =
       put ∙ ap (λ z. pieces_of z ++ met.6.2.0) cut ∙ ap (λ z. z ++ met.6.2.0) (pieces_both front rest) ∙ append_assoc (pieces_of front) (pieces_of rest) met.6.2.0 in
-      let Ends : TextSofar → Type 0 = λ z. reading.Ends f o name text z in
+      let Ends : ReadText → Type 0 = λ z. reading.Ends f o name text z in
       subst Ends (sym (read_in nothing_read front))
       (reading.turns f o name text (length r.links) 0 nothing_read head (rs ++ end ∷ []) (ran_at t y).head (pieces_of front) (pieces_of rest ++ met.6.2.0) met.1 so parts)
     where

@@ -14,7 +14,7 @@ use Rattle.session_run.specs.Desks.{Desked, desk_out}
 use Rattle.session_run.specs.Reads.{IsNextPiece}
 use Rattle.session_run.specs.Machines.{reactor}
 use Rattle.motion_stream.specs.Texts.{MayBecome}
-use Rattle.laws_board.specs.plans.Planned.{TextSofar, nothing_read, read_all, read_by, read_on}
+use Rattle.laws_board.specs.plans.Planned.{ReadText, nothing_read, read_all, read_by, read_on}
 
 -- the first bytes of a text, and the piece behind them
 take_none : (k : ℕ) → take {A = ℕ} k [] ≡ []
@@ -49,14 +49,14 @@ module _ {F S : Type 0} (f : Files F) (o : Sink S) (name bytes : List ℕ) where
   D = Desk F S
 
   -- what was read so far, up to where a desk stands
-  pub record So (r : TextSofar) (x : D) : Type 0 where
+  pub record So (r : ReadText) (x : D) : Type 0 where
     pub name_is : x.name.now ≡ name
     pub told : f.told x.files.now name ≡ Some bytes
     pub front : r.bytes ≡ take x.kept.now.at bytes
     pub whole : r.ended ≡ true → r.bytes ≡ bytes
 
   -- a desk that stands where it stood
-  still : (r : TextSofar) (x y : D) (lines : List ReportLine) → Desked f o x lines y → y.kept.now.at ≡ x.kept.now.at → So r x → So r y
+  still : (r : ReadText) (x y : D) (lines : List ReportLine) → Desked f o x lines y → y.kept.now.at ≡ x.kept.now.at → So r x → So r y
   still r x y lines d at h = record {
     name_is = d.0.4 ∙ h.name_is;
     told = d.1.told name ∙ h.told;
@@ -68,7 +68,7 @@ module _ {F S : Type 0} (f : Files F) (o : Sink S) (name bytes : List ℕ) where
   is_end n e is h = elim (leb_tells (suc n) 4_096) [ inl p ↦ p.1 | inr p ↦ absurd (let g : true ≡ false = sym h ∙ is ∙ p.0 in cc) ]
 
   -- a piece more
-  one : (i : ℕ) (r : TextSofar) (x : Head Run D) (p : Piece) (y : Head Run D) → ServeStep reactor.stops (desk_out f o).serves i x p y → So r x.outside → So (read_on r p) y.outside
+  one : (i : ℕ) (r : ReadText) (x : Head Run D) (p : Piece) (y : Head Run D) → ServeStep reactor.stops (desk_out f o).serves i x p y → So r x.outside → So (read_on r p) y.outside
   one i r x p y (inl s) h =
       let served = s.0 in
       let desked = served.0 in
@@ -100,23 +100,23 @@ module _ {F S : Type 0} (f : Files F) (o : Sink S) (name bytes : List ℕ) where
       }
 
   -- what is read of the first pieces of some is the beginning of the text, and all of it where it ended
-  abbrev pub Ends : TextSofar → Type 0
+  abbrev pub Ends : ReadText → Type 0
   Ends r = MayBecome r.ended r.bytes bytes
 
-  ends_of : (r : TextSofar) (x : D) → So r x → Ends r
+  ends_of : (r : ReadText) (x : D) → So r x → Ends r
   ends_of r x h = by r.ended refl
     where
       by : (e : Bool) → r.ended ≡ e → MayBecome e r.bytes bytes
       by true e = sym (h.whole e)
       by false e = (drop x.kept.now.at bytes, sym (take-append-drop x.kept.now.at bytes) ∙ ap (λ z. z ++ drop x.kept.now.at bytes) (sym h.front))
 
-  record Goes_on (r : TextSofar) (ps : List Piece) (y : D) (rest qs more : List Piece) : Type 0 where
+  record Goes_on (r : ReadText) (ps : List Piece) (y : D) (rest qs more : List Piece) : Type 0 where
     later : List Piece
     cut : qs ≡ ps ++ later
     so : So (read_all r ps) y
     left : rest ≡ later ++ more
 
-  many : (i k : ℕ) (r : TextSofar) (x : Head Run D) (ps : List Piece) (y : Head Run D) (rest qs more : List Piece) → Goes (λ _. ServeStep reactor.stops (desk_out f o).serves i) k x ps y → So r x.outside → ps ++ rest ≡ qs ++ more
+  many : (i k : ℕ) (r : ReadText) (x : Head Run D) (ps : List Piece) (y : Head Run D) (rest qs more : List Piece) → Goes (λ _. ServeStep reactor.stops (desk_out f o).serves i) k x ps y → So r x.outside → ps ++ rest ≡ qs ++ more
       → Ends (read_all r qs) ⊎ Goes_on r ps y.outside rest qs more
   many i k r x [] y rest qs more g h e = let At : Head Run D → Type 0 = λ z. So r z.outside in inr (record { later = qs; cut = refl; so = subst At g h; left = e })
   many i k r x (p ∷ ps) y rest [] more g h e = inl (ends_of r x.outside h)
@@ -129,24 +129,24 @@ module _ {F S : Type 0} (f : Files F) (o : Sink S) (name bytes : List ℕ) where
         | inr w ↦ inr (record { later = w.later; cut = ap (λ z. z ∷ qs) (sym first) ∙ ap (λ z. p ∷ z) w.cut; so = w.so; left = w.left })
       ]
 
-  all_read : (r : TextSofar) (ps qs : List Piece) → read_all r (ps ++ qs) ≡ read_all (read_all r ps) qs
+  all_read : (r : ReadText) (ps qs : List Piece) → read_all r (ps ++ qs) ≡ read_all (read_all r ps) qs
   all_read r [] qs = refl
   all_read r (p ∷ ps) qs = all_read (read_on r p) ps qs
 
   -- a turn's lines move no place in the text
-  wrote : (r : TextSofar) (x : Head Run D) (a : Run) (t : ReactorTurn) (y : Head Run D) → Wrote reactor.stops (desk_out f o).writes (record { machine = a; outside = x.outside; stopped = x.stopped }) t.lines y → So r x.outside → So r y.outside
+  wrote : (r : ReadText) (x : Head Run D) (a : Run) (t : ReactorTurn) (y : Head Run D) → Wrote reactor.stops (desk_out f o).writes (record { machine = a; outside = x.outside; stopped = x.stopped }) t.lines y → So r x.outside → So r y.outside
   wrote r x a t y (_, inl w) h = still r x.outside y.outside t.lines w.0.0 w.0.1.0 h
   wrote r x a t y (_, inr w) h = still r x.outside y.outside t.lines w.0.0 w.0.1.0 h
 
-  ordered : (n k : ℕ) (r : TextSofar) (x : Head Run D) (t : ReactorTurn) (b : Head Run D) → Ordering reactor (desk_out f o) n k x t b → So r x.outside → So r b.outside
+  ordered : (n k : ℕ) (r : ReadText) (x : Head Run D) (t : ReactorTurn) (b : Head Run D) → Ordering reactor (desk_out f o) n k x t b → So r x.outside → So r b.outside
   ordered n k r x t b (_, inl l) h = wrote r x l.1.0 t b l.1.2 h
   ordered n k r x t b (_, inr l) h = let At : D → Type 0 = λ z. So r z in subst At (sym l.4) h
 
   -- the last piece of a run says that nothing comes
-  last_piece : (r : TextSofar) (x : D) (k i : ℕ) → So r x → So (read_on r (stop_piece k i)) x
+  last_piece : (r : ReadText) (x : D) (k i : ℕ) → So r x → So (read_on r (stop_piece k i)) x
   last_piece r x k i h = record { name_is = h.name_is; told = h.told; front = append-nil r.bytes ∙ h.front; whole = λ e. let g : false ≡ true = e in cc }
 
-  served : (k : ℕ) (end : Option Cause) (r : TextSofar) (x : Head Run D) (ps : List Piece) (y : Head Run D) (rest qs more : List Piece) → Served reactor (desk_out f o) k x end ps y → So r x.outside → ps ++ rest ≡ qs ++ more
+  served : (k : ℕ) (end : Option Cause) (r : ReadText) (x : Head Run D) (ps : List Piece) (y : Head Run D) (rest qs more : List Piece) → Served reactor (desk_out f o) k x end ps y → So r x.outside → ps ++ rest ≡ qs ++ more
       → Ends (read_all r qs) ⊎ Goes_on r ps y.outside rest qs more
   served k None r x ps y rest qs more g h e = many k 0 r x ps y rest qs more g h e
   served k (Some c) r x ps y rest qs more g h e = alone ps qs g.0.1 e
@@ -166,7 +166,7 @@ module _ {F S : Type 0} (f : Files F) (o : Sink S) (name bytes : List ℕ) where
             left = then;
           })
 
-  pub turns : (n k : ℕ) (r : TextSofar) (x : Head Run D) (rs : List ReactorTurn) (y : Head Run D) (qs more : List Piece) → Goes (ReactorStep reactor (desk_out f o) n) k x rs y → So r x.outside
+  pub turns : (n k : ℕ) (r : ReadText) (x : Head Run D) (rs : List ReactorTurn) (y : Head Run D) (qs more : List Piece) → Goes (ReactorStep reactor (desk_out f o) n) k x rs y → So r x.outside
       → gather (λ t. t.pieces) rs ≡ qs ++ more → Ends (read_all r qs)
   turns n k r x [] y [] more g h e = ends_of r x.outside h
   turns n k r x [] y (q ∷ qs) more g h e = absurd (let c : [] ≡ q ∷ (qs ++ more) = e in cc)
@@ -175,7 +175,7 @@ module _ {F S : Type 0} (f : Files F) (o : Sink S) (name bytes : List ℕ) where
       elim (served k t.end r step.0 t.pieces g.0 (gather (λ (z : ReactorTurn). z.pieces) rs) qs more step.2 (ordered n k r x t step.0 step.1 h) e) [
         | inl w ↦ w
         | inr w ↦
-            let At : TextSofar → Type 0 = λ z. Ends z in
+            let At : ReadText → Type 0 = λ z. Ends z in
             let From : List Piece → Type 0 = λ z. Ends (read_all r z) in
             subst From (sym w.cut) (subst At (sym (all_read r t.pieces w.later)) (turns n (k + 1) (read_all r t.pieces) g.0 rs y w.later more g.2 w.so w.left))
       ]
@@ -184,10 +184,10 @@ module _ {F S : Type 0} (f : Files F) (o : Sink S) (name bytes : List ℕ) where
   begins x n t at = record { name_is = n; told = t; front = ap (λ i. take i bytes) (sym at); whole = λ e. let g : false ≡ true = e in cc }
 
 -- what was read in some turns is what was read of their pieces
-pub read_in : (r : TextSofar) (ts : List MotionTurn) → read_by r ts ≡ read_all r (gather (λ t. t.pieces) ts)
+pub read_in : (r : ReadText) (ts : List MotionTurn) → read_by r ts ≡ read_all r (gather (λ t. t.pieces) ts)
 read_in r [] = refl
 read_in r (t ∷ ts) = read_in (read_all r t.pieces) ts ∙ sym (both r t.pieces (gather (λ (x : MotionTurn). x.pieces) ts))
   where
-    both : (r : TextSofar) (ps qs : List Piece) → read_all r (ps ++ qs) ≡ read_all (read_all r ps) qs
+    both : (r : ReadText) (ps qs : List Piece) → read_all r (ps ++ qs) ≡ read_all (read_all r ps) qs
     both r [] qs = refl
     both r (p ∷ ps) qs = both (read_on r p) ps qs
